@@ -1,0 +1,4 @@
+pub mod Fault
+pub mod Event
+pub mod File
+pub mod Format
