@@ -1,0 +1,114 @@
+-- The body of a rows event, version 2 (MySQL Internals manual, "Rows_event").
+use Rattle.std.specs.Prelude.{◌≡◌, ◌+◌, ◌-◌, ◌*◌, ◌%◌, ◌<◌, ℕ, zero, suc, ◌==◌, nat_le, if◌then◌else◌, Bool, true, ◌&&◌, List, [], ◌∷◌, ◌++◌, length, take, drop, map, reverse, Option, Some, None, Result, Ok, Err}
+use Rattle.std.specs.List.{list_all, concat, AllByRecursion}
+use Rattle.byteorder.specs.Endian.{little_number}
+use Rattle.blog_row.specs.declared.kind.RowsKind.{RowsKind}
+use Rattle.blog_row.specs.declared.kind.RowsKind.TheVariants.{Write, Update, Delete}
+use Rattle.blog_row.specs.declared.fault.RowFault.{RowFault}
+use Rattle.blog_row.specs.declared.fault.RowFault.TheVariants.{BadBody, PartialImage}
+use Rattle.blog_row.specs.RowsKind.{images_a_row}
+use Rattle.blog_row.specs.Checks.{◌>>=◌, check, or_bad, cut}
+use Rattle.blog_row.specs.Packed.{IsPacked, packed_front}
+use Rattle.blog_row.specs.Column.{Layout}
+use Rattle.blog_row.specs.Image.{bitmap_len, is_marked, IsSomeImage, images_of}
+
+-- ---- what a body is
+
+-- six bytes of id, two of flags, two of the extra length, the extra bytes, the packed column count, one bitmap for each
+-- image that a row has, and the images of all rows
+pub record RowsBody : Type 0 where
+  pub id : List ℕ
+  pub flags : List ℕ
+  pub extra_len : List ℕ
+  pub extra : List ℕ
+  pub count : List ℕ
+  pub bitmaps : List (List ℕ)
+  pub images : List (List ℕ)
+
+-- the fields, joined
+abbrev pub rows_text : RowsBody → List ℕ
+rows_text b = b.id ++ (b.flags ++ (b.extra_len ++ (b.extra ++ (b.count ++ (concat b.bitmaps ++ concat b.images)))))
+
+-- a bitmap of n columns whose first n bits are set
+pub record IsFullBitmap (n : ℕ) (bitmap : List ℕ) : Type 0 where
+  pub long : length bitmap ≡ bitmap_len n
+  pub full : (i : ℕ) → i < n → is_marked bitmap i ≡ true
+
+-- what the fields are: the extra length counts its own two bytes, and updates have an even number of images
+pub record IsRowsBody (kind : RowsKind) (layout : Layout) (body : List ℕ) (b : RowsBody) : Type 0 where
+  pub id_len : length b.id ≡ 6
+  pub flags_len : length b.flags ≡ 2
+  pub extra_len_len : length b.extra_len ≡ 2
+  pub extra_counted : little_number 2 b.extra_len ≡ length b.extra + 2
+  pub counted : IsPacked b.count (length layout)
+  pub bitmaps_enough : length b.bitmaps ≡ images_a_row kind
+  pub bitmaps_full : AllByRecursion (IsFullBitmap (length layout)) b.bitmaps
+  pub images_each : AllByRecursion (IsSomeImage layout) b.images
+  pub rows_whole : length b.images % images_a_row kind ≡ 0
+  pub text : body ≡ rows_text b
+
+-- ---- reading it
+
+-- the first n bits are set
+abbrev pub are_marked : ℕ → List ℕ → Bool
+are_marked zero bitmap = true
+are_marked (suc n) bitmap = is_marked bitmap n && are_marked n bitmap
+
+-- so many pieces of n bytes each, and the bytes behind them
+abbrev pub pieces : ℕ → ℕ → List ℕ → Result (List (List ℕ) × List ℕ) RowFault
+pieces zero n bytes = Ok ([], bytes)
+pieces (suc k) n bytes = do
+  (first, rest) ← or_bad (cut n bytes)
+  (others, rest) ← pieces k n rest
+  Ok (first ∷ others, rest)
+
+-- the fields of a rows event's body, or the first check that fails
+unfoldable pub rows_of : RowsKind → Layout → List ℕ → Result RowsBody RowFault
+rows_of kind layout body = do
+  (id, rest) ← or_bad (cut 6 body)
+  (flags, rest) ← or_bad (cut 2 rest)
+  (extra_len, rest) ← or_bad (cut 2 rest)
+  check (nat_le 2 (little_number 2 extra_len)) BadBody (do
+    (extra, rest) ← or_bad (cut (little_number 2 extra_len - 2) rest)
+    (n, count, rest) ← or_bad (packed_front rest)
+    check (n == length layout) BadBody (do
+      (bitmaps, rest) ← pieces (images_a_row kind) (bitmap_len (length layout)) rest
+      check (list_all (are_marked (length layout)) bitmaps) PartialImage (do
+        images ← or_bad (images_of layout rest)
+        check (length images % images_a_row kind == 0) BadBody
+          (Ok (record { id = id; flags = flags; extra_len = extra_len; extra = extra; count = count; bitmaps = bitmaps; images = images })))))
+
+-- ---- the fixed part of any rows body
+
+-- the ten bytes of id, flags and extra length
+abbrev pub fixed_len : ℕ
+fixed_len = 10
+
+-- the table id, six bytes of a table map and of a rows event alike
+abbrev pub table_id : List ℕ → List ℕ
+table_id body = take 6 body
+
+abbrev pub flags_of : List ℕ → ℕ
+flags_of body = little_number 2 (drop 6 body)
+
+-- flag 0x0001 marks the last rows event of a statement
+abbrev pub has_end_flag : List ℕ → Bool
+has_end_flag body = flags_of body % 2 == 1
+
+-- ---- rows
+
+-- a row's images, before and after
+pub record RowImages : Type 0 where
+  pub before : Option (List ℕ)
+  pub after : Option (List ℕ)
+
+-- each two images are one row
+abbrev pub updated_rows : List (List ℕ) → List RowImages
+updated_rows [] = []
+updated_rows (before ∷ []) = []
+updated_rows (before ∷ after ∷ images) = record { before = Some before; after = Some after } ∷ updated_rows images
+
+abbrev pub rows_by : RowsKind → List (List ℕ) → List RowImages
+rows_by Write images = map (λ image. record { before = None; after = Some image }) images
+rows_by Update images = updated_rows images
+rows_by Delete images = map (λ image. record { before = Some image; after = None }) images
