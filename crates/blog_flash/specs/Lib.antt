@@ -1,0 +1,6 @@
+pub mod States
+pub mod Texts
+pub mod Reversal
+pub mod Printed
+pub mod Theorems
+pub mod Outputs
