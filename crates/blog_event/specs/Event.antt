@@ -1,5 +1,5 @@
 -- An event and its bytes (MySQL Internals manual, "Binary Log Event Header"; all numbers are little-endian).
-use Rattle.std.specs.Prelude.{◌≡◌, ℕ, ◌+◌, ◌-◌, ◌<◌, ◌^◌, ◌&&◌, if◌then◌else◌, List, ◌∷◌, ◌++◌, length, take, drop, slice_index, nat_le, Option, Some, None}
+use Rattle.std.specs.Prelude.{ℕ, ◌+◌, ◌-◌, ◌<◌, ◌^◌, ◌&&◌, if◌then◌else◌, List, ◌∷◌, ◌++◌, length, take, drop, slice_index, nat_le, Option, Some, None}
 use Rattle.byteorder.specs.Endian.{little_bytes, little_number}
 use Rattle.blog_event.specs.declared.event.Event as told
 

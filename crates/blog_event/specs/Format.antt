@@ -1,7 +1,7 @@
 -- The format description event, the first of each file (MySQL Internals manual, "FORMAT_DESCRIPTION_EVENT").
 -- Body: binlog version, 2 bytes; server version, 50; creation time, 4; header length, 1; the post-header length of
 -- each event type from 1 on, 1 each; checksum algorithm, 1; checksum, 4.
-use Rattle.std.specs.Prelude.{ℕ, ◌+◌, ◌-◌, ◌*◌, ◌==◌, ◌&&◌, ◌||◌, nat_lt, nat_le, not, Bool, true, false, if◌then◌else◌, List, [], ◌∷◌, length, take, drop, fold, slice_index, Option, Some, None}
+use Rattle.std.specs.Prelude.{ℕ, ◌+◌, ◌-◌, ◌*◌, ◌==◌, ◌&&◌, ◌||◌, nat_lt, nat_le, not, Bool, false, if◌then◌else◌, List, [], ◌∷◌, length, take, drop, fold, slice_index, Option, Some, None}
 use Rattle.std.specs.Char.{is_ascii_digit}
 use Rattle.std.specs.List.{list_all}
 use Rattle.byteorder.specs.Endian.{little_number}
@@ -91,7 +91,7 @@ checked_lengths = (2, 13) ∷ (19, 8) ∷ (30, 10) ∷ (31, 10) ∷ (32, 10) ∷
 -- the first check of the event at 4 that fails
 unfoldable pub format_fault : Event → Option Cause
 format_fault e = first_failing (
-      needs (e.kind == 15) BadFormat
+    needs (e.kind == 15) BadFormat
     ∷ needs (nat_le 57 (length e.body)) BadFormat
     ∷ needs (binlog_version e.body == 4 && header_length e.body == 19) BadFormat
     ∷ needs (is_served (version_of (version_text e.body))) OldServer

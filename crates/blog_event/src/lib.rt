@@ -3,6 +3,8 @@
 
 mod event;
 mod fault;
+mod laws;
 
 pub use event::{Event, Header};
 pub use fault::Fault;
+pub use laws::read_list_is_longest;

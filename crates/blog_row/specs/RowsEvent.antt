@@ -76,7 +76,7 @@ rows_of kind layout body = do
       check (list_all (are_marked (length layout)) bitmaps) PartialImage (do
         images ← or_bad (images_of layout rest)
         check (length images % images_a_row kind == 0) BadBody
-          (Ok (record { id = id; flags = flags; extra_len = extra_len; extra = extra; count = count; bitmaps = bitmaps; images = images })))))
+            (Ok (record { id = id; flags = flags; extra_len = extra_len; extra = extra; count = count; bitmaps = bitmaps; images = images })))))
 
 -- ---- the fixed part of any rows body
 

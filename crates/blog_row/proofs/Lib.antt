@@ -1,0 +1,3 @@
+pub mod Cutting
+pub mod PackedLemmas
+pub mod Images
