@@ -1,2 +1,4 @@
 pub mod Formed
 pub mod Standing
+pub mod Undoing
+pub mod Reversing

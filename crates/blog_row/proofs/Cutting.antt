@@ -1,5 +1,5 @@
 -- What a cut of the first bytes gives, and what is known where an option is Some.
-use Rattle.std.proofs.Common.{◌≡◌, ℕ, ◌+◌, Bool, true, false, cond, leb, List, ◌++◌, length, take, drop, Option, Some, None, option_and_then, option_map, refl, ap, ◌∙◌, arith, length-append, leb-true, le-leb, take-append-drop, length-take-le, take_at, drop_at}
+use Rattle.std.proofs.Common.{◌≡◌, ℕ, Bool, true, false, cond, leb, List, ◌++◌, length, take, drop, Option, Some, None, option_and_then, option_map, refl, ap, ◌∙◌, arith, length-append, leb-true, le-leb, take-append-drop, length-take-le, take_at, drop_at}
 use Rattle.std.proofs.lemmas.Option.{some_pair_parts}
 use Rattle.blog_row.specs.Checks.{cut}
 

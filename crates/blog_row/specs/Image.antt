@@ -1,7 +1,7 @@
 -- Rows and their images: null bits, and the values that are not NULL (MySQL Internals manual, "Rows_event").
 use Rattle.std.specs.Prelude.{◌≡◌, ◌+◌, ◌-◌, ◌/◌, ◌%◌, ◌^◌, ◌<◌, ℕ, zero, suc, List, [], ◌∷◌, ◌++◌, length, take, Option, Some, None, slice_index, slice_index_or, slice_get, is_none, ◌==◌, Bool, if◌then◌else◌, option_map, option_and_then, unwrap_or}
 use Rattle.blog_row.specs.Checks.{cut}
-use Rattle.blog_row.specs.Column.{Column, Layout, Spells, value_front}
+use Rattle.blog_row.specs.Column.{Layout, Spells, value_front}
 
 -- a value for each column, None where it is NULL
 abbrev pub Row : Type 0

@@ -1,8 +1,7 @@
 -- What reading gives is what the relations say, in both directions.
-use Rattle.std.specs.Prelude.{◌≡◌, ◌↔◌, ◌<◌, ℕ, List, ◌++◌, length, Option, Some, Result, Ok}
+use Rattle.std.specs.Prelude.{◌≡◌, ◌↔◌, ℕ, List, ◌++◌, Some, Ok}
 use Rattle.std.specs.List.{concat, AllByRecursion}
 use Rattle.blog_row.specs.declared.kind.RowsKind.{RowsKind}
-use Rattle.blog_row.specs.declared.fault.RowFault.{RowFault}
 use Rattle.blog_row.specs.Packed.{IsPacked, packed_front}
 use Rattle.blog_row.specs.Column.{Column, Layout, Spells, value_front}
 use Rattle.blog_row.specs.Image.{Row, IsImage, IsSomeImage, image_front, images_of}

@@ -1,5 +1,5 @@
 -- The body of a rows event, version 2 (MySQL Internals manual, "Rows_event").
-use Rattle.std.specs.Prelude.{◌≡◌, ◌+◌, ◌-◌, ◌*◌, ◌%◌, ◌<◌, ℕ, zero, suc, ◌==◌, nat_le, if◌then◌else◌, Bool, true, ◌&&◌, List, [], ◌∷◌, ◌++◌, length, take, drop, map, reverse, Option, Some, None, Result, Ok, Err}
+use Rattle.std.specs.Prelude.{◌≡◌, ◌+◌, ◌-◌, ◌%◌, ◌<◌, ℕ, zero, suc, ◌==◌, nat_le, Bool, true, ◌&&◌, List, [], ◌∷◌, ◌++◌, length, take, drop, map, Option, Some, None, Result, Ok}
 use Rattle.std.specs.List.{list_all, concat, AllByRecursion}
 use Rattle.byteorder.specs.Endian.{little_number}
 use Rattle.blog_row.specs.declared.kind.RowsKind.{RowsKind}

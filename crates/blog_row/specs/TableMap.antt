@@ -1,11 +1,11 @@
 -- The body of a table map (MySQL Internals manual, "Table_map_event").
-use Rattle.std.specs.Prelude.{◌≡◌, ◌<◌, ◌≤◌, ◌+◌, ℕ, ◌==◌, nat_le, ◌&&◌, if◌then◌else◌, Bool, true, List, [], ◌∷◌, ◌++◌, length, drop, slice_index, Option, Some, None, is_some, Result, Ok, Err, option_and_then, option_map, bytes_eq}
+use Rattle.std.specs.Prelude.{◌≡◌, ◌<◌, ◌≤◌, ℕ, ◌==◌, nat_le, ◌&&◌, if◌then◌else◌, Bool, true, List, [], ◌∷◌, ◌++◌, length, slice_index, Option, Some, None, is_some, Result, Ok, option_and_then, option_map, bytes_eq}
 use Rattle.std.specs.List.{list_all}
 use Rattle.blog_row.specs.declared.fault.RowFault.{RowFault}
 use Rattle.blog_row.specs.declared.fault.RowFault.TheVariants.{BadBody, UnknownType}
 use Rattle.blog_row.specs.Checks.{◌>>=◌, check, or_bad, cut}
 use Rattle.blog_row.specs.Packed.{IsPacked, packed_front}
-use Rattle.blog_row.specs.Column.{Column, Layout, is_column, types_of, metadata_of, metadata_len_of, metadata_total, columns_of}
+use Rattle.blog_row.specs.Column.{Layout, is_column, types_of, metadata_of, metadata_len_of, metadata_total, columns_of}
 use Rattle.blog_row.specs.Image.{bitmap_len}
 
 -- ---- what a body is

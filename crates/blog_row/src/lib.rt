@@ -3,6 +3,8 @@
 
 mod fault;
 mod kind;
+mod laws;
 
 pub use fault::RowFault;
 pub use kind::RowsKind;
+pub use laws::reading_is_exact;
