@@ -1,5 +1,5 @@
 -- Groups that can be laid out: what holds of the groups of every accepted log, and of the reversed ones.
-use Rattle.std.proofs.Common.{◌≡◌, ℕ, ◌+◌, ◌%◌, ◌<◌, ◌^◌, List, [], ◌∷◌, length, find, Bool, true, false, ◌&&◌, bytes_eq, Option, Some, None, Result, Ok, Err, ◌⊎◌}
+use Rattle.std.proofs.Common.{◌≡◌, ℕ, ◌+◌, ◌%◌, ◌<◌, ◌^◌, List, [], ◌∷◌, length, find, Bool, true, false, ◌&&◌, bytes_eq, Option, Some, Ok, ◌⊎◌}
 use Rattle.std.specs.List.{AllByRecursion, list_any}
 use Rattle.blog_event.specs.Event.{Event, unplaced}
 use Rattle.blog_row.specs.declared.kind.RowsKind.{RowsKind}
@@ -8,8 +8,7 @@ use Rattle.blog_row.specs.Packed.{IsPacked}
 use Rattle.blog_row.specs.Column.{Layout}
 use Rattle.blog_row.specs.Image.{IsSomeImage}
 use Rattle.blog_row.specs.TableMap.{Names, names_of, layout_of, is_same_layout}
-use Rattle.blog_row.specs.RowsEvent.{RowsBody, IsFullBitmap, table_id}
-use Rattle.blog_trans.specs.declared.kind.EventKind.{EventKind}
+use Rattle.blog_row.specs.RowsEvent.{IsFullBitmap, table_id}
 use Rattle.blog_trans.specs.declared.kind.EventKind.TheVariants as kind
 use Rattle.blog_trans.specs.Kinds.{kind_of, is_map_kind}
 use Rattle.blog_trans.specs.Acceptance.{is_same_table}

@@ -2,3 +2,8 @@ pub mod Formed
 pub mod Standing
 pub mod Undoing
 pub mod Reversing
+pub mod Content
+pub mod Forming
+pub mod Passing
+pub mod Passed
+pub mod Regrouping

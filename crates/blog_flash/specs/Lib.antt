@@ -4,3 +4,4 @@ pub mod Reversal
 pub mod Printed
 pub mod Theorems
 pub mod Outputs
+pub mod Worked

@@ -5,7 +5,7 @@ use Rattle.std.specs.Fmt.{decimal}
 use Rattle.hex.specs.Hex.{encode_upper}
 use Rattle.blog_row.specs.Image.{Row}
 use Rattle.blog_row.specs.TableMap.{Table}
-use Rattle.blog_trans.specs.Groups.{Statement, Transaction}
+use Rattle.blog_trans.specs.Groups.{Transaction}
 use Rattle.blog_trans.specs.Changes.{Change, Inserted, Deleted, Updated, changes_of_transaction, TableCount, counts_of}
 
 abbrev pub line : List ℕ → List ℕ

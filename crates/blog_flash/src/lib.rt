@@ -2,7 +2,12 @@
 #![tactic(auto)]
 
 mod modes;
+mod worked_logs;
 
 pub use blog_event::Fault;
 pub use blog_trans::Selection;
 pub use modes::Mode;
+pub use worked_logs::{
+    worked_event_faults, worked_file_faults, worked_normal_forms, worked_outputs, worked_printed,
+    worked_selections,
+};

@@ -5,3 +5,5 @@ pub mod Images
 pub mod NameLemmas
 pub mod Layouts
 pub mod Bodies
+pub mod PackedCode
+pub mod NamesCode

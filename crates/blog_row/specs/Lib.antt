@@ -6,3 +6,5 @@ pub mod Image
 pub mod TableMap
 pub mod RowsEvent
 pub mod Laws
+pub mod PackedView
+pub mod NamesView

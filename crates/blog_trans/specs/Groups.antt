@@ -1,6 +1,6 @@
 -- The groups of a log under a selection: transactions of statements of table maps and rows events. First as they stand
 -- in the log, each event with its place; then as values, without what the text of the groups doesn't copy.
-use Rattle.std.specs.Prelude.{ℕ, ◌-◌, ◌%◌, Bool, ◌&&◌, not, if◌then◌else◌, List, [], ◌∷◌, map, filter, find, Option, Some, None, Result, Ok, Err, option_and_then, option_map, bytes_eq}
+use Rattle.std.specs.Prelude.{ℕ, ◌-◌, ◌%◌, ◌&&◌, not, if◌then◌else◌, List, [], ◌∷◌, map, filter, find, Option, Some, None, Result, Ok, Err, option_and_then, option_map, bytes_eq}
 use Rattle.std.specs.List.{list_any, filter_map}
 use Rattle.blog_event.specs.Event.{Event, unplaced}
 use Rattle.blog_event.specs.File.{Placed, placed_from, read}

@@ -1,6 +1,6 @@
 -- Where an event stands, found by looking back. In all of this file `earlier` has the events of the range before one,
 -- the latest first.
-use Rattle.std.specs.Prelude.{ℕ, Bool, true, false, ◌&&◌, ◌||◌, not, if◌then◌else◌, List, [], ◌∷◌, find, Option, Some, None, is_some, bytes_eq}
+use Rattle.std.specs.Prelude.{ℕ, Bool, true, false, ◌&&◌, ◌||◌, not, List, [], ◌∷◌, find, Option, Some, None, is_some, bytes_eq}
 use Rattle.std.specs.Option.{option_map_or}
 use Rattle.blog_event.specs.File.{Placed}
 use Rattle.blog_event.specs.Format.{front_while}
