@@ -4,6 +4,9 @@ pub mod Undoing
 pub mod Reversing
 pub mod Content
 pub mod Forming
-pub mod Passing
 pub mod Passed
+pub mod Passing
+pub mod Spans
 pub mod Regrouping
+pub mod Sizes
+pub mod Totals

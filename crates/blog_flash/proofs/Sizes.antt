@@ -1,0 +1,180 @@
+-- How long the events of groups are together, as they are written: reversing groups changes nothing of it.
+use Rattle.std.proofs.Common.{◌≡◌, ℕ, ◌+◌, ◌≤◌, Bool, true, false, List, [], ◌∷◌, ◌++◌, length, map, reverse, filter, Option, Some, None, refl, sym, ap, ap₂, ◌∙◌, arith, length-append}
+use Rattle.std.specs.Prelude.{if◌then◌else◌}
+use Rattle.std.specs.List.{cons_option, filter_map, flat_map, concat}
+use Rattle.byteorder.specs.Endian.{little_bytes}
+use Rattle.byteorder.specs.Numbers.{length-bytes_low_first}
+use Rattle.blog_event.specs.Event.{Event, event_size}
+use Rattle.blog_event.specs.File.{end_of}
+use Rattle.blog_event.proofs.Framing.{texts-length}
+use Rattle.blog_trans.specs.Groups.{RowsEvent, Statement, Transaction}
+use Rattle.blog_flash.specs.Reversal.{reversed_rows, reversed_statement, reversed_transaction, reversed}
+use Rattle.blog_flash.specs.Texts.{rows_event, rows_events, statement_events, transaction_events, group_events, with_log_pos, laid_out}
+use Rattle.blog_flash.proofs.Reversing.{reverse-cons}
+
+-- ---- sums
+
+-- the sum of a number of each element
+abbrev pub sum_of : {A : Type 0} → (A → ℕ) → List A → ℕ
+sum_of f [] = 0
+sum_of f (x ∷ xs) = f x + sum_of f xs
+
+-- of two lists
+pub sum-append : {A : Type 0} (f : A → ℕ) (xs ys : List A) → sum_of f (xs ++ ys) ≡ sum_of f xs + sum_of f ys
+sum-append f [] ys = omega arith
+sum-append f (x ∷ xs) ys = let others = sum-append f xs ys in omega arith
+
+-- of the elements that a map gives
+pub sum-map : {A B : Type 0} (f : B → ℕ) (g : A → B) (xs : List A) → sum_of f (map g xs) ≡ sum_of (λ x. f (g x)) xs
+sum-map f g [] = refl
+sum-map f g (x ∷ xs) = ap (λ (n : ℕ). f (g x) + n) (sum-map f g xs)
+
+-- of lists that are joined, by the sum of each
+pub sum-joined : {A B : Type 0} (f : B → ℕ) (g : A → List B) (h : A → ℕ) → ((x : A) → sum_of f (g x) ≡ h x) → (xs : List A) → sum_of f (flat_map g xs) ≡ sum_of h xs
+sum-joined f g h each [] = refl
+sum-joined f g h each (x ∷ xs) = sum-append f (g x) (flat_map g xs) ∙ ap₂ ◌+◌ (each x) (sum-joined f g h each xs)
+
+-- of elements that are changed without a change of their numbers, in reverse order
+pub sum-turned : {A : Type 0} (f : A → ℕ) (g : A → A) → ((x : A) → f (g x) ≡ f x) → (xs : List A) → sum_of f (reverse (map g xs)) ≡ sum_of f xs
+sum-turned f g same [] = refl
+sum-turned f g same (x ∷ xs) =
+    let joined = ap (sum_of f) (reverse-cons (g x) (map g xs)) ∙ sum-append f (reverse (map g xs)) (g x ∷ []) in
+    let others = sum-turned f g same xs in
+    let own = same x in
+    omega arith
+
+-- of the elements in reverse order
+pub sum-reverse : {A : Type 0} (f : A → ℕ) (xs : List A) → sum_of f (reverse xs) ≡ sum_of f xs
+sum-reverse f [] = refl
+sum-reverse f (x ∷ xs) =
+    let joined = ap (sum_of f) (reverse-cons x xs) ∙ sum-append f (reverse xs) (x ∷ []) in
+    let others = sum-reverse f xs in
+    omega arith
+
+-- a filter adds nothing
+pub sum-filter : {A : Type 0} (f : A → ℕ) (test : A → Bool) (xs : List A) → sum_of f (filter test xs) ≤ sum_of f xs
+sum-filter f test [] = omega arith
+sum-filter f test (x ∷ xs) = one (test x) (sum-filter f test xs)
+  where
+    one : (b : Bool) → sum_of f (filter test xs) ≤ sum_of f xs → sum_of f (if b then x ∷ filter test xs else filter test xs) ≤ f x + sum_of f xs
+    one true others = omega arith
+    one false others = omega arith
+
+-- nor do elements that are kept with no larger a number
+pub sum-kept : {A B : Type 0} (f : A → ℕ) (g : B → ℕ) (keep : A → Option B) → ((x : A) (y : B) → keep x ≡ Some y → g y ≤ f x) → (xs : List A) → sum_of g (filter_map keep xs) ≤ sum_of f xs
+sum-kept f g keep fits [] = omega arith
+sum-kept {B = B} f g keep fits (x ∷ xs) = one (keep x) (fits x) (sum-kept f g keep fits xs)
+  where
+    one : (o : Option B) → ((y : B) → o ≡ Some y → g y ≤ f x) → sum_of g (filter_map keep xs) ≤ sum_of f xs → sum_of g (cons_option o (filter_map keep xs)) ≤ f x + sum_of f xs
+    one None own others = omega arith
+    one (Some y) own others = let fit = own y refl in omega arith
+
+-- the length of lists of bytes joined
+pub length-concat : (lists : List (List ℕ)) → length (concat lists) ≡ sum_of length lists
+length-concat [] = refl
+length-concat (x ∷ lists) = length-append x (concat lists) ∙ ap (λ (n : ℕ). length x + n) (length-concat lists)
+
+-- in reverse order they are as long
+pub length-concat-reverse : (lists : List (List ℕ)) → length (concat (reverse lists)) ≡ length (concat lists)
+length-concat-reverse lists = length-concat (reverse lists) ∙ sum-reverse length lists ∙ sym (length-concat lists)
+
+-- ---- events
+
+-- how long events are together
+abbrev pub total : List Event → ℕ
+total es = sum_of event_size es
+
+-- two lists of them
+pub total-append : (xs ys : List Event) → total (xs ++ ys) ≡ total xs + total ys
+total-append xs ys = sum-append event_size xs ys
+
+-- they end so far behind the position at which they begin
+pub end-total : (pos : ℕ) (es : List Event) → end_of pos es ≡ pos + total es
+end-total pos [] = omega arith
+end-total pos (e ∷ es) = let others = end-total (pos + event_size e) es in omega arith
+
+-- log_pos is a field of its own length
+pub total-placed : (pos : ℕ) (es : List Event) → total (with_log_pos pos es) ≡ total es
+total-placed pos [] = refl
+total-placed pos (e ∷ es) = ap (λ (n : ℕ). event_size e + n) (total-placed (pos + event_size e) es)
+
+-- ---- groups
+
+-- how long the event of a rows event is
+abbrev pub rows_size : RowsEvent → ℕ
+rows_size r = 19 + (length r.id + (4 + (length r.count + (length (concat r.bitmaps) + length (concat r.images)))))
+
+-- the events of a statement
+abbrev pub statement_size : Statement → ℕ
+statement_size s = total s.maps + sum_of rows_size s.rows
+
+-- those of a transaction
+abbrev pub transaction_size : Transaction → ℕ
+transaction_size t = event_size t.begin + (sum_of statement_size t.statements + event_size t.end)
+
+-- the end flag changes no length
+pub rows_event-size : (last : Bool) (r : RowsEvent) → event_size (rows_event last r) ≡ rows_size r
+unfolding rows_event
+rows_event-size last r =
+    let flags : List ℕ = little_bytes 2 (if last then r.flags + 1 else r.flags) in
+    let images : List ℕ = concat r.bitmaps ++ concat r.images in
+    let two : length flags ≡ 2 = length-bytes_low_first 0 2 (if last then r.flags + 1 else r.flags) in
+    let whole = length-append r.id (flags ++ (2 ∷ 0 ∷ (r.count ++ images))) in
+    let behind_id = length-append flags (2 ∷ 0 ∷ (r.count ++ images)) in
+    let behind_fixed = length-append r.count images in
+    let behind_count = length-append (concat r.bitmaps) (concat r.images) in
+    omega arith
+
+-- the rows events of a statement
+pub rows_events-total : (rows : List RowsEvent) → total (rows_events rows) ≡ sum_of rows_size rows
+rows_events-total [] = refl
+rows_events-total (r ∷ []) = ap (λ (n : ℕ). n + 0) (rows_event-size true r)
+rows_events-total (r ∷ s ∷ rows) = ap₂ ◌+◌ (rows_event-size false r) (rows_events-total (s ∷ rows))
+
+-- a statement
+pub statement-total : (s : Statement) → total (statement_events s) ≡ statement_size s
+statement-total s = total-append s.maps (rows_events s.rows) ∙ ap (λ (n : ℕ). total s.maps + n) (rows_events-total s.rows)
+
+-- a transaction
+pub transaction-total : (t : Transaction) → total (transaction_events t) ≡ transaction_size t
+transaction-total t =
+    let inside = sum-joined event_size statement_events statement_size statement-total t.statements in
+    let joined = total-append (flat_map statement_events t.statements) (t.end ∷ []) in
+    omega arith
+
+-- groups
+pub group-total : (ts : List Transaction) → total (group_events ts) ≡ sum_of transaction_size ts
+group-total ts = sum-joined event_size transaction_events transaction_size transaction-total ts
+
+-- ---- reversed groups
+
+-- a rows event
+rows-turned : (r : RowsEvent) → rows_size (reversed_rows r) ≡ rows_size r
+rows-turned r =
+    let bitmaps = length-concat-reverse r.bitmaps in
+    let images = length-concat-reverse r.images in
+    omega arith
+
+-- a statement
+statement-turned : (s : Statement) → statement_size (reversed_statement s) ≡ statement_size s
+statement-turned s = ap (λ (n : ℕ). total s.maps + n) (sum-turned rows_size reversed_rows rows-turned s.rows)
+
+-- a transaction
+transaction-turned : (t : Transaction) → transaction_size (reversed_transaction t) ≡ transaction_size t
+transaction-turned t = ap (λ (n : ℕ). event_size t.begin + (n + event_size t.end)) (sum-turned statement_size reversed_statement statement-turned t.statements)
+
+-- reversed groups are as long
+pub groups-turned : (ts : List Transaction) → total (group_events (reversed ts)) ≡ total (group_events ts)
+groups-turned ts = group-total (reversed ts) ∙ sum-turned transaction_size reversed_transaction transaction-turned ts ∙ sym (group-total ts)
+
+-- ---- the text of groups
+
+-- the magic number, the format description and the events of the groups
+pub laid-out-length : (format : Event) (ts : List Transaction) → length (laid_out format ts) ≡ 4 + event_size format + total (group_events ts)
+unfolding laid_out
+laid-out-length format ts =
+    let behind : List Event = with_log_pos (4 + event_size format) (group_events ts) in
+    let texts = texts-length 4 (format ∷ behind) in
+    let end = end-total 4 (format ∷ behind) in
+    let same = total-placed (4 + event_size format) (group_events ts) in
+    omega arith
