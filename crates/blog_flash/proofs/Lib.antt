@@ -10,3 +10,7 @@ pub mod Spans
 pub mod Regrouping
 pub mod Sizes
 pub mod Totals
+pub mod Agreeing
+pub mod Kept
+pub mod Sound
+pub mod Source

@@ -1,0 +1,142 @@
+-- The kept maps of an accepted log agree on layouts: of two maps of a table the later one was checked against the earlier.
+use Rattle.std.proofs.Common.{◌≡◌, ℕ, Bool, true, false, not, if◌then◌else◌, List, [], ◌∷◌, Option, Some, None, is_some, Ok, bytes_eq, ◌⊎◌, inl, inr, refl, sym, subst, ap, ◌∙◌}
+use Rattle.std.specs.List.{list_any}
+use Rattle.std.proofs.lemmas.Bool.{and_parts, and_from, or_parts, not-true, not-false, false≢true}
+use Rattle.std.proofs.lemmas.Slice.Eq.{bytes_eq-Decides}
+use Rattle.blog_event.specs.declared.fault.Fault.TheVariants.{OutOfPlace, MapClash, BadBody}
+use Rattle.blog_event.specs.Fault.{Cause, needs, first_failing}
+use Rattle.blog_event.specs.Event.{Event}
+use Rattle.blog_event.specs.File.{Placed, placed_from, read}
+use Rattle.blog_row.specs.Column.{Layout, types_of, metadata_of}
+use Rattle.blog_row.specs.TableMap.{Table, Names, names_of, layout_of, is_same_layout}
+use Rattle.blog_trans.specs.declared.kind.EventKind.{EventKind}
+use Rattle.blog_trans.specs.declared.kind.EventKind.TheVariants as kind
+use Rattle.blog_trans.specs.Selection.{Selection}
+use Rattle.blog_trans.specs.Kinds.{is_map_kind}
+use Rattle.blog_trans.specs.Places.{kind_at, is_map, place, is_inside, since}
+use Rattle.blog_trans.specs.Acceptance.{is_selected, is_same_table, clashes_by_id, clashes_by_layout, selected_map_checks, checks, event_fault, range, IsAccepted}
+use Rattle.blog_trans.specs.Groups.{event_value}
+use Rattle.blog_flash.proofs.Formed.{Agree}
+use Rattle.blog_flash.proofs.Passed.{PassBy, none_failing, accepted-passes}
+
+-- ---- what is asked of kept maps
+
+-- it is one of the events
+abbrev pub Among : Placed → List Placed → Type 0
+Among p [] = ⊥
+Among p (q ∷ qs) = (p ≡ q) ⊎ Among p qs
+
+-- the value of a map of these events whose table is selected
+pub record IsChosen (events : List Placed) (sel : Selection) (e : Event) : Type 0 where
+  pub at : Placed
+  pub among : Among at events
+  pub a_map : is_map at ≡ true
+  pub selected : is_selected sel at.event.body ≡ true
+  pub value : e ≡ event_value at
+
+-- the value of a map of a log's range whose table is selected
+abbrev pub Chosen : List ℕ → Selection → Event → Type 0
+Chosen bytes sel e = IsChosen (range sel (placed_from 4 (read bytes sel.stop))) sel e
+
+-- ---- checks
+
+-- a test that no element passes
+any-none : (test : Placed → Bool) (ps : List Placed) (p : Placed) → list_any test ps ≡ false → Among p ps → test p ≡ false
+any-none test [] p e among = absurd among
+any-none test (q ∷ qs) p e (inl same) = ap test same ∙ (or_parts (test q) (list_any test qs) e).0
+any-none test (q ∷ qs) p e (inr more) = any-none test qs p (or_parts (test q) (list_any test qs) e).1 more
+
+-- a check that passes has its test
+pub needed : (b : Bool) (cause : Cause) → needs b cause ≡ None → b ≡ true
+needed true cause e = refl
+needed false cause e = absurd (cc)
+
+-- a map's kind
+pub map-kind : (k : EventKind) → is_map_kind k ≡ true → k ≡ kind.TableMap
+map-kind kind.TableMap e = refl
+map-kind _ e = absurd (false≢true e)
+
+-- the checks of a map of a selected table
+map-checked : (sel : Selection) (earlier : List Placed) (p : Placed) → is_map p ≡ true → is_selected sel p.event.body ≡ true → event_fault sel earlier p ≡ None
+    → list_any (clashes_by_layout p) earlier ≡ false
+map-checked sel earlier p is chosen e =
+    let by_kind : first_failing (checks sel earlier p kind.TableMap) ≡ None = subst (λ (k : EventKind). first_failing (checks sel earlier p k) ≡ None) (map-kind (kind_at p) is) e in
+    let front : List (Option Cause) → List (Option Cause) =
+    λ others. needs (is_inside (place earlier)) OutOfPlace ∷ needs (is_some (names_of p.event.body)) BadBody ∷ needs (not (list_any (clashes_by_id p) (since earlier))) MapClash ∷ others in
+    let by_table : first_failing (front (selected_map_checks earlier p)) ≡ None =
+    subst (λ (b : Bool). first_failing (front (if b then selected_map_checks earlier p else [])) ≡ None) chosen by_kind in
+    let each = none_failing (front (selected_map_checks earlier p)) by_table in
+    not-true (list_any (clashes_by_layout p) earlier) (needed _ MapClash each.1.1.1.1.0)
+
+-- a map of a selected table doesn't clash with an earlier one
+abbrev pub IsChecked : Selection → Placed → Placed → Type 0
+IsChecked sel p other = is_map p ≡ true → is_selected sel p.event.body ≡ true → clashes_by_layout p other ≡ false
+
+-- each event was checked against those that stand before all of them
+checked-in : (sel : Selection) (earlier ps : List Placed) → PassBy sel earlier ps → (p other : Placed) → Among p ps → Among other earlier → IsChecked sel p other
+checked-in sel earlier [] pass p other among before = absurd among
+checked-in sel earlier (x ∷ ps) pass p other (inl same) before =
+    λ is chosen. any-none (clashes_by_layout p) earlier other (map-checked sel earlier p is chosen (subst (λ (q : Placed). event_fault sel earlier q ≡ None) (sym same) pass.0)) before
+checked-in sel earlier (x ∷ ps) pass p other (inr more) before = checked-in sel (x ∷ earlier) ps pass.1 p other more (inr before)
+
+-- of two events that pass the later one was checked against the earlier
+pub agree-in : (sel : Selection) (earlier ps : List Placed) → PassBy sel earlier ps → (p q : Placed) → Among p ps → Among q ps → (p ≡ q) ⊎ (IsChecked sel p q ⊎ IsChecked sel q p)
+agree-in sel earlier [] pass p q first second = absurd first
+agree-in sel earlier (x ∷ ps) pass p q (inl first) (inl second) = inl (first ∙ sym second)
+agree-in sel earlier (x ∷ ps) pass p q (inl first) (inr second) = inr (inr (checked-in sel (x ∷ earlier) ps pass.1 q p second (inl first)))
+agree-in sel earlier (x ∷ ps) pass p q (inr first) (inl second) = inr (inl (checked-in sel (x ∷ earlier) ps pass.1 p q first (inl second)))
+agree-in sel earlier (x ∷ ps) pass p q (inr first) (inr second) = agree-in sel (x ∷ earlier) ps pass.1 p q first second
+
+-- ---- the same table, the same layout
+
+-- the test of bytes in the other order
+bytes-turned : (xs ys : List ℕ) → bytes_eq xs ys ≡ true → bytes_eq ys xs ≡ true
+bytes-turned xs ys e = (bytes_eq-Decides ys xs).1 (sym ((bytes_eq-Decides xs ys).0 e))
+
+-- the test of tables in the other order
+table-turned : (t u : Table) → is_same_table t u ≡ true → is_same_table u t ≡ true
+table-turned t u e =
+    let parts = and_parts (bytes_eq t.schema u.schema) (bytes_eq t.name u.name) e in
+    and_from (bytes_eq u.schema t.schema) (bytes_eq u.name t.name) (bytes-turned t.schema u.schema parts.0) (bytes-turned t.name u.name parts.1)
+
+-- and of layouts
+layout-turned : (c d : Layout) → is_same_layout c d ≡ true → is_same_layout d c ≡ true
+layout-turned c d e =
+    let parts = and_parts (bytes_eq (types_of c) (types_of d)) (bytes_eq (metadata_of c) (metadata_of d)) e in
+    and_from (bytes_eq (types_of d) (types_of c)) (bytes_eq (metadata_of d) (metadata_of c)) (bytes-turned (types_of c) (types_of d) parts.0) (bytes-turned (metadata_of c) (metadata_of d) parts.1)
+
+-- a layout has its own columns
+layout-own : (c : Layout) → is_same_layout c c ≡ true
+layout-own c =
+    and_from (bytes_eq (types_of c) (types_of c)) (bytes_eq (metadata_of c) (metadata_of c)) ((bytes_eq-Decides (types_of c) (types_of c)).1 refl) ((bytes_eq-Decides (metadata_of c) (metadata_of c)).1 refl)
+
+-- maps of a table that don't clash have the same layout
+no-clash : (p other : Placed) (n o : Names) (c d : Layout) → is_map other ≡ true → names_of other.event.body ≡ Some n → names_of p.event.body ≡ Some o → is_same_table n.table o.table ≡ true
+    → layout_of other.event.body ≡ Ok c → layout_of p.event.body ≡ Ok d → clashes_by_layout p other ≡ false → is_same_layout c d ≡ true
+no-clash p other n o c d is names others same layout other_layout e = not-false (is_same_layout c d) (rw (is, names, others, same, layout, other_layout) at e)
+
+-- ---- agreement
+
+-- maps of a table that pass have the same layout
+placed-agree : (sel : Selection) (p q : Placed) → (p ≡ q) ⊎ (IsChecked sel p q ⊎ IsChecked sel q p) → is_map p ≡ true → is_selected sel p.event.body ≡ true
+    → is_map q ≡ true → is_selected sel q.event.body ≡ true → (n o : Names) → names_of p.event.body ≡ Some n → names_of q.event.body ≡ Some o → is_same_table n.table o.table ≡ true
+    → (c d : Layout) → layout_of p.event.body ≡ Ok c → layout_of q.event.body ≡ Ok d → is_same_layout c d ≡ true
+placed-agree sel p q (inl same) p_map p_chosen q_map q_chosen n o p_names q_names table c d p_layout q_layout =
+    let body : p.event.body ≡ q.event.body = ap (λ (x : Placed). x.event.body) same in
+    let layout : c ≡ d = cc in
+    subst (λ (l : Layout). is_same_layout c l ≡ true) layout (layout-own c)
+placed-agree sel p q (inr (inl later)) p_map p_chosen q_map q_chosen n o p_names q_names table c d p_layout q_layout =
+    layout-turned d c (no-clash p q o n d c q_map q_names p_names (table-turned n.table o.table table) q_layout p_layout (later p_map p_chosen))
+placed-agree sel p q (inr (inr later)) p_map p_chosen q_map q_chosen n o p_names q_names table c d p_layout q_layout =
+    no-clash q p n o c d p_map p_names q_names table p_layout q_layout (later q_map q_chosen)
+
+-- the kept maps of an accepted log agree on layouts
+pub source-agree : (bytes : List ℕ) (sel : Selection) → IsAccepted bytes sel → Agree (Chosen bytes sel)
+source-agree bytes sel accepted a b a_known b_known n o a_names b_names table c d a_layout b_layout =
+    let p : Placed = a_known.at in
+    let q : Placed = b_known.at in
+    let a_body : a.body ≡ p.event.body = ap (λ (x : Event). x.body) a_known.value in
+    let b_body : b.body ≡ q.event.body = ap (λ (x : Event). x.body) b_known.value in
+    let pass = agree-in sel [] (range sel (placed_from 4 (read bytes sel.stop))) (accepted-passes bytes sel accepted) p q a_known.among b_known.among in
+    placed-agree sel p q pass a_known.a_map a_known.selected b_known.a_map b_known.selected n o
+    (sym (ap names_of a_body) ∙ a_names) (sym (ap names_of b_body) ∙ b_names) table c d (sym (ap layout_of a_body) ∙ a_layout) (sym (ap layout_of b_body) ∙ b_layout)
