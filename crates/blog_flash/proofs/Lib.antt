@@ -14,3 +14,6 @@ pub mod Agreeing
 pub mod Kept
 pub mod Sound
 pub mod Source
+pub mod Written
+pub mod Headline
+pub mod Stops
