@@ -8,3 +8,4 @@ pub mod RowsEvent
 pub mod Laws
 pub mod PackedView
 pub mod NamesView
+pub mod LayoutView
