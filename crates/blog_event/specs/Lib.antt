@@ -2,3 +2,5 @@ pub mod Fault
 pub mod Event
 pub mod File
 pub mod Format
+pub mod Reading
+pub mod Writing

@@ -4,7 +4,14 @@
 mod event;
 mod fault;
 mod laws;
+mod reading;
+mod writing;
 
 pub use event::{Event, Header};
 pub use fault::Fault;
 pub use laws::read_list_is_longest;
+pub use reading::{HEADER_LEN, event_at};
+pub use writing::{open_event, put_event};
+
+#[cfg(test)]
+mod tests;

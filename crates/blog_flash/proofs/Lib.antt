@@ -17,3 +17,4 @@ pub mod Source
 pub mod Written
 pub mod Headline
 pub mod Stops
+pub mod OneInsert

@@ -1,17 +1,15 @@
 -- The logs that are undone today: one inserting transaction of a table of one LONG column.
-use Rattle.std.specs.Prelude.{ℕ, ◌==◌, ◌&&◌, Bool, true, false, List, [], ◌∷◌, Option, Some, None, Result, Ok, Err}
-use Rattle.blog_event.specs.File.{Placed, placed_from, read}
+use Rattle.std.specs.Prelude.{◌==◌, ◌&&◌, Bool, true, false, List, [], ◌∷◌, Option, Some, None, Result, Ok, Err}
+use Rattle.blog_event.specs.File.{Placed}
 use Rattle.blog_row.specs.declared.fault.RowFault.{RowFault}
 use Rattle.blog_row.specs.declared.kind.RowsKind.{RowsKind}
 use Rattle.blog_row.specs.declared.kind.RowsKind.TheVariants.{Write, Update, Delete}
-use Rattle.blog_row.specs.Column.{Column, Layout}
+use Rattle.blog_row.specs.Column.{Layout}
 use Rattle.blog_row.specs.TableMap.{layout_of}
 use Rattle.blog_trans.specs.declared.kind.EventKind.{EventKind}
 use Rattle.blog_trans.specs.declared.kind.EventKind.TheVariants as kind
 use Rattle.blog_trans.specs.Kinds.{is_begin_kind, is_map_kind, rows_of_kind}
 use Rattle.blog_trans.specs.Places.{kind_at}
-use Rattle.blog_trans.specs.Selection.{Selection}
-use Rattle.blog_trans.specs.Acceptance.{range}
 
 -- MYSQL_TYPE_LONG, which has no metadata
 abbrev pub long_layout : Layout
