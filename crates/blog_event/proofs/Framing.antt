@@ -225,20 +225,20 @@ texts-length at (e ∷ es) =
     omega arith
 
 -- one more event that starts below the stop
-events-from-more : (n : ℕ) (stop : Option ℕ) (pos : ℕ) (bytes : List ℕ) (e : Event) → is_below pos stop ≡ true → event_at bytes ≡ Some e
+pub events-from-more : (n : ℕ) (stop : Option ℕ) (pos : ℕ) (bytes : List ℕ) (e : Event) → is_below pos stop ≡ true → event_at bytes ≡ Some e
     → events_from (suc n) stop pos bytes ≡ e ∷ events_from n stop (pos + event_size e) (drop (event_size e) bytes)
 unfolding events_from
 events-from-more n stop pos bytes e below at = rw (below, at) refl
 
 -- a list that is made only where a test holds and a value is there
-chosen-cases : {A B : Type 0} (test : Bool) (found : Option A) (f : A → List B)
+pub chosen-cases : {A B : Type 0} (test : Bool) (found : Option A) (f : A → List B)
     → ((if test then option_map_or f found [] else []) ≡ []) ⊎ ((x : A) × (test ≡ true) × (found ≡ Some x) × ((if test then option_map_or f found [] else []) ≡ f x))
 chosen-cases false found f = inl refl
 chosen-cases true None f = inl refl
 chosen-cases true (Some x) f = inr (x, refl, refl, refl)
 
 -- no events are read of no bytes
-events-from-nothing : (n : ℕ) (stop : Option ℕ) (pos : ℕ) → events_from n stop pos [] ≡ []
+pub events-from-nothing : (n : ℕ) (stop : Option ℕ) (pos : ℕ) → events_from n stop pos [] ≡ []
 unfolding events_from event_at
 events-from-nothing zero stop pos = refl
 events-from-nothing (suc n) stop pos =
@@ -307,7 +307,7 @@ events-from-found (suc n) stop pos bytes are =
 -- ---- a file
 
 -- what is read of a file that has an event
-read-first : (bytes : List ℕ) (stop : Option ℕ) (e : Event) → take 4 bytes ≡ magic → event_at (drop 4 bytes) ≡ Some e
+pub read-first : (bytes : List ℕ) (stop : Option ℕ) (e : Event) → take 4 bytes ≡ magic → event_at (drop 4 bytes) ≡ Some e
     → read bytes stop ≡ e ∷ events_from (length bytes) stop (4 + event_size e) (drop (event_size e) (drop 4 bytes))
 unfolding read
 read-first bytes stop e mark found =

@@ -4,3 +4,4 @@ pub mod File
 pub mod Format
 pub mod Reading
 pub mod Writing
+pub mod Versions

@@ -1,5 +1,7 @@
 //! The kinds of rows events.
 
+use blog_event::constants::{DELETE_ROWS_EVENT, UPDATE_ROWS_EVENT, WRITE_ROWS_EVENT};
+
 /// What a rows event does to its rows (MySQL Internals manual, "Rows_event").
 #[derive(Clone, Copy, Debug, PartialEq, Eq)]
 pub enum RowsKind {
@@ -9,4 +11,32 @@ pub enum RowsKind {
     Update,
     /// Rows are deleted: one image a row.
     Delete,
+}
+
+impl RowsKind {
+    ghost use Rattle.std.specs.Prelude.{◌≡◌};
+    ghost use Rattle.blog_row.specs.RowsKind.{rows_kind_of, number_of_kind};
+
+    /// The kind of an event type, where that is a type of rows events.
+    pub fn of_type(number: u8) -> Option<RowsKind>
+        ensures { result ≡ rows_kind_of number }
+    {
+        match number {
+            WRITE_ROWS_EVENT => Some(RowsKind::Write),
+            UPDATE_ROWS_EVENT => Some(RowsKind::Update),
+            DELETE_ROWS_EVENT => Some(RowsKind::Delete),
+            _ => None,
+        }
+    }
+
+    /// The event type of the kind.
+    pub fn number(self) -> u8
+        ensures { result ≡ number_of_kind self }
+    {
+        match self {
+            RowsKind::Write => WRITE_ROWS_EVENT,
+            RowsKind::Update => UPDATE_ROWS_EVENT,
+            RowsKind::Delete => DELETE_ROWS_EVENT,
+        }
+    }
 }

@@ -5,6 +5,6 @@ mod kind;
 mod place;
 mod selection;
 
-pub use kind::EventKind;
+pub use kind::{EventKind, event_kind};
 pub use place::Place;
 pub use selection::Selection;
