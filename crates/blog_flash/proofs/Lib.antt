@@ -18,3 +18,11 @@ pub mod Written
 pub mod Headline
 pub mod Stops
 pub mod OneInsert
+pub mod LongFields
+pub mod LongRows
+pub mod LongImages
+pub mod Refusing
+pub mod Answering
+pub mod FiveReading
+pub mod OneShape
+pub mod OneWriting

@@ -205,19 +205,19 @@ one-text bytes f b m r x fields h = ap (λ es. laid_out_after es (reversed (grou
 -- ---- what is known of an accepted log of the shape
 
 -- two tests that pass
-both : (a b : Bool) → (a && b) ≡ true → (a ≡ true) × (b ≡ true)
+pub both : (a b : Bool) → (a && b) ≡ true → (a ≡ true) × (b ≡ true)
 both true b h = (refl, h)
 both false b h = absurd (cc)
 
-begin-kind : (k : EventKind) → is_begin_kind k ≡ true → k ≡ kind.Begin
+pub begin-kind : (k : EventKind) → is_begin_kind k ≡ true → k ≡ kind.Begin
 begin-kind kind.Begin h = refl
 begin-kind _ h = absurd (cc)
 
-xid-kind : (k : EventKind) → is_xid_kind k ≡ true → k ≡ kind.Xid
+pub xid-kind : (k : EventKind) → is_xid_kind k ≡ true → k ≡ kind.Xid
 xid-kind kind.Xid h = refl
 xid-kind _ h = absurd (cc)
 
-write-kind : (k : EventKind) → is_write (rows_of_kind k) ≡ true → k ≡ kind.Rows Write
+pub write-kind : (k : EventKind) → is_write (rows_of_kind k) ≡ true → k ≡ kind.Rows Write
 write-kind (kind.Rows Write) h = refl
 write-kind _ h = absurd (cc)
 
@@ -231,7 +231,7 @@ long-column column known long =
     ap (λ kind. record { kind = kind; metadata = column.metadata }) long ∙ ap (λ metadata. record { kind = 3; metadata = metadata }) empty
 
 -- a layout of one LONG column
-long-layout : (body : List ℕ) → is_long (layout_of body) ≡ true → layout_of body ≡ Ok long_layout
+pub long-layout : (body : List ℕ) → is_long (layout_of body) ≡ true → layout_of body ≡ Ok long_layout
 unfolding layout_of
 long-layout body = by_names (names_of body)
   where

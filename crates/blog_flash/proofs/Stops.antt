@@ -185,6 +185,7 @@ flashback-stops bytes sel are accepted =
     let h = is-source bytes sel are accepted in
     record {
       source = accepted;
+      text = refl;
       transactions = ap length (flashback-groups (Chosen bytes sel) bytes sel h) ∙ reversed-length (groups bytes sel);
       stops = λ k fits. stops-at (Chosen bytes sel) bytes sel k h fits;
     }

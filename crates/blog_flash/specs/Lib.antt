@@ -4,5 +4,12 @@ pub mod Reversal
 pub mod Printed
 pub mod Theorems
 pub mod OneInsert
+pub mod LongColumn
+pub mod FiveEvents
+pub mod OneUndone
 pub mod Outputs
+pub mod Refusal
+pub mod Answers
+pub mod Watched
+pub mod Runs
 pub mod Worked

@@ -23,6 +23,11 @@ pub record Undoes (bytes : List ℕ) (sel : Selection) (written : List ℕ) : Ty
   pub accepted : IsAccepted written all
   pub again : changes (flashback_text written all) all ≡ changes bytes sel
 
+-- Flashback as an inverse on bytes: of the log that undoes it is the normal form, of the normal form it is that log.
+pub record IsInverse (bytes : List ℕ) (sel : Selection) (written : List ℕ) : Type 0 where
+  pub twice : flashback_text written all ≡ normal_text bytes sel
+  pub of_normal : flashback_text (normal_text bytes sel) all ≡ written
+
 -- The selection in normal form, and flashback as an inverse on bytes.
 pub record IsNormal (bytes : List ℕ) (sel : Selection) (normal : List ℕ) : Type 0 where
   pub source : IsAccepted bytes sel
@@ -58,7 +63,9 @@ pub record StopsAt (bytes : List ℕ) (sel : Selection) (written : List ℕ) (k 
   pub state : (before after : State) → apply_all (changes bytes sel) before ≡ Some after →
       (between : State) × (apply_all (changes (front_through k written) all) after ≡ Some between) × (apply_all (changes_of (but_last k (groups bytes sel))) before ≡ Some between)
 
+-- The written log, which undoes the selection, has as many transactions as the selection, and may be stopped behind each.
 pub record StopsAnywhere (bytes : List ℕ) (sel : Selection) (written : List ℕ) : Type 0 where
   pub source : IsAccepted bytes sel
+  pub text : written ≡ flashback_text bytes sel
   pub transactions : length (groups written all) ≡ length (groups bytes sel)
   pub stops : (k : ℕ) → k ≤ length (groups bytes sel) → StopsAt bytes sel written k
