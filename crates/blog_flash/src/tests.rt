@@ -3,17 +3,19 @@
 ghost use Rattle.std.specs.Prelude.{Some};
 
 use crate::runs::read_up_to;
-use crate::{Fault, Mode, RunFault, Selection, Watched, answer, prepare, put, run};
+use crate::{Fault, Mode, RunFault, Selection, Watched, answer, flashback, prepare, put, run};
+use logs::{DELETE_ONE_ROW, DELETES_THREE, INSERT_ONE_ROW, INSERTS_THREE, with_byte, with_rows};
 use std::io;
 use std::io::{Read, Write};
 use std::process::Abort;
 use std::test::Fail;
 
-// A log, and what it is answered with.
-// STAND-IN: of a log that is answered with its own bytes.
-const LOG: &[u8] = b"\xfebin a small log";
+mod logs;
 
-const OUTPUT: &[u8] = b"\xfebin a small log";
+// A log, and what it is answered with.
+const LOG: &[u8] = &INSERT_ONE_ROW;
+
+const OUTPUT: &[u8] = &DELETE_ONE_ROW;
 
 // What a device does at the call of its number, where calls count from 1.
 #[derive(Clone, Copy, PartialEq)]
@@ -283,4 +285,84 @@ fn prepares_what_the_log_is_answered_with(rt: HostRuntime) -> Result<(), Fail> {
     assert_eq!(rt; text.as_slice(), OUTPUT);
     assert!(rt; !reader.failed());
     Ok(())
+}
+
+#[test]
+fn logs_are_undone(rt: HostRuntime) -> Result<(), Fail> {
+    let sel = Selection::all();
+    let text = flashback(rt.alloc(), &INSERT_ONE_ROW, &sel)?;
+    assert_eq!(rt; text.as_slice(), DELETE_ONE_ROW.as_slice());
+
+    let log = with_rows(rt.alloc(), &INSERTS_THREE)?;
+    let undone = with_rows(rt.alloc(), &DELETES_THREE)?;
+    let text = flashback(rt.alloc(), &log, &sel)?;
+    assert_eq!(rt; text.as_slice(), undone.as_slice());
+    Ok(())
+}
+
+#[test]
+fn other_logs_are_refused(rt: HostRuntime) -> Result<(), Fail> {
+    let not_a_log = Fault::NotABinlog { pos: 0 };
+    let not_yet = Fault::UnknownEvent { pos: 4 };
+    let deleting = with_byte(rt.alloc(), 200, 0x20)?;
+    let unended = with_byte(rt.alloc(), 221, 0)?;
+    let unmapped = with_byte(rt.alloc(), 215, 2)?;
+    let other_type = with_byte(rt.alloc(), 193, 2)?;
+    let with_sums = with_byte(rt.alloc(), 115, 1)?;
+    let without_column = with_byte(rt.alloc(), 226, 0xFE)?;
+    let mut with_fifth = INSERT_ONE_ROW.to_vec(rt.alloc())?;
+    with_fifth.extend_from_slice(&[0, 0, 0, 0, 3, 1, 0, 0, 0, 19, 0, 0, 0, 22, 1, 0, 0, 0, 0])?;
+    for (log, fault) in [
+        (b"".as_slice(), not_a_log),
+        (b"\xfeb".as_slice(), not_a_log),
+        (b"\xfebi".as_slice(), not_a_log),
+        (b"\xfebin".as_slice(), not_yet),
+        (&INSERT_ONE_ROW[..258], not_yet),
+        (&INSERT_ONE_ROW[..120], not_yet),
+        (&deleting, not_yet),
+        (&unended, not_yet),
+        (&unmapped, not_yet),
+        (&other_type, not_yet),
+        (&with_sums, not_yet),
+        (&without_column, not_yet),
+        (&with_fifth, not_yet),
+    ] {
+        let mut reader = Watched::new(log);
+        let mut writer = SlowWriter::new(&rt, Failure::Never);
+        let ran = run(
+            rt.alloc(),
+            &mut reader,
+            Mode::Flashback,
+            &Selection::all(),
+            &mut writer,
+        );
+        assert_eq!(rt; ran, Err(RunFault::Log(fault)), "of {log:?}");
+        assert_eq!(rt; writer.device().calls, 0);
+    }
+    Ok(())
+}
+
+#[test]
+fn other_modes_and_selections_are_refused(rt: HostRuntime) {
+    let not_yet = Some(Fault::UnknownEvent { pos: 4 });
+    let all = Selection::all();
+    for mode in [
+        Mode::Forward,
+        Mode::FlashbackSql,
+        Mode::ForwardSql,
+        Mode::Summary,
+    ] {
+        assert_eq!(rt; answer(rt.alloc(), LOG, mode, &all).err(), not_yet);
+    }
+    let stopped = Selection {
+        stop: Some(300),
+        ..all
+    };
+    let named = Selection {
+        table: Some(b"t"),
+        ..all
+    };
+    for sel in [stopped, named] {
+        assert_eq!(rt; flashback(rt.alloc(), LOG, &sel).err(), not_yet);
+    }
 }

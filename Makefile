@@ -1,0 +1,37 @@
+# Rattle's toolchain has to be there: its command rt, in the PATH or named as in make RT=..
+
+RT = rt
+PREFIX = /usr/local
+DESTDIR =
+PROGRAM = bin/flashback
+LOG = examples/insert_one_row.binlog
+UNDO = bin/insert_one_row.undo
+
+# what the program is built from
+SOURCES := $(shell find crates -path '*/out' -prune -o -type f \
+	\( -name '*.rt' -o -name '*.antt' \) -print) crates.txt HANDLES
+
+.PHONY: all demo test install clean
+
+all: $(PROGRAM)
+
+# rt proves the program before it builds it, and then runs it: here for its help
+$(PROGRAM): $(SOURCES)
+	@mkdir -p $(@D)
+	@echo "Proving and building $@, some minutes the first time; the lines of rt go to $(@D)/build.txt"
+	@cd crates/flashback && $(RT) run -- --help > ../../$(@D)/build.txt 2>&1 \
+		|| { tail -n 20 ../../$(@D)/build.txt; exit 1; }
+	@cp crates/flashback/out/flashback $@
+
+demo: $(PROGRAM)
+	@sh examples/demo.sh $(PROGRAM) $(LOG) $(UNDO)
+
+test:
+	@$(RT) ci
+
+install: $(PROGRAM)
+	install -d $(DESTDIR)$(PREFIX)/bin
+	install -m 755 $(PROGRAM) $(DESTDIR)$(PREFIX)/bin/flashback
+
+clean:
+	rm -rf bin

@@ -1,0 +1,19 @@
+//! `flashback` undoes the changes of a MySQL binary log.
+#![tactic(auto)]
+
+mod commands;
+#[cfg(test)]
+mod tests;
+mod words;
+
+use blog_flash::Watched;
+use commands::command;
+use std::env;
+use std::process::ExitCode;
+
+fn main(rt: HostRuntime) -> ExitCode {
+    let words = env::args(&rt).and_then(|words| Ok(words.collect(rt.alloc())?));
+    let mut output = Watched::new(rt.stdout());
+    let mut errors = Watched::new(rt.stderr());
+    ExitCode::from(command(&rt, words, &mut output, &mut errors))
+}

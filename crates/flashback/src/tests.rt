@@ -1,0 +1,194 @@
+//! Runs of the program, over files in the folder for temporary files and writers in memory.
+
+mod logs;
+mod writers;
+
+use crate::commands::command;
+use blog_flash::Watched;
+use logs::{INSERT_ONE_ROW, with_byte};
+use std::alloc::AllocError;
+use std::path::PathBuf;
+use std::process::Abort;
+use std::test::Fail;
+use std::{env, fs, io, process};
+use writers::Broken;
+
+/// Where the rows event of `INSERT_ONE_ROW` has its type.
+const ROWS_TYPE: usize = 200;
+
+/// What a run answered, and what it wrote.
+#[derive(Drop)]
+struct Outcome {
+    status: u8,
+    output: Watched<Vec<u8>>,
+    errors: Watched<Vec<u8>>,
+}
+
+impl Outcome {
+    fn output(&self) -> &[u8] {
+        self.output.device().as_slice()
+    }
+
+    fn errors(&self) -> &[u8] {
+        self.errors.device().as_slice()
+    }
+
+    /// Whether the run ended with this status, wrote nothing else, and printed this line.
+    fn is_refusal(&self, status: u8, line: &str) -> bool {
+        self.status == status && self.output().is_empty() && self.errors() == line.as_bytes()
+    }
+}
+
+/// The words of a run, of which the first is the program's name.
+fn words_of(rt: &HostRuntime, words: &[&str]) -> Result<Vec<String>, AllocError> {
+    let mut all = Vec::new(rt.alloc());
+    all.push(String::from_str(rt.alloc(), "flashback")?)?;
+    for word in words {
+        all.push(String::from_str(rt.alloc(), word)?)?;
+    }
+    Ok(all)
+}
+
+fn run_given(rt: &HostRuntime, words: io::Result<Vec<String>>) -> Outcome {
+    let mut output = Watched::new(Vec::new(rt.alloc()));
+    let mut errors = Watched::new(Vec::new(rt.alloc()));
+    let status = command(rt, words, &mut output, &mut errors);
+    Outcome {
+        status,
+        output,
+        errors,
+    }
+}
+
+fn run_words(rt: &HostRuntime, words: &[&str]) -> Result<Outcome, AllocError> {
+    Ok(run_given(rt, Ok(words_of(rt, words)?)))
+}
+
+/// A path in the folder for temporary files that no other test has.
+fn path_of(rt: &HostRuntime, name: &str) -> io::Result<PathBuf> {
+    let id = process::id(rt.process());
+    let file = format!(in rt.alloc(); "flashback-{id}-{name}.binlog")?;
+    Ok(env::temp_dir(rt)?.join(rt.alloc(), file.as_str())?)
+}
+
+/// Runs the program with `-B` over a file of these bytes.
+fn undo(rt: &HostRuntime, name: &str, log: &[u8]) -> Result<Outcome, Fail> {
+    let path = path_of(rt, name)?;
+    fs::write(rt, path.as_path(), log)?;
+    let outcome = run_words(rt, &["-B", path.as_str()])?;
+    fs::remove_file(rt, path.as_path())?;
+    Ok(outcome)
+}
+
+/// Nothing but the words was wrong: some text was printed, and nothing was written.
+fn assert_wrong_words(rt: &impl Abort, outcome: &Outcome) {
+    assert_eq!(rt; outcome.status, 2);
+    assert!(rt; outcome.output().is_empty());
+    assert!(rt; !outcome.errors().is_empty());
+}
+
+#[test]
+fn undoes_an_insert(rt: HostRuntime) -> Result<(), Fail> {
+    let outcome = undo(&rt, "insert", INSERT_ONE_ROW.as_slice())?;
+    let wanted = with_byte(rt.alloc(), ROWS_TYPE, 0x20)?;
+    assert_eq!(rt; outcome.status, 0);
+    assert_eq!(rt; outcome.output(), wanted.as_slice());
+    assert!(rt; outcome.errors().is_empty());
+    Ok(())
+}
+
+#[test]
+fn refuses_logs(rt: HostRuntime) -> Result<(), Fail> {
+    let delete = with_byte(rt.alloc(), ROWS_TYPE, 0x20)?;
+    let cases = [
+        (&[] as &[u8], "flashback: NotABinlog at 0\n"),
+        (&[0xFE, 0x62, 0x69], "flashback: NotABinlog at 0\n"),
+        (delete.as_slice(), "flashback: UnknownEvent at 4\n"),
+    ];
+    for (log, line) in cases {
+        assert!(rt; undo(&rt, "refused", log)?.is_refusal(1, line), "{line}");
+    }
+    Ok(())
+}
+
+#[test]
+fn names_a_log_that_cannot_be_read(rt: HostRuntime) -> Result<(), Fail> {
+    let absent = path_of(&rt, "absent")?;
+    let outcome = run_words(&rt, &["-B", absent.as_str()])?;
+    assert!(rt; outcome.is_refusal(1, "flashback: cannot open the log\n"));
+    // a folder is opened as a file, and every read of it fails
+    let folder = env::temp_dir(&rt)?;
+    let outcome = run_words(&rt, &["--flashback", folder.as_str()])?;
+    assert!(rt; outcome.is_refusal(1, "flashback: read failed\n"));
+    Ok(())
+}
+
+#[test]
+fn wants_a_mode(rt: HostRuntime) -> Result<(), Fail> {
+    let outcome = run_words(&rt, &["a.binlog"])?;
+    assert!(rt; outcome.is_refusal(2, "flashback: choose one of -B, --forward, --summary\n"));
+    Ok(())
+}
+
+#[test]
+fn refuses_wrong_words(rt: HostRuntime) -> Result<(), Fail> {
+    assert_wrong_words(&rt, &run_words(&rt, &[])?);
+    assert_wrong_words(&rt, &run_words(&rt, &["-B"])?);
+    assert_wrong_words(&rt, &run_words(&rt, &["-B", "--no-such-word", "a.binlog"])?);
+    assert_wrong_words(&rt, &run_words(&rt, &["-B", "a.binlog", "b.binlog"])?);
+    assert_wrong_words(&rt, &run_words(&rt, &["-B", "-B", "a.binlog"])?);
+    // what a word may hold comes before the count of modes
+    let outcome = run_words(&rt, &["--no-such-word"])?;
+    assert!(rt; !outcome.is_refusal(2, "flashback: choose one of -B, --forward, --summary\n"));
+    Ok(())
+}
+
+#[test]
+fn refuses_words_that_the_system_does_not_give(rt: HostRuntime) {
+    let outcome = run_given(&rt, Err(io::Error::from(io::ErrorKind::InvalidData)));
+    assert!(rt; outcome.is_refusal(2, "flashback: the words are not UTF-8\n"));
+    let outcome = run_given(&rt, Err(io::Error::from(io::ErrorKind::OutOfMemory)));
+    assert!(rt; outcome.is_refusal(1, "flashback: OutOfMemory\n"));
+}
+
+#[test]
+fn helps(rt: HostRuntime) -> Result<(), Fail> {
+    let outcome = run_words(&rt, &["--help"])?;
+    assert_eq!(rt; outcome.status, 0);
+    assert!(rt; outcome.errors().is_empty());
+    let text = str::from_utf8(outcome.output())?;
+    assert!(rt; text.contains("Usage: flashback"));
+    assert!(rt; text.contains("-B, --flashback"));
+    assert!(rt; text.contains("Example:"));
+    Ok(())
+}
+
+#[test]
+fn a_failed_write_is_told(rt: HostRuntime) -> Result<(), Fail> {
+    let path = path_of(&rt, "unwritten")?;
+    fs::write(&rt, path.as_path(), INSERT_ONE_ROW.as_slice())?;
+    let mut errors = Watched::new(Vec::new(rt.alloc()));
+    for words in [["-B", path.as_str()], ["--help", "-B"]] {
+        let mut output = Watched::new(Broken::new());
+        let words = words_of(&rt, words.as_slice())?;
+        assert_eq!(rt; command(&rt, Ok(words), &mut output, &mut errors), 1);
+        assert_eq!(rt; output.device().writes(), 1);
+    }
+    fs::remove_file(&rt, path.as_path())?;
+    let lines = "flashback: write failed\nflashback: write failed\n";
+    assert_eq!(rt; errors.device().as_slice(), lines.as_bytes());
+    Ok(())
+}
+
+#[test]
+fn a_line_that_cannot_be_printed_is_dropped(rt: HostRuntime) -> Result<(), Fail> {
+    for (words, status) in [(["-B", ""], 1), (["-B", "--no-such-word"], 2)] {
+        let mut output = Watched::new(Vec::new(rt.alloc()));
+        let mut errors = Watched::new(Broken::new());
+        let words = words_of(&rt, words.as_slice())?;
+        assert_eq!(rt; command(&rt, Ok(words), &mut output, &mut errors), status);
+        assert!(rt; output.device().is_empty());
+        assert_eq!(rt; errors.device().writes(), 1);
+    }
+    Ok(())
+}
