@@ -11,6 +11,7 @@ use Rattle.blog_event.specs.Event.{Event}
 
 -- ---- the server version: three numbers joined by points, and anything after them
 
+-- major, minor and patch number
 pub record Version : Type 0 where
   pub major : ℕ
   pub minor : ℕ
@@ -56,6 +57,7 @@ is_older v w = nat_lt v.major w.major || (v.major == w.major && (nat_lt v.minor 
 
 -- ---- the fields of the body
 
+-- the first field
 abbrev pub binlog_version : List ℕ → ℕ
 binlog_version body = little_number 2 body
 
@@ -63,6 +65,7 @@ binlog_version body = little_number 2 body
 abbrev pub version_text : List ℕ → List ℕ
 version_text body = front_while (λ byte. not (byte == 0)) (take 50 (drop 2 body))
 
+-- the field behind the creation time
 abbrev pub header_length : List ℕ → ℕ
 header_length body = slice_index body 56
 
@@ -70,6 +73,7 @@ header_length body = slice_index body 56
 abbrev pub post_header_length : List ℕ → ℕ → ℕ
 post_header_length body kind = slice_index body (56 + kind)
 
+-- each of these types has this post-header length
 abbrev pub has_lengths : List (ℕ × ℕ) → List ℕ → Bool
 has_lengths lengths body = list_all (λ entry. post_header_length body entry.0 == entry.1) lengths
 

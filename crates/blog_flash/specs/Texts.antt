@@ -14,6 +14,7 @@ abbrev pub rows_body : Bool → RowsEvent → List ℕ
 rows_body last r =
     r.id ++ (little_bytes 2 (if last then r.flags + 1 else r.flags) ++ (2 ∷ 0 ∷ (r.count ++ (concat r.bitmaps ++ concat r.images))))
 
+-- its header keeps timestamp, server id and flags
 unfoldable pub rows_event : Bool → RowsEvent → Event
 rows_event last r = record { timestamp = r.timestamp; kind = number_of_kind r.kind; server_id = r.server_id; log_pos = 0; flags = r.header_flags; body = rows_body last r }
 
@@ -40,6 +41,7 @@ with_log_pos pos (e ∷ es) = record e { log_pos = pos + event_size e } ∷ with
 unfoldable pub laid_out : Event → List Transaction → List ℕ
 laid_out format ts = file_text (format ∷ with_log_pos (4 + event_size format) (group_events ts))
 
+-- behind the first of these events
 abbrev pub laid_out_after : List Event → List Transaction → List ℕ
 laid_out_after [] ts = []
 laid_out_after (format ∷ events) ts = laid_out format ts

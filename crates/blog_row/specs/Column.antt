@@ -19,6 +19,7 @@ pub data Storage : Type 0 where
   Fixed : (width : ℕ) → Storage
   Counted : (prefix : ℕ) → Storage
 
+-- the number stands in the list
 abbrev pub is_one_of : List ℕ → ℕ → Bool
 is_one_of numbers n = list_any (λ m. n == m) numbers
 

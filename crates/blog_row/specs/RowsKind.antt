@@ -1,5 +1,5 @@
 -- The kinds of rows events: which type numbers they are, and how many images they have a row
--- (MySQL Internals manual, "Rows_event"). A further version of rows events is one more line here.
+-- (MySQL Internals manual, "Rows_event"). A further version of rows events is a line more in each of these.
 use Rattle.std.specs.Prelude.{ℕ, List, [], ◌∷◌, Option, find, option_map, ◌==◌}
 use Rattle.blog_row.specs.declared.kind.RowsKind.{RowsKind}
 use Rattle.blog_row.specs.declared.kind.RowsKind.TheVariants.{Write, Update, Delete}

@@ -22,7 +22,7 @@ pub record Names : Type 0 where
   pub table : Table
   pub rest : List ℕ
 
--- a name: its length in one byte, its bytes, and a zero byte
+-- a name of at most 255 bytes: its length in one byte, its bytes, and a zero byte
 abbrev pub name_text : List ℕ → List ℕ
 name_text name = length name ∷ (name ++ 0 ∷ [])
 

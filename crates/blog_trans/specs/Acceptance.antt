@@ -23,6 +23,7 @@ use Rattle.blog_trans.specs.Places.{kind_at, is_map, is_rows, place, is_inside, 
 
 -- ---- bodies
 
+-- the cause of the same name
 abbrev pub cause_of_row : RowFault → Cause
 cause_of_row row.PartialImage = PartialImage
 cause_of_row row.UnknownType = UnknownType
@@ -51,6 +52,7 @@ rows_by_map kind map body = rows_under kind (layout_of map) body
 abbrev pub clashes_by_id : Placed → Placed → Bool
 clashes_by_id p other = is_map_of (table_id p.event.body) other && not (bytes_eq other.event.body p.event.body)
 
+-- equal names
 abbrev pub is_same_table : Table → Table → Bool
 is_same_table t u = bytes_eq t.schema u.schema && bytes_eq t.name u.name
 
@@ -84,6 +86,7 @@ abbrev pub rows_check : Selection → RowsKind → List ℕ → Option Placed �
 rows_check sel rows body None = Some NoMap
 rows_check sel rows body (Some map) = if is_selected sel map.event.body then cause_of (rows_by_map rows map.event.body body) else None
 
+-- each kind's line of checks
 abbrev pub checks : Selection → List Placed → Placed → EventKind → List (Option Cause)
 checks sel earlier p kind.Begin = needs (not (is_inside (place earlier))) OutOfPlace ∷ []
 checks sel earlier p kind.Commit = end_checks earlier
@@ -108,6 +111,7 @@ checks sel earlier p kind.PartialRows = Some PartialImage ∷ []
 checks sel earlier p kind.Skippable = []
 checks sel earlier p kind.Unknown = Some UnknownEvent ∷ []
 
+-- the first check of an event that fails
 abbrev pub event_fault : Selection → List Placed → Placed → Option Cause
 event_fault sel earlier p = first_failing (checks sel earlier p (kind_at p))
 
@@ -117,6 +121,7 @@ event_fault sel earlier p = first_failing (checks sel earlier p (kind_at p))
 abbrev pub is_in_range : Selection → Placed → Bool
 is_in_range sel p = nat_lt 4 p.pos && nat_le sel.start p.pos
 
+-- the events of the range, in order
 abbrev pub range : Selection → List Placed → List Placed
 range sel events = filter (is_in_range sel) events
 
@@ -141,6 +146,7 @@ abbrev pub has_first : List Event → Bool
 has_first [] = false
 has_first (e ∷ es) = true
 
+-- the first check of the event at 4 that fails
 abbrev pub first_format_fault : List Event → Option Cause
 first_format_fault [] = None
 first_format_fault (e ∷ es) = format_fault e
@@ -166,5 +172,6 @@ lines bytes sel events =
 unfoldable pub fault : List ℕ → Selection → Option Fault
 fault bytes sel = first_failing (lines bytes sel (read bytes sel.stop))
 
+-- no fault is there
 abbrev pub IsAccepted : List ℕ → Selection → Type 0
 IsAccepted bytes sel = fault bytes sel ≡ None

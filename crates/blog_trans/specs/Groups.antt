@@ -23,10 +23,12 @@ pub record PlacedRows : Type 0 where
   pub kind : RowsKind
   pub body : RowsBody
 
+-- a statement: the maps that its kept rows events go by, and these
 pub record PlacedStatement : Type 0 where
   pub maps : List Placed
   pub rows : List PlacedRows
 
+-- a transaction: `BEGIN`, its kept statements, and `COMMIT` or Xid
 pub record PlacedTransaction : Type 0 where
   pub begin : Placed
   pub statements : List PlacedStatement
@@ -42,6 +44,7 @@ abbrev pub cons_if : {A : Type 0} → Option A → List A → List A
 cons_if None xs = xs
 cons_if (Some x) xs = x ∷ xs
 
+-- the transactions of events; a `BEGIN` without an end behind it begins none
 abbrev pub spans : List Placed → List Span
 spans [] = []
 spans (p ∷ ps) =
@@ -65,7 +68,8 @@ abbrev pub rows_by_kind : Placed → Placed → EventKind → Option PlacedRows
 rows_by_kind p map (kind.Rows rows) = rows_if p map rows (rows_by_map rows map.event.body p.event.body)
 rows_by_kind p map _ = None
 
--- a rows event of a statement is kept if its table is selected
+-- A rows event of a statement is kept if its table is selected. Its map is the statement's first of its id; in an accepted
+-- log that is the one by which the rows event was checked.
 abbrev pub kept_rows : Selection → List Placed → Placed → Option PlacedRows
 kept_rows sel statement p =
     option_and_then (λ map. if is_selected sel map.event.body then rows_by_kind p map (kind_at p) else None) (map_in statement (table_id p.event.body))
@@ -94,6 +98,7 @@ transaction_if span (s ∷ statements) = Some (record { begin = span.begin; stat
 abbrev pub kept_transaction : Selection → Span → Option PlacedTransaction
 kept_transaction sel span = transaction_if span (filter_map (kept_statement sel) (statements_of span.inside))
 
+-- the groups of events
 abbrev pub placed_groups_in : Selection → List Placed → List PlacedTransaction
 placed_groups_in sel events = filter_map (kept_transaction sel) (spans events)
 
@@ -117,10 +122,12 @@ pub record RowsEvent : Type 0 where
   pub bitmaps : List (List ℕ)
   pub images : List (List ℕ)
 
+-- the maps and rows events of a statement
 pub record Statement : Type 0 where
   pub maps : List Event
   pub rows : List RowsEvent
 
+-- `BEGIN`, the statements, and the end event
 pub record Transaction : Type 0 where
   pub begin : Event
   pub statements : List Statement

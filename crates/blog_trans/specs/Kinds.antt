@@ -2,9 +2,9 @@
 -- (MySQL Internals manual, "Event Classes and Types", "Query_event").
 use Rattle.std.specs.Prelude.{ℕ, ◌+◌, ◌/◌, ◌%◌, Bool, ◌&&◌, ◌||◌, true, false, if◌then◌else◌, List, [], ◌∷◌, length, take, drop, Option, Some, None, nat_lt, nat_le, ◌==◌, bytes_eq, slice_index, codes}
 use Rattle.std.specs.Option.{option_map_or}
-use Rattle.std.specs.List.{list_any}
 use Rattle.byteorder.specs.Endian.{little_number}
 use Rattle.blog_event.specs.Event.{Event}
+use Rattle.blog_row.specs.Column.{is_one_of}
 use Rattle.blog_row.specs.RowsKind.{rows_kind_of}
 use Rattle.blog_row.specs.declared.kind.RowsKind.{RowsKind}
 use Rattle.blog_trans.specs.declared.kind.EventKind.{EventKind}
@@ -15,9 +15,10 @@ use Rattle.blog_trans.specs.declared.kind.EventKind.TheVariants as kind
 -- the text of a query, if the body has its layout: 13 fixed bytes, status bytes, schema, a zero byte, the text
 unfoldable pub query_text : List ℕ → Option (List ℕ)
 query_text body =
-    let names = 13 + (little_number 2 (drop 11 body) + slice_index body 8) in
-    if nat_le 13 (length body) && (nat_lt names (length body) && slice_index body names == 0) then Some (drop (names + 1) body) else None
+    let zero_at = 13 + (little_number 2 (drop 11 body) + slice_index body 8) in
+    if nat_le 13 (length body) && (nat_lt zero_at (length body) && slice_index body zero_at == 0) then Some (drop (zero_at + 1) body) else None
 
+-- the text begins with the front
 abbrev pub begins_with : List ℕ → List ℕ → Bool
 begins_with front text = bytes_eq (take (length front) text) front
 
@@ -30,9 +31,6 @@ query_kind text =
 
 -- ---- events
 
-abbrev pub is_one_of : List ℕ → ℕ → Bool
-is_one_of numbers n = list_any (λ m. n == m) numbers
-
 -- header flag 0x0080: a reader that doesn't know the type may ignore the event
 abbrev pub may_be_ignored : ℕ → Bool
 may_be_ignored flags = (flags / 0x80) % 2 == 1
@@ -42,6 +40,9 @@ abbrev pub other_kind : ℕ → ℕ → EventKind
 other_kind number flags =
     if (is_one_of (0 ∷ 27 ∷ 28 ∷ 36 ∷ []) number || (nat_le 41 number && nat_le number 159)) && may_be_ignored flags then kind.Skippable else kind.Unknown
 
+-- the kinds by type: QUERY_EVENT; XID_EVENT; GTID_LOG_EVENT, ANONYMOUS_GTID_LOG_EVENT; STOP_EVENT, ROTATE_EVENT,
+-- PREVIOUS_GTIDS_LOG_EVENT; ROWS_QUERY_LOG_EVENT; the kinds of statement-based logging, and the old start event; a further
+-- FORMAT_DESCRIPTION_EVENT; TABLE_MAP_EVENT; PARTIAL_UPDATE_ROWS_EVENT; rows events; any other
 unfoldable pub kind_of : Event → EventKind
 kind_of e =
     if e.kind == 2 then option_map_or query_kind (query_text e.body) kind.BadQuery else
