@@ -81,7 +81,8 @@ fn put_parts<A: Allocator>(out: &mut Vec<u8, A>, parts: &[&[u8]])
 /// joined. The size of the event in bytes and `log_pos`, the position at which it ends, are computed; those of
 /// `header` are ignored.
 ///
-/// Fails with `OutOfMemory` if `out` can't grow, and then keeps its bytes; never if its capacity has room for the event.
+/// The new length is to be at most 4,294,967,295 bytes. Fails with `OutOfMemory` if `out` can't grow, and then keeps its
+/// bytes; never if its capacity has room for the event.
 pub fn put_event<A: Allocator>(
     out: &mut Vec<u8, A>,
     header: Header,

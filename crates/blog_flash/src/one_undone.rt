@@ -12,11 +12,9 @@ ghost use Rattle.blog_flash.specs.Texts.{with_log_pos};
 
 use crate::five_events::FiveEvents;
 use crate::long_column::LongRows;
+use blog_event::constants::DELETE_ROWS_EVENT;
 use blog_event::{Event, Header, put_event};
 use std::alloc::{AllocError, Allocator};
-
-/// DELETE_ROWS_EVENT.
-const DELETE_ROWS: u8 = 32;
 
 /// The length of the extra bytes of a rows event that has none: its own two bytes.
 const NO_EXTRA: [u8; 2] = [2, 0];
@@ -67,7 +65,7 @@ fn put_deleting<A: Allocator>(
 {
     let parts = deleting_parts(alloc, rows, images)?;
     let header = Header {
-        kind: DELETE_ROWS,
+        kind: DELETE_ROWS_EVENT,
         ..five.rows.header
     };
     put_event(out, header, &parts).map_err(|_| AllocError)

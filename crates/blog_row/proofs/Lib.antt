@@ -7,3 +7,7 @@ pub mod Layouts
 pub mod Bodies
 pub mod PackedCode
 pub mod NamesCode
+pub mod TypeBytes
+pub mod Walking
+pub mod LayoutCode
+pub mod TableMapCode

@@ -9,3 +9,9 @@ pub mod Laws
 pub mod PackedView
 pub mod NamesView
 pub mod LayoutView
+pub mod StorageView
+pub mod CutView
+pub mod ImageView
+pub mod ColumnStep
+pub mod LayoutReading
+pub mod TableMapView

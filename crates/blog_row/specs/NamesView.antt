@@ -4,10 +4,6 @@ use Rattle.std.specs.Borrow.{Bor}
 use Rattle.blog_row.specs.declared.names.Names as told
 use Rattle.blog_row.specs.TableMap.{Names}
 
--- a name, and the bytes behind it
-abbrev pub name_seen : Bor (List ℕ) × Bor (List ℕ) → List ℕ × List ℕ
-name_seen p = (p.0.now, p.1.now)
-
 -- the fields up to the names, without where they lie
 abbrev pub names_seen : told.Names → Names
 names_seen names = record { id = names.id.now; flags = names.flags.now; table = record { schema = names.schema.now; name = names.table.now }; rest = names.rest.now }

@@ -4,6 +4,13 @@ ghost use Rattle.std.specs.Prelude.{◌≡◌, ◌<◌, ◌≤◌, length, true}
 ghost use Rattle.std.specs.List.{list_all};
 ghost use Rattle.blog_row.specs.Column.{metadata_total, columns_of, is_column};
 
+use crate::fault::RowFault;
+use crate::image::image_at;
+use crate::layout_parts::{metadata_at, types_at};
+use crate::names::names_at;
+use crate::packed::packed_at;
+use crate::types::{are_columns, metadata_len_of_all};
+
 /// The columns of a table, 1 to 4,096 of them: the types and the metadata bytes of its table map
 /// (MySQL Internals manual, "Table_map_event").
 #[derive(Clone, Copy, Debug)]
@@ -17,12 +24,99 @@ pub struct Layout<'a> {
 }
 
 impl Layout<'_> {
+    ghost use Rattle.std.specs.Prelude.{ℕ, take, Some, IfSome};
+    ghost use Rattle.blog_row.specs.Image.{IsSomeImage, image_len_of, value_of};
+    ghost use Rattle.blog_row.specs.ImageView.{value_seen};
     ghost use Rattle.blog_row.specs.LayoutView.{layout_columns};
+    ghost use Rattle.blog_row.specs.TableMap.{is_same_layout};
 
     /// The number of columns.
     pub fn columns(&self) -> usize
         ensures { result ≡ length (layout_columns self.now) }
     {
         self.kinds.len()
+    }
+
+    /// Whether both have the same columns: equal types, and equal metadata.
+    pub fn same(&self, other: &Layout<'_>) -> bool
+        ensures { result ≡ is_same_layout (layout_columns self.now) (layout_columns other.now) }
+    {
+        self.kinds == other.kinds && self.metadata == other.metadata
+    }
+
+    /// How long the image is with which the bytes begin, in bytes; None where they begin with none.
+    pub fn image_len(&self, bytes: &[u8]) -> Option<usize>
+        ensures exact { result ≡ image_len_of (layout_columns self.now) bytes.now }
+        ensures found { IfSome result (λ m. (m ≤ length bytes.now) × IsSomeImage (layout_columns self.now) (take m bytes.now)) }
+        ensures only { (m : ℕ) → m ≤ length bytes.now → IsSomeImage (layout_columns self.now) (take m bytes.now) → result ≡ Some m }
+    {
+        // Any column will do: its value is not asked for.
+        let front = image_at(self.kinds, self.metadata, bytes, 0)?;
+        Some(bytes.len() - front.rest.len())
+    }
+
+    /// The value of a column, counted from 0, in the image with which the bytes begin: its bytes without their
+    /// length, or None in it where it is NULL. None where they begin with no image or it has no such column.
+    pub fn value<'b>(&self, image: &'b [u8], column: usize) -> Option<Option<&'b [u8]>>
+        ensures { value_seen result ≡ value_of (layout_columns self.now) image.now column }
+    {
+        image_at(self.kinds, self.metadata, image, column)?.value
+    }
+}
+
+impl<'a> Layout<'a> {
+    ghost use Rattle.std.specs.Prelude.{IsOk};
+    ghost use Rattle.blog_row.specs.LayoutView.{layout_columns};
+    ghost use Rattle.blog_row.specs.TableMap.{layout_of};
+    ghost use Rattle.blog_row.specs.LayoutReading.{layout_seen, layout_behind};
+
+    /// The layout behind the names of a table map, or the first check that fails
+    /// (MySQL Internals manual, "Table_map_event").
+    pub(crate) fn at(bytes: &'a [u8]) -> Result<Layout<'a>, RowFault>
+        ensures { layout_seen result ≡ layout_behind bytes.now }
+    {
+        let Some((kinds, behind)) = types_at(bytes) else {
+            return Err(RowFault::BadBody);
+        };
+        let Some(len) = metadata_len_of_all(kinds) else {
+            return Err(RowFault::UnknownType);
+        };
+        let Some((metadata, behind)) = metadata_at(len, behind) else {
+            return Err(RowFault::BadBody);
+        };
+        if !are_columns(kinds, metadata) {
+            return Err(RowFault::BadBody);
+        }
+        if behind.len() < kinds.len().div_ceil(8) {
+            return Err(RowFault::BadBody);
+        }
+        Ok(Layout { kinds, metadata })
+    }
+
+    /// The layout behind the names of a table map, where it is known that reading gives one.
+    fn known_at(bytes: &'a [u8]) -> Layout<'a>
+        requires { IsOk (layout_behind bytes.now) }
+        ensures { layout_behind bytes.now ≡ Ok (layout_columns result) }
+    {
+        let Some((kinds, behind)) = types_at(bytes) else {
+            unreachable!();
+        };
+        let Some(size) = packed_at(behind) else {
+            unreachable!();
+        };
+        let (metadata, _) = size.rest.split_at(size.value as usize);
+        Layout { kinds, metadata }
+    }
+
+    /// The layout of a table map's body, where it is known that reading gives one. The columns are not read again: it
+    /// takes as long for many as for few.
+    pub fn known(body: &'a [u8]) -> Layout<'a>
+        requires { IsOk (layout_of body.now) }
+        ensures { layout_of body.now ≡ Ok (layout_columns result) }
+    {
+        let Some(names) = names_at(body) else {
+            unreachable!();
+        };
+        Layout::known_at(names.rest)
     }
 }

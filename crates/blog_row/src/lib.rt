@@ -1,12 +1,18 @@
 //! Bodies of table maps and rows events, and the images of rows in them.
 #![tactic(auto)]
 
+mod column;
+mod constants;
 mod fault;
+mod image;
 mod kind;
 mod laws;
 mod layout;
+mod layout_parts;
 mod names;
 mod packed;
+mod table_map;
+mod types;
 
 pub use fault::RowFault;
 pub use kind::RowsKind;
@@ -14,3 +20,9 @@ pub use laws::reading_is_exact;
 pub use layout::Layout;
 pub use names::{Names, names_at};
 pub use packed::{Packed, packed_at};
+pub use table_map::TableMap;
+
+#[cfg(test)]
+mod image_tests;
+#[cfg(test)]
+mod tests;

@@ -2,7 +2,8 @@
 
 ghost use Rattle.std.specs.Prelude.{◌≡◌, ◌≤◌, ◌+◌, length, drop, option_map};
 ghost use Rattle.blog_row.specs.TableMap.{name_front, names_of};
-ghost use Rattle.blog_row.specs.NamesView.{name_seen, names_seen};
+ghost use Rattle.blog_row.specs.CutView.{cut_seen};
+ghost use Rattle.blog_row.specs.NamesView.{names_seen};
 
 /// The fields of a table map's body up to its names (MySQL Internals manual, "Table_map_event").
 #[derive(Clone, Copy, Debug)]
@@ -21,7 +22,7 @@ pub struct Names<'a> {
 
 /// The name at the front, behind its length of one byte and before a zero byte; and the bytes behind that.
 fn name_at(bytes: &[u8]) -> Option<(&[u8], &[u8])>
-    ensures { option_map name_seen result ≡ name_front bytes.now }
+    ensures { option_map cut_seen result ≡ name_front bytes.now }
 {
     if bytes.is_empty() {
         return None;

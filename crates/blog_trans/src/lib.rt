@@ -1,4 +1,4 @@
-//! The transactions of a log under a selection, or the log's first fault.
+//! Kinds of events, places and selections: what the transactions of a log are told by, and its first fault.
 #![tactic(auto)]
 
 mod kind;

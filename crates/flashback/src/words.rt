@@ -9,7 +9,9 @@ use std::io;
 const ABOUT: &str = "\
 Undoes the changes of a MySQL binary log: writes another binary log to standard output,
 which takes the changes of LOG back, the last one first.
-LOG has rows with full images and no checksums. A log that can't be undone whole is refused.";
+LOG has rows with full images and no checksums. A log that can't be undone whole is refused.
+Today only a log of one transaction is undone that inserts rows into a table of one INT column;
+any other log is refused with UnknownEvent at 4.";
 
 const USAGE: &str = "flashback -B <LOG>";
 

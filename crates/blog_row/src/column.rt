@@ -1,0 +1,239 @@
+//! How the value of a column is stored.
+
+ghost use Rattle.std.specs.Prelude.{◌≡◌, ◌+◌, ◌/◌, ◌-◌, ◌≤◌, ◌==◌, nat_le, [], ◌∷◌, if◌then◌else◌, option_map, IfSome};
+ghost use Rattle.blog_row.specs.Column.{Fixed, Counted, when, is_one_of, digits_width, counted_up_to, string_greatest, metadata_len_of, plain_storage, byte_storage, pair_storage, storage_by};
+ghost use Rattle.blog_row.specs.StorageView.{prefix_seen, storage_seen};
+
+use crate::constants::{
+    MYSQL_TYPE_BIT, MYSQL_TYPE_BLOB, MYSQL_TYPE_DATE, MYSQL_TYPE_DATETIME, MYSQL_TYPE_DATETIME2,
+    MYSQL_TYPE_DOUBLE, MYSQL_TYPE_ENUM, MYSQL_TYPE_FLOAT, MYSQL_TYPE_GEOMETRY, MYSQL_TYPE_INT24,
+    MYSQL_TYPE_JSON, MYSQL_TYPE_LONG, MYSQL_TYPE_LONGLONG, MYSQL_TYPE_NEWDECIMAL, MYSQL_TYPE_SET,
+    MYSQL_TYPE_SHORT, MYSQL_TYPE_STRING, MYSQL_TYPE_TIME, MYSQL_TYPE_TIME2, MYSQL_TYPE_TIMESTAMP,
+    MYSQL_TYPE_TIMESTAMP2, MYSQL_TYPE_TINY, MYSQL_TYPE_VARCHAR, MYSQL_TYPE_YEAR,
+};
+
+/// How many bytes the length in front of a value has.
+#[derive(Clone, Copy, Debug)]
+pub(crate) enum Prefix {
+    /// One byte.
+    One,
+    /// Two bytes, the lower first.
+    Two,
+    /// Three bytes, the lowest first.
+    Three,
+    /// Four bytes, the lowest first.
+    Four,
+}
+
+impl Prefix {
+    /// The bytes of the length.
+    #[inline(always)]
+    pub(crate) fn bytes(self) -> usize
+        ensures { result ≡ prefix_seen self }
+    {
+        match self {
+            Prefix::One => 1,
+            Prefix::Two => 2,
+            Prefix::Three => 3,
+            Prefix::Four => 4,
+        }
+    }
+}
+
+/// How a value is stored.
+#[derive(Clone, Copy, Debug)]
+pub(crate) enum Storage {
+    /// In so many bytes.
+    Fixed(usize),
+    /// Behind its length in bytes.
+    Counted(Prefix),
+}
+
+/// How many bytes of metadata a type has, where the profile has the type
+/// (MySQL Internals manual, "Table_map_event").
+#[inline(always)]
+#[tactic(auto, unfolding(crate::specs::Column::metadata_len_of))]
+pub(crate) fn metadata_len(kind: u8) -> Option<usize>
+    ensures exact { result ≡ metadata_len_of kind }
+    ensures few { IfSome result (λ len. len ≤ 2) }
+{
+    match kind {
+        MYSQL_TYPE_TINY
+        | MYSQL_TYPE_SHORT
+        | MYSQL_TYPE_LONG
+        | MYSQL_TYPE_TIMESTAMP
+        | MYSQL_TYPE_LONGLONG
+        | MYSQL_TYPE_INT24
+        | MYSQL_TYPE_DATE
+        | MYSQL_TYPE_TIME
+        | MYSQL_TYPE_DATETIME
+        | MYSQL_TYPE_YEAR => Some(0),
+        MYSQL_TYPE_FLOAT
+        | MYSQL_TYPE_DOUBLE
+        | MYSQL_TYPE_TIMESTAMP2
+        | MYSQL_TYPE_DATETIME2
+        | MYSQL_TYPE_TIME2
+        | MYSQL_TYPE_JSON
+        | MYSQL_TYPE_BLOB
+        | MYSQL_TYPE_GEOMETRY => Some(1),
+        MYSQL_TYPE_VARCHAR | MYSQL_TYPE_BIT | MYSQL_TYPE_NEWDECIMAL | MYSQL_TYPE_STRING => Some(2),
+        _ => None,
+    }
+}
+
+/// The bytes of a length up to the greatest length.
+#[inline(always)]
+fn prefix_up_to(greatest: usize) -> Storage
+    ensures { storage_seen result ≡ counted_up_to greatest }
+{
+    if greatest <= 255 {
+        Storage::Counted(Prefix::One)
+    } else {
+        Storage::Counted(Prefix::Two)
+    }
+}
+
+/// A value behind a length of so many bytes, where that is allowed.
+#[inline(always)]
+fn counted(prefix: u8) -> Option<Storage>
+    ensures { option_map storage_seen result ≡ when (is_one_of (1 ∷ 2 ∷ 3 ∷ 4 ∷ []) prefix) (Counted prefix) }
+{
+    match prefix {
+        1 => Some(Storage::Counted(Prefix::One)),
+        2 => Some(Storage::Counted(Prefix::Two)),
+        3 => Some(Storage::Counted(Prefix::Three)),
+        4 => Some(Storage::Counted(Prefix::Four)),
+        _ => None,
+    }
+}
+
+/// A value of so many bytes, where the metadata repeats how many.
+#[inline(always)]
+fn repeated(width: u8, metadata: u8) -> Option<Storage>
+    ensures { option_map storage_seen result ≡ when (metadata == width) (Fixed width) }
+{
+    if metadata == width {
+        Some(Storage::Fixed(usize::from(width)))
+    } else {
+        None
+    }
+}
+
+/// Whole seconds in so many bytes, and a fraction of at most six decimal digits, two in a byte.
+#[inline(always)]
+fn with_fraction(seconds: usize, digits: u8) -> Option<Storage>
+    requires { seconds ≤ 8 }
+    ensures { option_map storage_seen result ≡ when (nat_le digits 6) (Fixed (seconds + (digits + 1) / 2)) }
+{
+    if digits <= 6 {
+        Some(Storage::Fixed(seconds + (usize::from(digits) + 1) / 2))
+    } else {
+        None
+    }
+}
+
+/// The bytes of a decimal's digits: four for each nine of them, and fewer for what is left.
+#[inline(always)]
+fn digits_bytes(digits: u8) -> usize
+    ensures { result ≡ digits_width digits }
+{
+    let left = match digits % 9 {
+        0 => 0,
+        1 | 2 => 1,
+        3 | 4 => 2,
+        5 | 6 => 3,
+        _ => 4,
+    };
+    4 * usize::from(digits / 9) + left
+}
+
+/// The storage of a type that has no metadata.
+#[inline(always)]
+#[tactic(auto, unfolding(crate::specs::Column::plain_storage))]
+fn plain(kind: u8) -> Option<Storage>
+    ensures { option_map storage_seen result ≡ plain_storage kind }
+{
+    match kind {
+        MYSQL_TYPE_TINY | MYSQL_TYPE_YEAR => Some(Storage::Fixed(1)),
+        MYSQL_TYPE_SHORT => Some(Storage::Fixed(2)),
+        MYSQL_TYPE_INT24 | MYSQL_TYPE_DATE | MYSQL_TYPE_TIME => Some(Storage::Fixed(3)),
+        MYSQL_TYPE_LONG | MYSQL_TYPE_TIMESTAMP => Some(Storage::Fixed(4)),
+        MYSQL_TYPE_LONGLONG | MYSQL_TYPE_DATETIME => Some(Storage::Fixed(8)),
+        _ => None,
+    }
+}
+
+/// The storage of a type that has one byte of metadata.
+#[inline(always)]
+#[tactic(auto, unfolding(crate::specs::Column::byte_storage))]
+fn of_byte(kind: u8, metadata: u8) -> Option<Storage>
+    ensures { option_map storage_seen result ≡ byte_storage kind metadata }
+{
+    match kind {
+        MYSQL_TYPE_FLOAT => repeated(4, metadata),
+        MYSQL_TYPE_DOUBLE => repeated(8, metadata),
+        MYSQL_TYPE_TIMESTAMP2 => with_fraction(4, metadata),
+        MYSQL_TYPE_DATETIME2 => with_fraction(5, metadata),
+        MYSQL_TYPE_TIME2 => with_fraction(3, metadata),
+        MYSQL_TYPE_JSON | MYSQL_TYPE_BLOB | MYSQL_TYPE_GEOMETRY => counted(metadata),
+        _ => None,
+    }
+}
+
+/// The storage of a decimal of so many digits, of which `scale` stand behind the point.
+#[inline(always)]
+fn decimal(digits: u8, scale: u8) -> Option<Storage>
+    ensures { option_map storage_seen result ≡ when (nat_le scale digits) (Fixed (digits_width (digits - scale) + digits_width scale)) }
+{
+    if scale <= digits {
+        Some(Storage::Fixed(digits_bytes(digits - scale) + digits_bytes(scale)))
+    } else {
+        None
+    }
+}
+
+/// The storage of a STRING column: an ENUM or a SET of so many bytes, or text up to a greatest length.
+#[inline(always)]
+fn string(real: u8, low: u8) -> Storage
+    ensures { storage_seen result ≡ if is_one_of (247 ∷ 248 ∷ []) real then Fixed low else counted_up_to (string_greatest real low) }
+{
+    match real {
+        MYSQL_TYPE_ENUM | MYSQL_TYPE_SET => Storage::Fixed(usize::from(low)),
+        _ => {
+            let high = (real / 16 & 3) ^ 3;
+            prefix_up_to(usize::from(low) + 256 * usize::from(high))
+        }
+    }
+}
+
+/// The storage of a type that has two bytes of metadata.
+#[inline(always)]
+#[tactic(auto, unfolding(crate::specs::Column::pair_storage))]
+fn of_pair(kind: u8, first: u8, second: u8) -> Option<Storage>
+    ensures { option_map storage_seen result ≡ pair_storage kind first second }
+{
+    match kind {
+        MYSQL_TYPE_VARCHAR => Some(prefix_up_to(usize::from(first) + 256 * usize::from(second))),
+        MYSQL_TYPE_BIT => {
+            let over = if first == 0 { 0 } else { 1 };
+            Some(Storage::Fixed(usize::from(second) + over))
+        }
+        MYSQL_TYPE_NEWDECIMAL => decimal(first, second),
+        MYSQL_TYPE_STRING => Some(string(first, second)),
+        _ => None,
+    }
+}
+
+/// How a column is stored, where its type and its metadata are allowed
+/// (MySQL Internals manual, "Table_map_event", and MySQL's field.cc on the metadata of each type).
+#[inline(always)]
+pub(crate) fn stored_as(kind: u8, metadata: &[u8]) -> Option<Storage>
+    ensures { option_map storage_seen result ≡ storage_by kind metadata.now }
+{
+    match metadata.len() {
+        0 => plain(kind),
+        1 => of_byte(kind, metadata[0]),
+        2 => of_pair(kind, metadata[0], metadata[1]),
+        _ => None,
+    }
+}
