@@ -69,3 +69,8 @@ pub record StopsAnywhere (bytes : List ℕ) (sel : Selection) (written : List �
   pub text : written ≡ flashback_text bytes sel
   pub transactions : length (groups written all) ≡ length (groups bytes sel)
   pub stops : (k : ℕ) → k ≤ length (groups bytes sel) → StopsAt bytes sel written k
+
+-- Neither log that is written is longer than the source, in bytes.
+pub record IsNoLonger (bytes : List ℕ) (sel : Selection) : Type 0 where
+  pub flashback : length (flashback_text bytes sel) ≤ length bytes
+  pub normal : length (normal_text bytes sel) ≤ length bytes

@@ -18,7 +18,9 @@ pub use blog_trans::Selection;
 pub use devices::Watched;
 pub use modes::{Mode, answer, flashback};
 pub use runs::{RunFault, prepare, put, run};
-pub use theorems::{every_stop_stands, flashback_undoes, forward_is_normal};
+pub use theorems::{
+    every_stop_stands, flashback_undoes, forward_is_normal, written_logs_are_no_longer,
+};
 pub use worked_logs::{
     worked_event_faults, worked_file_faults, worked_normal_forms, worked_outputs, worked_printed,
     worked_selections,

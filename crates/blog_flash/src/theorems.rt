@@ -5,7 +5,7 @@ ghost use Rattle.blog_event.specs.File.{AreBytes};
 ghost use Rattle.blog_trans.specs.Selection.{Selection};
 ghost use Rattle.blog_trans.specs.Acceptance.{IsAccepted};
 ghost use Rattle.blog_flash.specs.Texts.{normal_text, flashback_text};
-ghost use Rattle.blog_flash.specs.Theorems.{Undoes, IsNormal, StopsAnywhere};
+ghost use Rattle.blog_flash.specs.Theorems.{Undoes, IsNormal, StopsAnywhere, IsNoLonger};
 
 /// Of each accepted log and selection the log that is written to undo it gives the state back: from every state on
 /// which the selected changes apply, the written ones then apply without a fault, and leave each table with as many
@@ -28,4 +28,10 @@ pub fn forward_is_normal()
 /// call does nothing.
 pub fn every_stop_stands()
     ensures { (bytes : List ℕ) (sel : Selection) → AreBytes bytes → IsAccepted bytes sel → StopsAnywhere bytes sel (flashback_text bytes sel) }
+{}
+
+/// Of each accepted log and selection neither the log that is written to undo it nor the normal form has more bytes than
+/// the log, so written positions fit where the log's do. The call does nothing.
+pub fn written_logs_are_no_longer()
+    ensures { (bytes : List ℕ) (sel : Selection) → AreBytes bytes → IsAccepted bytes sel → IsNoLonger bytes sel }
 {}

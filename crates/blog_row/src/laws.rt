@@ -1,9 +1,9 @@
 //! Laws of the definitions.
 
-ghost use Rattle.std.specs.Prelude.{◌<◌, ℕ, List, length};
+ghost use Rattle.std.specs.Prelude.{◌≡◌, ◌<◌, ℕ, List, [], ◌++◌, length};
 ghost use Rattle.blog_row.specs.declared.kind.RowsKind.{RowsKind};
 ghost use Rattle.blog_row.specs.Column.{Column, Layout};
-ghost use Rattle.blog_row.specs.Image.{Row};
+ghost use Rattle.blog_row.specs.Image.{Row, IsSomeImage};
 ghost use Rattle.blog_row.specs.TableMap.{Names, LayoutFields};
 ghost use Rattle.blog_row.specs.RowsEvent.{RowsBody};
 ghost use Rattle.blog_row.specs.Laws.{ReadsPacked, ReadsValue, ReadsImage, ReadsImages, ReadsNames, ReadsLayout, ReadsRows};
@@ -17,4 +17,10 @@ pub fn reading_is_exact()
     ensures names { (body : List ℕ) (names : Names) → ReadsNames body names }
     ensures layout { (bytes : List ℕ) (fields : LayoutFields) → ReadsLayout bytes fields }
     ensures rows { (kind : RowsKind) (layout : Layout) (body : List ℕ) (fields : RowsBody) → 0 < length layout → ReadsRows kind layout body fields }
+{}
+
+/// No image is the front of another: bytes that begin with an image begin with no image of another length. The call does
+/// nothing.
+pub fn images_stand_alone()
+    ensures { (layout : Layout) (image other rest : List ℕ) → IsSomeImage layout image → IsSomeImage layout other → image ≡ other ++ rest → rest ≡ [] }
 {}

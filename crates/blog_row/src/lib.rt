@@ -16,7 +16,7 @@ mod types;
 
 pub use fault::RowFault;
 pub use kind::RowsKind;
-pub use laws::reading_is_exact;
+pub use laws::{images_stand_alone, reading_is_exact};
 pub use layout::Layout;
 pub use names::{Names, names_at};
 pub use packed::{Packed, packed_at};
