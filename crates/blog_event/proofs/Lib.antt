@@ -1,3 +1,5 @@
 pub mod Framing
 pub mod Headers
 pub mod FormatCode
+pub mod Openings
+pub mod Items

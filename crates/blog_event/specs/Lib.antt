@@ -5,3 +5,7 @@ pub mod Format
 pub mod Reading
 pub mod Writing
 pub mod Versions
+pub mod Opening
+pub mod LogView
+pub mod Items
+pub mod EventsView

@@ -63,3 +63,54 @@ fn opens_a_body_of_zeros(rt: HostRuntime) -> Result<(), Fail> {
     );
     Ok(())
 }
+
+#[test]
+fn refuses_an_old_server(rt: HostRuntime) -> Result<(), Fail> {
+    let mut file = vec![in rt.alloc(); 0xFE, 0x62, 0x69, 0x6E]?;
+    file.extend_from_slice(&FIRST)?;
+    assert_eq!(rt; Log::open(&file).err(), Some(Fault::OldServer { pos: 4 }));
+    assert_eq!(rt;
+        Log::open(&file[1..]).err(),
+        Some(Fault::NotABinlog { pos: 0 })
+    );
+    assert_eq!(rt;
+        Log::open(&file[..97]).err(),
+        Some(Fault::CutEvent { pos: 4 })
+    );
+    Ok(())
+}
+
+#[test]
+fn goes_through_a_log(rt: HostRuntime) -> Result<(), Fail> {
+    let mut body = [0; 97];
+    body[0] = 4;
+    body[2..8].copy_from_slice(b"5.6.51");
+    body[56] = 19;
+    for (at, length) in [(58, 13), (75, 8), (86, 10), (87, 10), (88, 10)] {
+        body[at] = length;
+    }
+    let header = Header {
+        timestamp: 0,
+        kind: 15,
+        server_id: 1,
+        size: 0,
+        log_pos: 0,
+        flags: 0,
+    };
+    let mut file = vec![in rt.alloc(); 0xFE, 0x62, 0x69, 0x6E]?;
+    let parts: [&[u8]; 1] = [&body];
+    put_event(&mut file, header, &parts)?;
+    put_event(&mut file, Header { kind: 3, ..header }, &[])?;
+    file.push(0)?;
+    let log = Log::open(&file)?;
+    assert_eq!(rt; log.format().body, body.as_slice());
+    assert_eq!(rt; (log.first(), log.end()), (120, 140));
+    let mut events = log.events(120);
+    let stop = events.next().expect(&rt, "an event")?;
+    assert_eq!(rt; (stop.pos, stop.header.kind), (120, 3));
+    let cut = events.next().expect(&rt, "a fault");
+    assert_eq!(rt; cut.err(), Some(Fault::CutEvent { pos: 139 }));
+    assert!(rt; events.next().is_none());
+    assert_eq!(rt; log.event_at(139).err(), Some(Fault::CutEvent { pos: 139 }));
+    Ok(())
+}

@@ -11,3 +11,4 @@ pub mod TypeBytes
 pub mod Walking
 pub mod LayoutCode
 pub mod TableMapCode
+pub mod RowsCode

@@ -1,6 +1,5 @@
 -- What the calls that read a layout give.
 use Rattle.std.specs.Prelude.{ℕ, ◌==◌, nat_le, ◌&&◌, if◌then◌else◌, Bool, List, Option, None, Result, Ok, Err, option_and_then}
-use Rattle.std.specs.Borrow.{Bor}
 use Rattle.blog_row.specs.declared.fault.RowFault.{RowFault}
 use Rattle.blog_row.specs.declared.layout.Layout as told
 use Rattle.blog_row.specs.Checks.{◌>>=◌, cut}

@@ -15,3 +15,4 @@ pub mod ImageView
 pub mod ColumnStep
 pub mod LayoutReading
 pub mod TableMapView
+pub mod RowsEventView

@@ -1,6 +1,4 @@
 -- What a contract sees of the names of a table map.
-use Rattle.std.specs.Prelude.{List, ℕ}
-use Rattle.std.specs.Borrow.{Bor}
 use Rattle.blog_row.specs.declared.names.Names as told
 use Rattle.blog_row.specs.TableMap.{Names}
 

@@ -25,7 +25,7 @@ pub(crate) struct ImageFront<'a> {
 
 /// The first bytes, so many of them, and those behind them.
 #[inline(always)]
-fn cut_at(len: usize, bytes: &[u8]) -> Option<(&[u8], &[u8])>
+pub(crate) fn cut_at(len: usize, bytes: &[u8]) -> Option<(&[u8], &[u8])>
     ensures { option_map cut_seen result ≡ cut len bytes.now }
 {
     if len <= bytes.len() {
@@ -37,7 +37,7 @@ fn cut_at(len: usize, bytes: &[u8]) -> Option<(&[u8], &[u8])>
 
 /// Whether a bit of a bitmap is set, the lowest bit of a byte first.
 #[inline(always)]
-fn is_set(bitmap: &[u8], i: usize) -> bool
+pub(crate) fn is_set(bitmap: &[u8], i: usize) -> bool
     requires { i < 8 * length bitmap.now }
     ensures { result ≡ is_marked bitmap.now i }
 {

@@ -15,7 +15,7 @@ pub enum RowsKind {
 
 impl RowsKind {
     ghost use Rattle.std.specs.Prelude.{◌≡◌};
-    ghost use Rattle.blog_row.specs.RowsKind.{rows_kind_of, number_of_kind};
+    ghost use Rattle.blog_row.specs.RowsKind.{rows_kind_of, number_of_kind, images_a_row};
 
     /// The kind of an event type, where that is a type of rows events.
     pub fn of_type(number: u8) -> Option<RowsKind>
@@ -26,6 +26,16 @@ impl RowsKind {
             UPDATE_ROWS_EVENT => Some(RowsKind::Update),
             DELETE_ROWS_EVENT => Some(RowsKind::Delete),
             _ => None,
+        }
+    }
+
+    /// How many images a row has, and how many bitmaps an event: two in an update, else one.
+    pub fn images_a_row(self) -> usize
+        ensures { result ≡ images_a_row self }
+    {
+        match self {
+            RowsKind::Write | RowsKind::Delete => 1,
+            RowsKind::Update => 2,
         }
     }
 

@@ -1,0 +1,81 @@
+-- The items of a log from a position on, one by one.
+use Rattle.std.proofs.Common.{◌≡◌, ℕ, zero, suc, ◌+◌, ◌≤◌, ◌<◌, ◌≢◌, true, false, List, [], ◌∷◌, length, drop, Option, Some, None, Ok, Err, refl, sym, ap, ◌∙◌, arith}
+use Rattle.std.specs.Prelude.{Result, ◌==◌, if◌then◌else◌, IfOk, IfErr, option_map}
+use Rattle.std.specs.Result.{result_ok}
+use Rattle.std.proofs.lemmas.Bool.Decides.{nat_tests}
+use Rattle.std.proofs.lemmas.List.{drop-drop, length-drop}
+use Rattle.blog_event.specs.declared.fault.Fault.{Fault}
+use Rattle.blog_event.specs.declared.fault.Fault.TheVariants.{CutEvent}
+use Rattle.blog_event.specs.declared.event.Event as told
+use Rattle.blog_event.specs.Event.{Event, event_size, event_at, event_of}
+use Rattle.blog_event.specs.File.{events_from}
+use Rattle.blog_event.specs.Items.{item_of, items_of, items_from}
+use Rattle.blog_event.proofs.Headers.{event-at-short}
+use Rattle.blog_event.proofs.Framing.{events-from-more, events-from-nothing}
+
+-- no event at the front
+events-from-none : (n : ℕ) (pos : ℕ) (bytes : List ℕ) → event_at bytes ≡ None → events_from n None pos bytes ≡ []
+unfolding events_from
+events-from-none zero pos bytes none = refl
+events-from-none (suc n) pos bytes none = rw none refl
+
+-- the same step with two limits
+same-step : (n m pos : ℕ) (bytes : List ℕ)
+    → ((e : Event) → events_from n None (pos + event_size e) (drop (event_size e) bytes) ≡ events_from m None (pos + event_size e) (drop (event_size e) bytes))
+    → (found : Option Event) → event_at bytes ≡ found → events_from (suc n) None pos bytes ≡ events_from (suc m) None pos bytes
+same-step n m pos bytes later None none = events-from-none (suc n) pos bytes none ∙ sym (events-from-none (suc m) pos bytes none)
+same-step n m pos bytes later (Some e) found =
+    events-from-more n None pos bytes e refl found ∙ ap (λ (es : List Event). e ∷ es) (later e) ∙ sym (events-from-more m None pos bytes e refl found)
+
+-- the limit doesn't matter where it is no less than the bytes
+same-events : (n m pos : ℕ) (bytes : List ℕ) → length bytes ≤ n → length bytes ≤ m → events_from n None pos bytes ≡ events_from m None pos bytes
+unfolding events_from
+same-events zero m pos [] hn hm = sym (events-from-nothing m None pos)
+same-events zero m pos (b ∷ bytes) hn hm = absurd (omega arith)
+same-events (suc n) zero pos [] hn hm = events-from-nothing (suc n) None pos
+same-events (suc n) zero pos (b ∷ bytes) hn hm = absurd (omega arith)
+same-events (suc n) (suc m) pos bytes hn hm =
+    same-step n m pos bytes (λ e. same-events n m (pos + event_size e) (drop (event_size e) bytes) (omega (arith, length-drop (event_size e) bytes)) (omega (arith, length-drop (event_size e) bytes))) (event_at bytes) refl
+
+-- where an event stands, it is the first item
+pub items-more : (bytes : List ℕ) (at : ℕ) (e : Event) → event_at (drop at bytes) ≡ Some e
+    → items_from bytes at ≡ Ok (record { pos = at; event = e }) ∷ items_from bytes (at + event_size e)
+unfolding items_from
+items-more bytes at e found =
+    let fits : length (drop at bytes) ≤ length bytes = omega (arith, length-drop at bytes) in
+    let behind : drop (event_size e) (drop at bytes) ≡ drop (at + event_size e) bytes = drop-drop (event_size e) at bytes in
+    ap (items_of at (length bytes)) (
+    same-events (length bytes) (suc (length bytes)) at (drop at bytes) fits (omega arith)
+    ∙ events-from-more (length bytes) None at (drop at bytes) e refl found
+    ∙ ap (λ (rest : List ℕ). e ∷ events_from (length bytes) None (at + event_size e) rest) behind
+    )
+
+-- where none stands, there is no more than a fault
+pub items-last : (bytes : List ℕ) (at : ℕ) → event_at (drop at bytes) ≡ None
+    → items_from bytes at ≡ (if at == length bytes then [] else Err (CutEvent at) ∷ [])
+unfolding items_from
+items-last bytes at none = ap (items_of at (length bytes)) (events-from-none (length bytes) at (drop at bytes) none)
+
+-- nothing is left at the end
+pub items-end : (bytes : List ℕ) (at : ℕ) → at ≡ length bytes → items_from bytes at ≡ []
+items-end bytes at is =
+    let short : length (drop at bytes) < 19 = omega (arith, length-drop at bytes) in
+    let test : (at == length bytes) ≡ true = grind (arith, nat_tests) in
+    items-last bytes at (event-at-short (drop at bytes) short) ∙ (rw test refl)
+
+-- an event that was found, with its place, and those behind it
+pub items-ok : (bytes : List ℕ) (at : ℕ) (r : Result told.Event Fault) (e : told.Event) → r ≡ Ok e → option_map event_of (result_ok r) ≡ event_at (drop at bytes)
+    → IfOk r (λ e. e.pos ≡ at) → IfOk r (λ e. e.header.size ≡ event_size (event_of e))
+    → items_from bytes at ≡ item_of r ∷ items_from bytes (at + e.header.size)
+items-ok bytes at (Err fault) e is found pos size = absurd (cc)
+items-ok bytes at (Ok d) e is found pos size =
+    let same : e ≡ d = cc in
+    rw (same, pos, size) (items-more bytes at (event_of d) (sym found))
+
+-- a fault, and nothing behind it
+pub items-err : (bytes : List ℕ) (at : ℕ) (r : Result told.Event Fault) (fault : Fault) → r ≡ Err fault → option_map event_of (result_ok r) ≡ event_at (drop at bytes)
+    → IfErr r (λ fault. fault ≡ CutEvent at) → at ≢ length bytes → items_from bytes at ≡ item_of r ∷ []
+items-err bytes at (Ok e) fault is found cut off = absurd (cc)
+items-err bytes at (Err said) fault is found cut off =
+    let test : (at == length bytes) ≡ false = grind (arith, nat_tests) in
+    items-last bytes at (sym found) ∙ (rw (test, cut) refl)

@@ -1,0 +1,60 @@
+//! Going through the events of a log.
+
+ghost use Rattle.std.specs.Prelude.{◌≡◌, ◌+◌, ◌-◌, ◌/◌, length};
+
+use crate::event::Event;
+use crate::fault::Fault;
+use crate::log::Log;
+
+/// The events of a log that follow each other from a byte position on, each with its start. If they end before the log
+/// does, or the position lies past the log's end, the last item is the fault `CutEvent` where the next event would begin.
+/// Nothing comes after the last item.
+#[derive(Clone, Debug, Drop)]
+pub struct Events<'a> {
+    log: Log<'a>,
+    // Where the next event begins; None after the last item.
+    at: Option<u32>,
+}
+
+impl<'a> Log<'a> {
+    ghost use Rattle.blog_event.specs.Items.{items_from};
+    ghost use Rattle.blog_event.specs.LogView.{log_bytes};
+    ghost use Rattle.blog_event.specs.EventsView.{items_left, most_left};
+
+    /// The events that follow each other from the byte position `from` on, each where the one before ends. If they end
+    /// before the log does, or `from` lies past the log's end, one last item is the fault `CutEvent` at that position.
+    pub fn events(&self, from: u32) -> Events<'a>
+        ensures items { items_left result ≡ items_from (log_bytes self.now) from }
+        ensures most { most_left result ≡ 1 + (length (log_bytes self.now) - from) / 19 }
+    {
+        Events {
+            log: *self,
+            at: Some(from),
+        }
+    }
+}
+
+impl<'a> Iterator for Events<'a> {
+    type Item = Result<Event<'a>, Fault>;
+
+    ghost use Rattle.std.specs.Iterator.{YieldsFirstBy, at_most};
+    ghost use Rattle.blog_event.specs.Items.{item_of};
+    ghost use Rattle.blog_event.specs.EventsView.{items_left, most_left};
+
+    ghost next_gives = { YieldsFirstBy item_of items_left };
+
+    ghost remaining = { λ events. at_most (most_left events) };
+
+    fn next(&mut self) -> Option<Result<Event<'a>, Fault>> {
+        let at = self.at?;
+        self.at = None;
+        if at == self.log.end() {
+            return None;
+        }
+        let item = self.log.event_at(at);
+        if let Ok(event) = &item {
+            self.at = Some(at + event.header.size);
+        }
+        Some(item)
+    }
+}

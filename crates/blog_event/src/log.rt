@@ -1,0 +1,105 @@
+//! A log that was opened: its bytes, as far as its first event a log of this profile.
+
+ghost use Rattle.std.specs.Prelude.{◌≡◌, ◌≤◌, ◌<◌, ◌+◌, ◌^◌, length, take, drop, true, bytes_eq, Some, None};
+ghost use Rattle.blog_event.specs.Event.{event_of, event_at, event_size};
+ghost use Rattle.blog_event.specs.File.{magic};
+ghost use Rattle.blog_event.specs.Format.{format_fault};
+
+use crate::event::Event;
+use crate::fault::Fault;
+use crate::format::check_format;
+use crate::reading::event_at;
+
+/// The four bytes with which each log begins.
+const MAGIC: &[u8] = b"\xfebin";
+
+/// A log: the bytes of a file, which begins with the magic number and, at the byte position 4, a format description of
+/// this profile. What comes after that event is unread.
+#[derive(Clone, Copy, Debug)]
+pub struct Log<'a> {
+    bytes: &'a [u8],
+    format: Event<'a>,
+    pub ghost short: { length bytes.now < 2 ^ 32 },
+    pub ghost mark: { bytes_eq (take 4 bytes.now) magic ≡ true },
+    pub ghost stands: { event_at (drop 4 bytes.now) ≡ Some (event_of format) },
+    pub ghost accepted: { format_fault (event_of format) ≡ None },
+    pub ghost at: { format.pos ≡ 4 },
+    pub ghost size: { format.header.size ≡ event_size (event_of format) },
+    pub ghost within: { 4 + format.header.size ≤ length bytes.now },
+}
+
+/// Whether bytes begin with the magic number.
+fn has_magic(bytes: &[u8]) -> bool
+    ensures { result ≡ bytes_eq (take 4 bytes.now) magic }
+{
+    bytes.starts_with(MAGIC)
+}
+
+impl<'a> Log<'a> {
+    ghost use Rattle.std.specs.Prelude.{Option, option_map, Ok, Err, IfOk, IfErr};
+    ghost use Rattle.std.specs.Result.{result_ok, result_err};
+    ghost use Rattle.blog_event.specs.declared.fault.Fault.TheVariants.{CutEvent};
+    ghost use Rattle.blog_event.specs.Opening.{opening_fault};
+    ghost use Rattle.blog_event.specs.LogView.{log_bytes};
+
+    /// Opens the bytes of a file as a log. Fails at the first of these that holds: with `TooLong` at 0 if there are more
+    /// than 4,294,967,295; with `NotABinlog` at 0 if they don't begin with the magic number; with `CutEvent` at 4 if no event
+    /// stands there; with `BadFormat`, `OldServer` or `Checksums` at 4 if that event isn't a format description of this
+    /// profile.
+    pub fn open(bytes: &'a [u8]) -> Result<Log<'a>, Fault>
+        ensures exact { result_err result ≡ opening_fault bytes.now }
+        ensures bytes { IfOk result (λ log. log_bytes log ≡ bytes.now) }
+    {
+        if bytes.len() > u32::MAX as usize {
+            return Err(Fault::TooLong { pos: 0 });
+        }
+        if !has_magic(bytes) {
+            return Err(Fault::NotABinlog { pos: 0 });
+        }
+        let Some(format) = event_at(bytes, 4) else {
+            return Err(Fault::CutEvent { pos: 4 });
+        };
+        check_format(&format)?;
+        Ok(Log { bytes, format })
+    }
+
+    /// The format description, the event at the byte position 4.
+    pub fn format(&self) -> Event<'a>
+        ensures event { event_at (drop 4 (log_bytes self.now)) ≡ Some (event_of result) }
+        ensures pos { result.pos ≡ 4 }
+        ensures size { result.header.size ≡ event_size (event_of result) }
+        ensures accepted { format_fault (event_of result) ≡ None }
+    {
+        self.format
+    }
+
+    /// Where the second event begins, in bytes from the file's start: the first byte after the format description.
+    pub fn first(&self) -> u32
+        ensures event { option_map (λ e. 4 + event_size e) (event_at (drop 4 (log_bytes self.now))) ≡ Some result }
+        ensures within { result ≤ length (log_bytes self.now) }
+    {
+        4 + self.format.header.size
+    }
+
+    /// How many bytes the log has: the byte position of its end.
+    pub fn end(&self) -> u32
+        ensures { result ≡ length (log_bytes self.now) }
+    {
+        self.bytes.len() as u32
+    }
+
+    /// The event whose header begins at the byte position `at`. Fails with `CutEvent` at `at` if none stands there: fewer
+    /// than 19 bytes are left, or the event's size is below 19 or reaches past the log's end.
+    pub fn event_at(&self, at: u32) -> Result<Event<'a>, Fault>
+        ensures event { option_map event_of (result_ok result) ≡ event_at (drop at (log_bytes self.now)) }
+        ensures fault { IfErr result (λ fault. fault ≡ CutEvent at) }
+        ensures pos { IfOk result (λ e. e.pos ≡ at) }
+        ensures size { IfOk result (λ e. e.header.size ≡ event_size (event_of e)) }
+        ensures within { IfOk result (λ e. at + e.header.size ≤ length (log_bytes self.now)) }
+    {
+        match event_at(self.bytes, at) {
+            Some(event) => Ok(event),
+            None => Err(Fault::CutEvent { pos: at }),
+        }
+    }
+}

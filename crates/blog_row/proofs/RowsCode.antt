@@ -1,0 +1,283 @@
+-- How the code reads the body of a rows event: part by part.
+use Rattle.std.proofs.Common.{◌≡◌, ◌+◌, ◌-◌, ◌%◌, ◌<◌, ◌≤◌, ℕ, zero, suc, Bool, true, false, cond, eqb, leb, List, [], ◌∷◌, ◌++◌, length, take, drop, Option, Some, None, option_and_then, option_map, unwrap_or, Result, Ok, Err, refl, sym, ap, ◌∙◌, arith, length-append, drop_at}
+use Rattle.std.specs.Result.{IfOk}
+use Rattle.std.specs.List.{list_all, concat}
+use Rattle.std.proofs.lemmas.Bool.{and_from}
+use Rattle.byteorder.specs.Endian.{little_number}
+use Rattle.blog_row.specs.declared.kind.RowsKind.{RowsKind}
+use Rattle.blog_row.specs.declared.fault.RowFault.{RowFault}
+use Rattle.blog_row.specs.declared.fault.RowFault.TheVariants.{BadBody, PartialImage}
+use Rattle.blog_row.specs.declared.rows_event.RowsEvent as told
+use Rattle.blog_row.specs.declared.layout.Layout as columns
+use Rattle.blog_row.specs.LayoutView.{layout_columns}
+use Rattle.blog_row.specs.RowsKind.{images_a_row}
+use Rattle.blog_row.specs.Checks.{◌>>=◌, check, or_bad, cut}
+use Rattle.blog_row.specs.Packed.{packed_front}
+use Rattle.blog_row.specs.Column.{Layout}
+use Rattle.blog_row.specs.Image.{Row, bitmap_len, is_marked, IsImage, image_front, image_len_of, images_up_to, images_of}
+use Rattle.blog_row.specs.RowsEvent.{RowsBody, IsRowsBody, are_marked, pieces, rows_of}
+use Rattle.blog_row.specs.RowsEventView.{FrontParts, extra_front, rows_front, rows_body, rows_seen}
+use Rattle.blog_row.proofs.Cutting.{none_is_not, map_found}
+use Rattle.blog_row.proofs.NamesCode.{then_of, nothing_then}
+use Rattle.blog_row.proofs.Images.{image_found, image_positive, images_found, images_again}
+use Rattle.blog_row.proofs.Layouts.{length_of_columns}
+use Rattle.blog_row.proofs.Bodies.{marks, rows_found, rows_again}
+
+-- ---- the fields up to the extra bytes
+
+pub no_id : (body : List ℕ) → cut 6 body ≡ None → rows_front body ≡ None
+unfolding rows_front
+no_id body e = rw e
+
+pub no_flags : (body : List ℕ) (id : List ℕ × List ℕ) → cut 6 body ≡ Some id → cut 2 id.1 ≡ None → rows_front body ≡ None
+unfolding rows_front
+no_flags body id e f = rw (e, f)
+
+pub no_extra_len : (body : List ℕ) (id flags : List ℕ × List ℕ) → cut 6 body ≡ Some id → cut 2 id.1 ≡ Some flags → cut 2 flags.1 ≡ None → rows_front body ≡ None
+unfolding rows_front
+no_extra_len body id flags e f g = rw (e, f, g)
+
+pub by_extra : (body : List ℕ) (id flags extra_len : List ℕ × List ℕ) → cut 6 body ≡ Some id → cut 2 id.1 ≡ Some flags → cut 2 flags.1 ≡ Some extra_len → rows_front body ≡ extra_front id flags extra_len
+unfolding rows_front
+by_extra body id flags extra_len e f g = rw (e, f, g)
+
+pub few_extra : (id flags extra_len : List ℕ × List ℕ) → leb 2 (little_number 2 extra_len.0) ≡ false → extra_front id flags extra_len ≡ None
+few_extra id flags extra_len e = rw e
+
+pub some_extra : (id flags extra_len : List ℕ × List ℕ) (n : ℕ) (o : Option (List ℕ × List ℕ)) → n ≡ little_number 2 extra_len.0 → leb 2 (little_number 2 extra_len.0) ≡ true → cut (n - 2) extra_len.1 ≡ o
+    → extra_front id flags extra_len ≡ option_map (λ extra. (id.0, flags.0, extra_len.0, extra.0, extra.1)) o
+some_extra id flags extra_len n o same e f =
+    let own : cut (little_number 2 extra_len.0 - 2) extra_len.1 ≡ o = ap (λ k. cut (k - 2) extra_len.1) (sym same) ∙ f in
+    rw (e, own)
+
+-- ---- bitmaps
+
+pub not_marked : (n i : ℕ) (bitmap : List ℕ) → i < n → is_marked bitmap i ≡ false → are_marked n bitmap ≡ false
+not_marked n i bitmap l e = by_case (are_marked n bitmap) refl
+  where
+    by_case : (t : Bool) → are_marked n bitmap ≡ t → are_marked n bitmap ≡ false
+    by_case false h = h
+    by_case true h = let set : is_marked bitmap i ≡ true = (marks n bitmap).0 h i l in absurd (cc)
+
+pub one_more_marked : (n : ℕ) (bitmap : List ℕ) → are_marked n bitmap ≡ true → is_marked bitmap n ≡ true → are_marked (n + 1) bitmap ≡ true
+one_more_marked n bitmap e f =
+    let next : n + 1 ≡ suc n = omega arith in
+    ap (λ k. are_marked k bitmap) next ∙ and_from (is_marked bitmap n) (are_marked n bitmap) f e
+
+-- ---- images, one after the other
+
+-- what follows an image is shorter than the bytes
+shorter : (layout : Layout) (bytes : List ℕ) (row : Row) (rest : List ℕ) → 0 < length layout → image_front layout bytes ≡ Some (row, rest) → length rest < length bytes
+shorter layout bytes row rest some e =
+    let f : (image : List ℕ) × IsImage layout row image × (bytes ≡ image ++ rest) = image_found layout bytes row rest e in
+    omega (arith, ap length f.2, length-append f.0 rest, image_positive layout row f.0 some f.1)
+
+-- the image in front of what is left, and the images of that
+abbrev and_images : ℕ → Layout → List ℕ → Row × List ℕ → Option (List (List ℕ))
+and_images n layout bytes r = option_map (λ (images : List (List ℕ)). take (length bytes - length r.1) bytes ∷ images) (images_up_to n layout r.1)
+
+-- more images than there are bytes need not be allowed
+same_up_to : (n m : ℕ) (layout : Layout) (bytes : List ℕ) → 0 < length layout → length bytes ≤ n → length bytes ≤ m → images_up_to n layout bytes ≡ images_up_to m layout bytes
+unfolding images_up_to
+same_up_to zero zero layout bytes some l k = refl
+same_up_to zero (suc m) layout [] some l k = refl
+same_up_to (suc n) zero layout [] some l k = refl
+same_up_to (suc n) (suc m) layout [] some l k = refl
+same_up_to zero (suc m) layout (b ∷ bytes) some l k = absurd (omega arith)
+same_up_to (suc n) zero layout (b ∷ bytes) some l k = absurd (omega arith)
+same_up_to (suc n) (suc m) layout (b ∷ bytes) some l k = by_front (λ rest less. same_up_to n m layout rest some (omega arith) (omega arith)) (image_front layout (b ∷ bytes)) refl
+  where
+    by_front : ((rest : List ℕ) → length rest < length (b ∷ bytes) → images_up_to n layout rest ≡ images_up_to m layout rest) → (o : Option (Row × List ℕ)) → image_front layout (b ∷ bytes) ≡ o → option_and_then (and_images n layout (b ∷ bytes)) o ≡ option_and_then (and_images m layout (b ∷ bytes)) o
+    by_front same None e = refl
+    by_front same (Some r) e = ap (option_map (λ (images : List (List ℕ)). take (length (b ∷ bytes) - length r.1) (b ∷ bytes) ∷ images)) (same r.1 (shorter layout (b ∷ bytes) r.0 r.1 some e))
+
+-- an image of so many bytes in front, and the images behind it
+pub images_behind : (layout : Layout) (bytes : List ℕ) (row : Row) (rest : List ℕ) (len : ℕ) → 0 < length layout → image_front layout bytes ≡ Some (row, rest) → length bytes ≡ len + length rest → images_of layout bytes ≡ option_map (λ images. take len bytes ∷ images) (images_of layout rest)
+unfolding images_up_to
+images_behind layout [] row rest len some e l = let less = shorter layout [] row rest some e in absurd (omega arith)
+images_behind layout (b ∷ bytes) row rest len some e l =
+    let less = shorter layout (b ∷ bytes) row rest some e in
+    let taken : length (b ∷ bytes) - length rest ≡ len = omega arith in
+    then_of (and_images (length bytes) layout (b ∷ bytes)) (image_front layout (b ∷ bytes)) (row, rest) e
+    ∙ ap (option_map (λ (images : List (List ℕ)). take (length (b ∷ bytes) - length rest) (b ∷ bytes) ∷ images)) (same_up_to (length bytes) (length rest) layout rest some (omega arith) (omega arith))
+    ∙ ap (λ (k : ℕ). option_map (λ (images : List (List ℕ)). take k (b ∷ bytes) ∷ images) (images_of layout rest)) taken
+
+-- bytes with no image in front are no images
+pub images_stop : (layout : Layout) (bytes : List ℕ) → 0 < length bytes → image_front layout bytes ≡ None → images_of layout bytes ≡ None
+unfolding images_up_to
+images_stop layout [] some e = absurd (omega arith)
+images_stop layout (b ∷ bytes) some e = nothing_then (and_images (length bytes) layout (b ∷ bytes)) (image_front layout (b ∷ bytes)) e
+
+-- ---- counting them
+
+-- the images that were counted, and those that are left
+abbrev pub counted : ℕ → Option (List (List ℕ)) → Option ℕ
+counted done o = option_map (λ more. done + length more) o
+
+none_counted : (o : Option (List (List ℕ))) → counted 0 o ≡ option_map length o
+none_counted None = refl
+none_counted (Some images) = ap Some (omega arith)
+
+pub count_begins : (layout : Layout) (bytes : List ℕ) → counted 0 (images_of layout bytes) ≡ option_map length (images_of layout bytes)
+count_begins layout bytes = none_counted (images_of layout bytes)
+
+one_counted : (done : ℕ) (image : List ℕ) (o : Option (List (List ℕ))) → counted (done + 1) o ≡ counted done (option_map (λ images. image ∷ images) o)
+one_counted done image None = refl
+one_counted done image (Some images) = ap Some (omega arith)
+
+-- an image of so many bytes in front
+pub record OneImage (layout : Layout) (bytes : List ℕ) (len : ℕ) : Type 0 where
+  pub positive : 0 < len
+  pub within : len ≤ length bytes
+  pub others : images_of layout bytes ≡ option_map (λ images. take len bytes ∷ images) (images_of layout (drop len bytes))
+
+pub one_image : (layout : Layout) (bytes : List ℕ) (len : ℕ) → 0 < length layout → image_len_of layout bytes ≡ Some len → OneImage layout bytes len
+one_image layout bytes len some e =
+    let r : (r : Row × List ℕ) × (image_front layout bytes ≡ Some r) × (length bytes - length r.1 ≡ len) = map_found (λ (r : Row × List ℕ). length bytes - length r.1) (image_front layout bytes) len e in
+    let less : length r.0.1 < length bytes = shorter layout bytes r.0.0 r.0.1 some r.1 in
+    let f : (image : List ℕ) × IsImage layout r.0.0 image × (bytes ≡ image ++ r.0.1) = image_found layout bytes r.0.0 r.0.1 r.1 in
+    let parts : length bytes ≡ len + length r.0.1 = omega (arith, r.2) in
+    let own : length f.0 ≡ len = omega (arith, ap length f.2, length-append f.0 r.0.1) in
+    let rest : drop len bytes ≡ r.0.1 = ap (drop len) f.2 ∙ drop_at f.0 r.0.1 len own in
+    record {
+      positive = omega (arith, r.2);
+      within = omega arith;
+      others = images_behind layout bytes r.0.0 r.0.1 len some r.1 parts ∙ ap (λ (t : List ℕ). option_map (λ (images : List (List ℕ)). take len bytes ∷ images) (images_of layout t)) (sym rest);
+    }
+
+pub count_step : (layout : Layout) (bytes behind : List ℕ) (len done : ℕ) (all : Option ℕ) → OneImage layout bytes len → behind ≡ drop len bytes → counted done (images_of layout bytes) ≡ all → counted (done + 1) (images_of layout behind) ≡ all
+count_step layout bytes behind len done all one behind_is so_far =
+    ap (λ (t : List ℕ). counted (done + 1) (images_of layout t)) behind_is
+    ∙ one_counted done (take len bytes) (images_of layout (drop len bytes)) ∙ ap (counted done) (sym one.others) ∙ so_far
+
+no_length : (layout : Layout) (bytes : List ℕ) (o : Option (Row × List ℕ)) → option_map (λ r. length bytes - length r.1) o ≡ None → o ≡ None
+no_length layout bytes None e = refl
+no_length layout bytes (Some r) e = absurd (cc)
+
+pub count_stops : (layout : Layout) (bytes : List ℕ) (done : ℕ) (all : Option ℕ) → 0 < length bytes → image_len_of layout bytes ≡ None → counted done (images_of layout bytes) ≡ all → all ≡ None
+count_stops layout bytes done all some e so_far = sym so_far ∙ ap (counted done) (images_stop layout bytes some (no_length layout bytes (image_front layout bytes) e))
+
+pub count_ends : (layout : Layout) (bytes : List ℕ) (done : ℕ) (all : Option ℕ) → length bytes ≡ 0 → counted done (images_of layout bytes) ≡ all → all ≡ Some done
+unfolding images_up_to
+count_ends layout [] done all none so_far = sym so_far ∙ ap Some (omega arith)
+count_ends layout (b ∷ bytes) done all none so_far = absurd (omega arith)
+
+-- ---- a body, part by part
+
+by_next : {A B D : Type 0} (o : Option A) (f : A → Result B RowFault) (part : A → Option D) (g : D → Result B RowFault) → ((x : A) → f x ≡ (or_bad (part x) >>= g)) → (or_bad o >>= f) ≡ (or_bad (option_and_then part o) >>= g)
+by_next None f part g same = refl
+by_next (Some x) f part g same = same x
+
+by_test : {B D : Type 0} (b : Bool) (r : Result B RowFault) (part : Option D) (g : D → Result B RowFault) → r ≡ (or_bad part >>= g) → check b BadBody r ≡ (or_bad (cond b part None) >>= g)
+by_test false r part g same = refl
+by_test true r part g same = same
+
+by_last : {A B D : Type 0} (o : Option A) (f : A → Result B RowFault) (h : A → D) (g : D → Result B RowFault) → ((x : A) → f x ≡ g (h x)) → (or_bad o >>= f) ≡ (or_bad (option_map h o) >>= g)
+by_last None f h g same = refl
+by_last (Some x) f h g same = same x
+
+-- what follows the bitmaps
+abbrev pub after_bitmaps : RowsKind → Layout → FrontParts → List ℕ → List (List ℕ) × List ℕ → Result RowsBody RowFault
+after_bitmaps kind layout front count b =
+    check (list_all (are_marked (length layout)) b.0) PartialImage
+    (or_bad (images_of layout b.1) >>= (λ images. check (eqb (length images % images_a_row kind) 0) BadBody
+    (Ok (record { id = front.0; flags = front.1; extra_len = front.2; extra = front.3; count = count; bitmaps = b.0; images = images }))))
+
+-- what follows the extra bytes
+abbrev pub after_front : RowsKind → Layout → FrontParts → Result RowsBody RowFault
+after_front kind layout front =
+    or_bad (packed_front front.4) >>= (λ n. check (eqb n.0 (length layout)) BadBody
+    (pieces (images_a_row kind) (bitmap_len (length layout)) n.2 >>= after_bitmaps kind layout front n.1))
+
+pub body_parts : (kind : RowsKind) (layout : Layout) (body : List ℕ) → rows_of kind layout body ≡ (or_bad (rows_front body) >>= after_front kind layout)
+unfolding rows_of rows_front
+body_parts kind layout body =
+    by_next (cut 6 body) _ _ (after_front kind layout) (λ id.
+    by_next (cut 2 id.1) _ _ (after_front kind layout) (λ flags.
+    by_next (cut 2 flags.1) _ _ (after_front kind layout) (λ extra_len.
+    by_test (leb 2 (little_number 2 extra_len.0)) _ _ (after_front kind layout)
+    (by_last (cut (little_number 2 extra_len.0 - 2) extra_len.1) _ _ (after_front kind layout) (λ extra. refl)))))
+
+-- ---- what each stop of the code gives
+
+pub no_front : (kind : RowsKind) (layout : Layout) (body : List ℕ) → rows_front body ≡ None → rows_of kind layout body ≡ Err BadBody
+no_front kind layout body e = body_parts kind layout body ∙ rw e
+
+-- the front is there
+pub front_there : (kind : RowsKind) (layout : Layout) (body : List ℕ) (front : FrontParts) → rows_front body ≡ Some front → rows_of kind layout body ≡ after_front kind layout front
+front_there kind layout body front e = body_parts kind layout body ∙ ap (λ (o : Option FrontParts). or_bad o >>= after_front kind layout) e
+
+pub no_count : (kind : RowsKind) (layout : Layout) (body : List ℕ) (front : FrontParts) → rows_front body ≡ Some front → packed_front front.4 ≡ None → rows_of kind layout body ≡ Err BadBody
+no_count kind layout body front e f = front_there kind layout body front e ∙ rw f
+
+pub other_count : (kind : RowsKind) (layout : Layout) (body : List ℕ) (front : FrontParts) (n : ℕ × List ℕ × List ℕ) → rows_front body ≡ Some front → packed_front front.4 ≡ Some n → eqb n.0 (length layout) ≡ false → rows_of kind layout body ≡ Err BadBody
+other_count kind layout body front n e f g = front_there kind layout body front e ∙ rw (f, g)
+
+-- the count is there
+pub record Counted (kind : RowsKind) (layout : Layout) (body : List ℕ) (front : FrontParts) (n : ℕ × List ℕ × List ℕ) : Type 0 where
+  pub front_is : rows_front body ≡ Some front
+  pub count_is : packed_front front.4 ≡ Some n
+  pub own : eqb n.0 (length layout) ≡ true
+
+pub count_there : (kind : RowsKind) (layout : Layout) (body : List ℕ) (front : FrontParts) (n : ℕ × List ℕ × List ℕ) → Counted kind layout body front n
+    → rows_of kind layout body ≡ (pieces (images_a_row kind) (bitmap_len (length layout)) n.2 >>= after_bitmaps kind layout front n.1)
+count_there kind layout body front n c = front_there kind layout body front c.front_is ∙ rw (c.count_is, c.own) refl
+
+pub no_bitmaps : (kind : RowsKind) (layout : Layout) (body : List ℕ) (front : FrontParts) (n : ℕ × List ℕ × List ℕ) → Counted kind layout body front n
+    → pieces (images_a_row kind) (bitmap_len (length layout)) n.2 ≡ Err BadBody → rows_of kind layout body ≡ Err BadBody
+no_bitmaps kind layout body front n c e = count_there kind layout body front n c ∙ ap (λ (r : Result (List (List ℕ) × List ℕ) RowFault). r >>= after_bitmaps kind layout front n.1) e
+
+pub bitmaps_there : (kind : RowsKind) (layout : Layout) (body : List ℕ) (front : FrontParts) (n : ℕ × List ℕ × List ℕ) (b : List (List ℕ) × List ℕ) → Counted kind layout body front n
+    → pieces (images_a_row kind) (bitmap_len (length layout)) n.2 ≡ Ok b → rows_of kind layout body ≡ after_bitmaps kind layout front n.1 b
+bitmaps_there kind layout body front n b c e = count_there kind layout body front n c ∙ ap (λ (r : Result (List (List ℕ) × List ℕ) RowFault). r >>= after_bitmaps kind layout front n.1) e
+
+pub partial : (kind : RowsKind) (layout : Layout) (front : FrontParts) (count : List ℕ) (b : List (List ℕ) × List ℕ) → list_all (are_marked (length layout)) b.0 ≡ false → after_bitmaps kind layout front count b ≡ Err PartialImage
+partial kind layout front count b e = rw e
+
+pub not_images : (kind : RowsKind) (layout : Layout) (front : FrontParts) (count : List ℕ) (b : List (List ℕ) × List ℕ) → list_all (are_marked (length layout)) b.0 ≡ true → option_map length (images_of layout b.1) ≡ None
+    → after_bitmaps kind layout front count b ≡ Err BadBody
+not_images kind layout front count b e f = by_case (images_of layout b.1) refl
+  where
+    by_case : (o : Option (List (List ℕ))) → images_of layout b.1 ≡ o → after_bitmaps kind layout front count b ≡ Err BadBody
+    by_case None h = rw (e, h)
+    by_case (Some images) h = none_is_not (length images) (sym f ∙ ap (option_map length) h)
+
+pub odd_images : (kind : RowsKind) (layout : Layout) (front : FrontParts) (count : List ℕ) (b : List (List ℕ) × List ℕ) (len : ℕ) → list_all (are_marked (length layout)) b.0 ≡ true → option_map length (images_of layout b.1) ≡ Some len
+    → eqb (len % images_a_row kind) 0 ≡ false → after_bitmaps kind layout front count b ≡ Err BadBody
+odd_images kind layout front count b len e f g =
+    let i : (images : List (List ℕ)) × (images_of layout b.1 ≡ Some images) × (length images ≡ len) = map_found length (images_of layout b.1) len f in
+    let own : eqb (length i.0 % images_a_row kind) 0 ≡ false = ap (λ (k : ℕ). eqb (k % images_a_row kind) 0) i.2 ∙ g in
+    rw (e, i.1, own)
+
+pub all_there : (kind : RowsKind) (layout : Layout) (front : FrontParts) (count : List ℕ) (b : List (List ℕ) × List ℕ) (len : ℕ) → list_all (are_marked (length layout)) b.0 ≡ true → option_map length (images_of layout b.1) ≡ Some len
+    → eqb (len % images_a_row kind) 0 ≡ true
+    → after_bitmaps kind layout front count b ≡ Ok (record { id = front.0; flags = front.1; extra_len = front.2; extra = front.3; count = count; bitmaps = b.0; images = unwrap_or (images_of layout b.1) [] })
+all_there kind layout front count b len e f g =
+    let i : (images : List (List ℕ)) × (images_of layout b.1 ≡ Some images) × (length images ≡ len) = map_found length (images_of layout b.1) len f in
+    let own : eqb (length i.0 % images_a_row kind) 0 ≡ true = ap (λ (k : ℕ). eqb (k % images_a_row kind) 0) i.2 ∙ g in
+    rw (e, i.1, own)
+
+-- ---- what the reading says
+
+pub event_found : (kind : RowsKind) (layout : Layout) (body : List ℕ) (r : Result told.RowsEvent RowFault) → 0 < length layout → rows_seen r ≡ rows_of kind layout body → IfOk r (λ event. IsRowsBody kind layout body (rows_body event))
+event_found kind layout body (Ok event) some e = rows_found kind layout body (rows_body event) (λ bytes images. (images_found layout bytes images, λ h. images_again layout bytes images some h.0 h.1)) (sym e)
+event_found kind layout body (Err fault) some e = tt
+
+pub event_only : (kind : RowsKind) (layout : Layout) (body : List ℕ) (r : Result told.RowsEvent RowFault) → 0 < length layout → rows_seen r ≡ rows_of kind layout body → (fields : RowsBody) → IsRowsBody kind layout body fields → rows_seen r ≡ Ok fields
+event_only kind layout body r some e fields is = e ∙ rows_again kind layout body fields (λ bytes images. (images_found layout bytes images, λ h. images_again layout bytes images some h.0 h.1)) is
+
+-- a layout has a column
+pub some_columns : (layout : columns.Layout) → 0 < length (layout_columns layout)
+some_columns layout = omega (arith, layout.some, length_of_columns layout.kinds.now layout.metadata.now)
+
+-- how long the id and the flags are
+pub front_lengths : (kind : RowsKind) (layout : Layout) (body : List ℕ) (fields : RowsBody) → 0 < length layout → rows_of kind layout body ≡ Ok fields → (length fields.id ≡ 6) × (length fields.flags ≡ 2)
+front_lengths kind layout body fields some e =
+    let h = rows_found kind layout body fields (λ bytes images. (images_found layout bytes images, λ h. images_again layout bytes images some h.0 h.1)) e in
+    (h.id_len, h.flags_len)
+
+-- bytes that are so many images are these, joined
+pub images_are_joined : (layout : Layout) (bytes : List ℕ) (len : ℕ) → option_map length (images_of layout bytes) ≡ Some len → bytes ≡ concat (unwrap_or (images_of layout bytes) [])
+images_are_joined layout bytes len e =
+    let i : (images : List (List ℕ)) × (images_of layout bytes ≡ Some images) × (length images ≡ len) = map_found length (images_of layout bytes) len e in
+    (images_found layout bytes i.0 i.1).1 ∙ ap (λ (o : Option (List (List ℕ))). concat (unwrap_or o [])) (sym i.1)

@@ -1,0 +1,14 @@
+use Rattle.std.proofs.Common.{◌≡◌, true, false, sym, arith}
+use Rattle.blog_row.specs.Image.{is_marked}
+use Rattle.blog_row.proofs.RowsCode.{not_marked, one_more_marked}
+use Rattle.blog_row.proofs.rows_parts.are_set.Goals as goal
+
+pub returns-then-not-is_set : goal.returns-then-not-is_set
+returns-then-not-is_set c =
+    let clear : is_marked c.args.bitmap.now c.loop-i.i ≡ false = cc in
+    sym (not_marked c.args.columns c.loop-i.i c.args.bitmap.now (omega arith) clear)
+
+pub loop-i-preserved : goal.loop-i-preserved
+loop-i-preserved c =
+    let set : is_marked c.args.bitmap.now c.loop-i.i ≡ true = cc in
+    one_more_marked c.loop-i.i c.args.bitmap.now c.loop-i.invariant set

@@ -1,0 +1,166 @@
+//! Rows events.
+
+ghost use Rattle.std.specs.Prelude.{◌≡◌, ◌%◌, ◌==◌, Some, length, option_map};
+ghost use Rattle.blog_row.specs.Image.{images_of, bitmap_len};
+ghost use Rattle.blog_row.specs.LayoutView.{layout_columns};
+
+use crate::fault::RowFault;
+use crate::kind::RowsKind;
+use crate::layout::Layout;
+use crate::packed::packed_at;
+use crate::rows_parts::{all_set, bitmaps_at, front_at, images_in};
+use byteorder::{ByteOrder, LittleEndian};
+
+/// The body of a rows event (MySQL Internals manual, "Rows_event").
+#[derive(Clone, Copy, Debug)]
+pub struct RowsEvent<'a> {
+    kind: RowsKind,
+    id: &'a [u8],
+    flags: &'a [u8],
+    extra_len: &'a [u8],
+    extra: &'a [u8],
+    count: &'a [u8],
+    first: &'a [u8],
+    second: &'a [u8],
+    images: &'a [u8],
+    layout: Layout<'a>,
+    len: usize,
+    pub ghost id_len: { length id.now ≡ 6 },
+    pub ghost flags_len: { length flags.now ≡ 2 },
+    pub ghost imaged: { option_map length (images_of (layout_columns layout) images.now) ≡ Some len },
+}
+
+impl<'a> RowsEvent<'a> {
+    ghost use Rattle.std.specs.Prelude.{List, ℕ, Ok, IfOk};
+    ghost use Rattle.std.specs.List.{concat};
+    ghost use Rattle.byteorder.specs.Endian.{little_number};
+    ghost use Rattle.blog_row.specs.RowsEvent.{RowsBody, IsRowsBody, rows_of};
+    ghost use Rattle.blog_row.specs.RowsEventView.{bitmaps_by, rows_body, rows_seen};
+
+    /// Reads a body by its kind and by the layout of its table, or gives the first check that fails: `PartialImage`
+    /// where a column isn't in the images, and otherwise `BadBody`.
+    pub fn read(
+        kind: RowsKind,
+        body: &'a [u8],
+        layout: &Layout<'a>,
+    ) -> Result<RowsEvent<'a>, RowFault>
+        ensures exact { rows_seen result ≡ rows_of kind (layout_columns layout.now) body.now }
+        ensures found { IfOk result (λ event. IsRowsBody kind (layout_columns layout.now) body.now (rows_body event)) }
+        ensures only { (fields : RowsBody) → IsRowsBody kind (layout_columns layout.now) body.now fields → rows_seen result ≡ Ok fields }
+    {
+        RowsEvent::at(kind, body, layout)
+    }
+
+    /// The event of a body, or the first check that fails.
+    fn at(kind: RowsKind, body: &'a [u8], layout: &Layout<'a>) -> Result<RowsEvent<'a>, RowFault>
+        ensures { rows_seen result ≡ rows_of kind (layout_columns layout.now) body.now }
+    {
+        let Some(front) = front_at(body) else {
+            return Err(RowFault::BadBody);
+        };
+        let Some(count) = packed_at(front.rest) else {
+            return Err(RowFault::BadBody);
+        };
+        let columns = layout.columns();
+        if count.value != columns as u64 {
+            return Err(RowFault::BadBody);
+        }
+        let Some(bitmaps) = bitmaps_at(kind, columns.div_ceil(8), count.rest) else {
+            return Err(RowFault::BadBody);
+        };
+        if !all_set(kind, bitmaps.first, bitmaps.second, columns) {
+            return Err(RowFault::PartialImage);
+        }
+        let Some(len) = images_in(layout, bitmaps.rest) else {
+            return Err(RowFault::BadBody);
+        };
+        if len % kind.images_a_row() != 0 {
+            return Err(RowFault::BadBody);
+        }
+        Ok(RowsEvent {
+            kind,
+            id: front.id,
+            flags: front.flags,
+            extra_len: front.extra_len,
+            extra: front.extra,
+            count: count.spelling,
+            first: bitmaps.first,
+            second: bitmaps.second,
+            images: bitmaps.rest,
+            layout: *layout,
+            len,
+        })
+    }
+
+    /// The table id, from 0 to 2^48 - 1: six bytes, the lowest first.
+    pub fn table_id(&self) -> u64
+        ensures { result ≡ little_number 6 (rows_body self.now).id }
+    {
+        LittleEndian::read_u48(self.id)
+    }
+
+    /// The flags.
+    pub fn flags(&self) -> u16
+        ensures { result ≡ little_number 2 (rows_body self.now).flags }
+    {
+        LittleEndian::read_u16(self.flags)
+    }
+
+    /// Whether the event is marked as the last rows event of its statement.
+    pub fn ends(&self) -> bool
+        ensures { result ≡ (little_number 2 (rows_body self.now).flags % 2 == 1) }
+    {
+        self.flags() % 2 == 1
+    }
+
+    /// The bytes of the packed column count.
+    pub fn count(&self) -> &'a [u8]
+        ensures { result.now ≡ (rows_body self.now).count }
+    {
+        self.count
+    }
+
+    /// The bitmaps of the columns present: that of the only image of a row or of the one before a change, and that of
+    /// the one after, which is empty where there is none.
+    pub fn bitmaps(&self) -> (&'a [u8], &'a [u8])
+        ensures { bitmaps_by self.now.kind result.0.now result.1.now ≡ (rows_body self.now).bitmaps }
+    {
+        (self.first, self.second)
+    }
+
+    /// The images of all rows, one after the other.
+    pub fn images(&self) -> &'a [u8]
+        ensures joined { result.now ≡ concat (rows_body self.now).images }
+        ensures read { images_of (layout_columns self.now.layout) result.now ≡ Some (rows_body self.now).images }
+    {
+        self.images
+    }
+
+    /// How many images there are.
+    pub fn images_len(&self) -> usize
+        ensures { result ≡ length (rows_body self.now).images }
+    {
+        self.len
+    }
+
+    /// How many bytes the images have together.
+    pub fn rows_len(&self) -> usize
+        ensures { result ≡ length (concat (rows_body self.now).images) }
+    {
+        self.images.len()
+    }
+
+    /// The columns of the table.
+    pub fn layout(&self) -> Layout<'a>
+        ensures { result ≡ self.now.layout }
+    {
+        self.layout
+    }
+
+    /// What the event does to its rows.
+    pub fn kind(&self) -> RowsKind
+        ensures { result ≡ self.now.kind }
+    {
+        self.kind
+    }
+}

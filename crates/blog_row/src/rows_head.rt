@@ -1,0 +1,61 @@
+//! The fixed part of a rows event's body.
+
+ghost use Rattle.std.specs.Prelude.{◌≡◌, ◌%◌, ◌==◌, length};
+
+use crate::fault::RowFault;
+use byteorder::{ByteOrder, LittleEndian};
+
+/// The ten bytes of the fixed part: id, flags, and the length of the extra bytes.
+const FIXED_LEN: usize = 10;
+
+/// The table id and the flags of a rows event (MySQL Internals manual, "Rows_event").
+#[derive(Clone, Copy, Debug, PartialEq, Eq)]
+pub struct RowsHead {
+    table: u64,
+    bits: u16,
+}
+
+impl RowsHead {
+    ghost use Rattle.std.specs.Prelude.{List, ℕ, Ok};
+    ghost use Rattle.blog_row.specs.RowsEvent.{has_end_flag, flags_of, table_id};
+    ghost use Rattle.byteorder.specs.Endian.{little_number};
+    ghost use Rattle.blog_row.specs.RowsEventView.{head_of};
+
+    /// Reads the table id and the flags: `BadBody` where the body is shorter than its fixed part of ten bytes.
+    pub fn read(body: &[u8]) -> Result<RowsHead, RowFault>
+        ensures { result ≡ head_of body.now }
+    {
+        if body.len() < FIXED_LEN {
+            return Err(RowFault::BadBody);
+        }
+        let (id, behind) = body.split_at(6);
+        Ok(RowsHead {
+            table: LittleEndian::read_u48(id),
+            bits: LittleEndian::read_u16(behind),
+        })
+    }
+
+    /// The table id, from 0 to 2^48 - 1: six bytes, the lowest first.
+    pub fn table_id(&self) -> u64
+        ensures own { result ≡ self.now.table }
+        ensures body { (body : List ℕ) → head_of body ≡ Ok self.now → result ≡ little_number 6 (table_id body) }
+    {
+        self.table
+    }
+
+    /// The flags.
+    pub fn flags(&self) -> u16
+        ensures own { result ≡ self.now.bits }
+        ensures body { (body : List ℕ) → head_of body ≡ Ok self.now → result ≡ flags_of body }
+    {
+        self.bits
+    }
+
+    /// Whether the event is marked as the last rows event of its statement.
+    pub fn ends(&self) -> bool
+        ensures own { result ≡ (self.now.bits % 2 == 1) }
+        ensures body { (body : List ℕ) → head_of body ≡ Ok self.now → result ≡ has_end_flag body }
+    {
+        self.bits % 2 == 1
+    }
+}
