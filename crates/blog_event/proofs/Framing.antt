@@ -75,7 +75,7 @@ text-parts : (time : List ℕ) (kind : ℕ) (server size pos flags body rest : L
 text-parts time kind server size pos flags body rest = simp append_assoc
 
 -- the event of bytes whose size field says `size`
-abbrev front_event : ℕ → List ℕ → Event
+abbrev pub front_event : ℕ → List ℕ → Event
 front_event size bytes = record {
   timestamp = little_number 4 bytes;
   kind = slice_index bytes 4;
@@ -123,14 +123,14 @@ event-again e rest h =
 -- ---- the events that bytes have
 
 -- bytes begin with the event that their size field tells
-record HasFront (bytes : List ℕ) (size : ℕ) : Type 0 where
+pub record HasFront (bytes : List ℕ) (size : ℕ) : Type 0 where
   pub is : little_number 4 (drop 9 bytes) ≡ size
   pub long : 19 ≤ length bytes
   pub enough : 19 ≤ size
   pub within : size ≤ length bytes
 
 -- an event that is read is the one at the front of the bytes
-event-at-gives : (bytes : List ℕ) (e : Event) → event_at bytes ≡ Some e
+pub event-at-gives : (bytes : List ℕ) (e : Event) → event_at bytes ≡ Some e
     → HasFront bytes (little_number 4 (drop 9 bytes)) × (front_event (little_number 4 (drop 9 bytes)) bytes ≡ e)
 unfolding event_at
 event-at-gives bytes e h =
@@ -164,7 +164,7 @@ parts-joined time server size pos flags body rest kind at_time at_server at_size
     rw (whole, six, five, four, three, two, one) refl
 
 -- an event is the text at the front of the bytes
-abbrev Stands : List ℕ → Event → Type 0
+abbrev pub Stands : List ℕ → Event → Type 0
 Stands bytes e = IsEvent e × (bytes ≡ event_text e ++ drop (event_size e) bytes) × (event_size e ≤ length bytes)
 
 -- the event that the size field tells is the text at the front
@@ -248,7 +248,7 @@ events-from-nothing (suc n) stop pos =
     ]
 
 -- events that stand one after another, each starting below the stop
-record StandFrom (stop : Option ℕ) (pos : ℕ) (bytes : List ℕ) (es : List Event) : Type 0 where
+pub record StandFrom (stop : Option ℕ) (pos : ℕ) (bytes : List ℕ) (es : List Event) : Type 0 where
   pub events : AllByRecursion IsEvent es
   pub texts : BeginsWith bytes (flat_map event_text es)
   pub starts : StartBelow stop (placed_from pos es)
@@ -286,7 +286,7 @@ stand-more stop pos bytes e es below front others = record {
 }
 
 -- no events stand anywhere
-stand-none : (stop : Option ℕ) (pos : ℕ) (bytes : List ℕ) → StandFrom stop pos bytes []
+pub stand-none : (stop : Option ℕ) (pos : ℕ) (bytes : List ℕ) → StandFrom stop pos bytes []
 stand-none stop pos bytes = record { events = tt; texts = (bytes, refl); starts = tt }
 
 -- the events that are read stand in the bytes
@@ -315,7 +315,7 @@ read-first bytes stop e mark found =
     rw (test, found) refl
 
 -- events that stand in a file are read, and then those that stand behind them
-read-further : (bytes : List ℕ) (stop : Option ℕ) (e : Event) (es : List Event) (rest : List ℕ) → bytes ≡ file_text (e ∷ es) ++ rest
+pub read-further : (bytes : List ℕ) (stop : Option ℕ) (e : Event) (es : List Event) (rest : List ℕ) → bytes ≡ file_text (e ∷ es) ++ rest
     → AllByRecursion IsEvent (e ∷ es) → StartBelow stop (placed_from (4 + event_size e) es)
     → (left : ℕ) × (read bytes stop ≡ (e ∷ es) ++ events_from left stop (end_of 4 (e ∷ es)) rest)
 read-further bytes stop e es rest is events starts =
@@ -342,11 +342,11 @@ read-again e es events =
     further.1 ∙ ap (λ (later : List Event). (e ∷ es) ++ later) (events-from-nothing further.0 None (end_of 4 (e ∷ es))) ∙ append-nil (e ∷ es)
 
 -- no events stand in any file
-front-none : (bytes : List ℕ) (stop : Option ℕ) → IsFront bytes stop []
+pub front-none : (bytes : List ℕ) (stop : Option ℕ) → IsFront bytes stop []
 front-none bytes stop = record { events = tt; file = λ some. absurd (omega arith); starts = tt }
 
 -- an event behind the magic number, and those that stand behind it
-front-more : (bytes : List ℕ) (stop : Option ℕ) (e : Event) (es : List Event) → take 4 bytes ≡ magic → Stands (drop 4 bytes) e
+pub front-more : (bytes : List ℕ) (stop : Option ℕ) (e : Event) (es : List Event) → take 4 bytes ≡ magic → Stands (drop 4 bytes) e
     → StandFrom stop (4 + event_size e) (drop (event_size e) (drop 4 bytes)) es → IsFront bytes stop (e ∷ es)
 front-more bytes stop e es mark first others =
     let behind : drop 4 bytes ≡ (event_text e ++ flat_map event_text es) ++ others.texts.0 =

@@ -1,15 +1,18 @@
 -- Opening a log: which of the checks of a file decides, from the first on.
-use Rattle.std.proofs.Common.{◌≡◌, ℕ, ◌^◌, ◌<◌, ◌≤◌, true, false, List, [], ◌∷◌, length, take, drop, bytes_eq, Option, Some, None, refl, ap}
-use Rattle.std.specs.Prelude.{nat_lt, Result, Ok, Err, IsErrAnd}
+use Rattle.std.proofs.Common.{◌≡◌, ℕ, ◌^◌, ◌<◌, ◌≤◌, Bool, true, false, List, [], ◌∷◌, length, take, drop, bytes_eq, Option, Some, None, refl, sym, ap, ◌∙◌}
+use Rattle.std.specs.Prelude.{nat_lt, is_some, Result, Ok, Err, IsErrAnd}
 use Rattle.std.specs.Result.{result_err}
-use Rattle.std.proofs.lemmas.Bool.{lt-ltb, le-ltb}
+use Rattle.std.specs.Option.{option_map_or}
+use Rattle.std.proofs.lemmas.Bool.{lt-ltb, le-ltb, ltb-true}
+use Rattle.std.proofs.lemmas.Option.{none-some}
+use Rattle.std.proofs.lemmas.Slice.Eq.{bytes_eq-Decides}
 use Rattle.blog_event.specs.declared.fault.Fault.{Fault}
 use Rattle.blog_event.specs.declared.fault.Fault.TheVariants.{NotABinlog, CutEvent, TooLong}
 use Rattle.blog_event.specs.Event.{Event, event_at}
-use Rattle.blog_event.specs.Fault.{first_failing, fault_at}
+use Rattle.blog_event.specs.Fault.{Cause, needs, first_failing, fault_at}
 use Rattle.blog_event.specs.File.{magic}
 use Rattle.blog_event.specs.Format.{format_fault}
-use Rattle.blog_event.specs.Opening.{opening_fault}
+use Rattle.blog_event.specs.Opening.{opening_fault, IsLog, OpensLogs}
 
 -- more bytes than a position reaches
 pub opening-long : (bytes : List ℕ) → 2 ^ 32 ≤ length bytes → opening_fault bytes ≡ Some (TooLong 0)
@@ -43,3 +46,46 @@ opening-format bytes e few mark found =
 pub err-said : {A : Type 0} (r : Result A Fault) (fault : Fault) → IsErrAnd r (λ said. said ≡ fault) → result_err r ≡ Some fault
 err-said (Ok x) fault h = absurd h
 err-said (Err said) fault h = ap Some h
+
+-- ---- what a log is that was opened
+
+-- two checks of a list that finds no fault
+none-failing : {A : Type 0} (check : Option A) (checks : List (Option A)) → first_failing (check ∷ checks) ≡ None → (check ≡ None) × (first_failing checks ≡ None)
+none-failing None checks none = (refl, none)
+none-failing (Some failure) checks none = absurd (none-some failure (sym none))
+
+-- a check that finds no fault
+none-at : (pos : ℕ) (test : Bool) (cause : Cause) → fault_at pos (needs test cause) ≡ None → test ≡ true
+none-at pos true cause none = refl
+none-at pos false cause none = absurd (none-some (cause pos) (sym none))
+
+-- the same of a check that names its cause
+none-caused : (pos : ℕ) (check : Option Cause) → fault_at pos check ≡ None → check ≡ None
+none-caused pos None none = refl
+none-caused pos (Some cause) none = absurd (none-some (cause pos) (sym none))
+
+-- the event that is there
+first-there : (bytes : List ℕ) (found : Option Event) → event_at (drop 4 bytes) ≡ found → length bytes < 2 ^ 32 → take 4 bytes ≡ magic
+    → is_some found ≡ true → option_map_or format_fault found None ≡ None → (first : Event) × IsLog bytes first
+first-there bytes None stands short mark some accepted = absurd (cc)
+first-there bytes (Some e) stands short mark some accepted = (e, record { short = short; mark = mark; stands = stands; accepted = accepted })
+
+-- a log that was opened has its parts
+pub opened-log : (bytes : List ℕ) → opening_fault bytes ≡ None → (first : Event) × IsLog bytes first
+unfolding opening_fault
+opened-log bytes opened =
+    let first : Option Event = event_at (drop 4 bytes) in
+    let one = none-failing _ _ opened in
+    let two = none-failing _ _ one.1 in
+    let three = none-failing _ _ two.1 in
+    let four = none-failing _ _ three.1 in
+    first-there bytes first refl (ltb-true (length bytes) (2 ^ 32) (none-at 0 _ TooLong one.0))
+    ((bytes_eq-Decides (take 4 bytes) magic).0 (none-at 0 _ NotABinlog two.0)) (none-at 4 _ CutEvent three.0) (none-caused 4 _ four.0)
+
+-- and bytes that have them are opened
+pub opens-log : (bytes : List ℕ) (first : Event) → IsLog bytes first → opening_fault bytes ≡ None
+opens-log bytes first log =
+    opening-format bytes first log.short ((bytes_eq-Decides (take 4 bytes) magic).1 log.mark) log.stands ∙ ap (fault_at 4) log.accepted
+
+pub opens-logs : (bytes : List ℕ) → OpensLogs bytes
+opens-logs bytes = record { opened = opened-log bytes; opens = opens-log bytes }

@@ -1,9 +1,9 @@
 -- Opening a log: the checks of a file as far as its first event.
-use Rattle.std.specs.Prelude.{ℕ, ◌^◌, List, [], ◌∷◌, length, take, drop, nat_lt, bytes_eq, is_some, Option, None}
+use Rattle.std.specs.Prelude.{◌≡◌, ℕ, ◌<◌, ◌^◌, List, [], ◌∷◌, length, take, drop, nat_lt, bytes_eq, is_some, Option, Some, None}
 use Rattle.std.specs.Option.{option_map_or}
 use Rattle.blog_event.specs.declared.fault.Fault.{Fault}
 use Rattle.blog_event.specs.declared.fault.Fault.TheVariants.{NotABinlog, CutEvent, TooLong}
-use Rattle.blog_event.specs.Event.{event_at}
+use Rattle.blog_event.specs.Event.{Event, event_at}
 use Rattle.blog_event.specs.Fault.{needs, first_failing, fault_at}
 use Rattle.blog_event.specs.File.{magic}
 use Rattle.blog_event.specs.Format.{format_fault}
@@ -18,3 +18,15 @@ opening_fault bytes =
     ∷ fault_at 4 (needs (is_some first) CutEvent)
     ∷ fault_at 4 (option_map_or format_fault first None)
     ∷ [])
+
+-- bytes that are a log of this profile, by the event behind the mark
+pub record IsLog (bytes : List ℕ) (first : Event) : Type 0 where
+  pub short : length bytes < 2 ^ 32
+  pub mark : take 4 bytes ≡ magic
+  pub stands : event_at (drop 4 bytes) ≡ Some first
+  pub accepted : format_fault first ≡ None
+
+-- opening finds no fault of bytes that are such a log, and of no others
+pub record OpensLogs (bytes : List ℕ) : Type 0 where
+  pub opened : opening_fault bytes ≡ None → (first : Event) × IsLog bytes first
+  pub opens : (first : Event) → IsLog bytes first → opening_fault bytes ≡ None

@@ -1,7 +1,9 @@
 //! Why a log is refused.
 
 ghost use Rattle.std.specs.Prelude.{◌≡◌};
+ghost use Rattle.blog_event.specs.declared.fault.Fault.TheVariants.{OutOfMemory};
 
+use std::alloc::{AllocError, AllocFailed};
 use thiserror::Error;
 
 /// Why a log is refused. Each fault but the last has a byte position `pos` from the file's start:
@@ -23,7 +25,7 @@ pub enum Fault {
     /// The checksum algorithm isn't 0; at 4.
     #[error("Checksums at {pos}")]
     Checksums { pos: u32 },
-    /// The start position is no event's start and not the file's end; at the start position.
+    /// The start position lies below the stop, and is no event's start and not the file's end; at the start position.
     #[error("NoEventAt at {pos}")]
     NoEventAt { pos: u32 },
     /// A change written as a statement, or a schema change.
@@ -63,6 +65,23 @@ pub enum Fault {
     /// A growth was refused.
     #[error("OutOfMemory")]
     OutOfMemory,
+}
+
+// Written by hand, so that clauses know which fault a `?` makes.
+impl From<AllocError> for Fault {
+    ghost from_gives = { λ _ fault. fault ≡ OutOfMemory };
+
+    fn from(_refused: AllocError) -> Fault {
+        Fault::OutOfMemory
+    }
+}
+
+impl<T: Drop> From<AllocFailed<T>> for Fault {
+    ghost from_gives = { λ _ fault. fault ≡ OutOfMemory };
+
+    fn from(_refused: AllocFailed<T>) -> Fault {
+        Fault::OutOfMemory
+    }
 }
 
 impl Fault {

@@ -69,6 +69,7 @@ impl<'a> Log<'a> {
         ensures pos { result.pos ≡ 4 }
         ensures size { result.header.size ≡ event_size (event_of result) }
         ensures accepted { format_fault (event_of result) ≡ None }
+        ensures opened { opening_fault (log_bytes self.now) ≡ None }
     {
         self.format
     }

@@ -53,9 +53,7 @@ fn put_header<A: Allocator>(
     ensures capacity { vec_capacity out.old ≤ vec_capacity out.new }
 {
     let size = HEADER_LEN + body_len;
-    if out.reserve(size).is_err() {
-        return Err(Fault::OutOfMemory);
-    }
+    out.reserve(size)?;
     let bytes = header_bytes(Header {
         size: size as u32,
         log_pos: (out.len() + size) as u32,
