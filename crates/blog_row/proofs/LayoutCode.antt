@@ -202,7 +202,7 @@ whole_metadata bytes types behind metadata last r = sym (metadata_found (metadat
 -- ---- a layout that is known to be there
 
 -- a reading that gives a value gives some value
-ok_there : {A P : Type 0} (r : Result A RowFault) → is_ok r ≡ true → ((x : A) → r ≡ Ok x → P) → P
+pub ok_there : {A P : Type 0} (r : Result A RowFault) → is_ok r ≡ true → ((x : A) → r ≡ Ok x → P) → P
 ok_there (Ok x) e k = k x refl
 ok_there (Err fault) e k = absurd (cc)
 

@@ -9,6 +9,10 @@ pub mod PackedCode
 pub mod NamesCode
 pub mod TypeBytes
 pub mod Walking
+pub mod ValueWalking
 pub mod LayoutCode
 pub mod TableMapCode
 pub mod RowsCode
+pub mod Reversing
+pub mod KnownRows
+pub mod RowsWalking

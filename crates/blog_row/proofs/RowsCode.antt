@@ -1,5 +1,5 @@
 -- How the code reads the body of a rows event: part by part.
-use Rattle.std.proofs.Common.{◌≡◌, ◌+◌, ◌-◌, ◌%◌, ◌<◌, ◌≤◌, ℕ, zero, suc, Bool, true, false, cond, eqb, leb, List, [], ◌∷◌, ◌++◌, length, take, drop, Option, Some, None, option_and_then, option_map, unwrap_or, Result, Ok, Err, refl, sym, ap, ◌∙◌, arith, length-append, drop_at}
+use Rattle.std.proofs.Common.{◌≡◌, ◌+◌, ◌-◌, ◌%◌, ◌<◌, ◌≤◌, ℕ, zero, suc, Bool, true, false, cond, eqb, leb, List, [], ◌∷◌, ◌++◌, length, take, drop, Option, Some, None, option_and_then, option_map, unwrap_or, is_some, Result, Ok, Err, refl, sym, ap, ◌∙◌, arith, length-append, drop_at}
 use Rattle.std.specs.Result.{IfOk}
 use Rattle.std.specs.List.{list_all, concat}
 use Rattle.std.proofs.lemmas.Bool.{and_from}
@@ -16,7 +16,7 @@ use Rattle.blog_row.specs.Packed.{packed_front}
 use Rattle.blog_row.specs.Column.{Layout}
 use Rattle.blog_row.specs.Image.{Row, bitmap_len, is_marked, IsImage, image_front, image_len_of, images_up_to, images_of}
 use Rattle.blog_row.specs.RowsEvent.{RowsBody, IsRowsBody, are_marked, pieces, rows_of}
-use Rattle.blog_row.specs.RowsEventView.{FrontParts, extra_front, rows_front, rows_body, rows_seen}
+use Rattle.blog_row.specs.RowsEventView.{FrontParts, extra_front, rows_front, rows_body, counted_seen}
 use Rattle.blog_row.proofs.Cutting.{none_is_not, map_found}
 use Rattle.blog_row.proofs.NamesCode.{then_of, nothing_then}
 use Rattle.blog_row.proofs.Images.{image_found, image_positive, images_found, images_again}
@@ -259,11 +259,11 @@ all_there kind layout front count b len e f g =
 
 -- ---- what the reading says
 
-pub event_found : (kind : RowsKind) (layout : Layout) (body : List ℕ) (r : Result told.RowsEvent RowFault) → 0 < length layout → rows_seen r ≡ rows_of kind layout body → IfOk r (λ event. IsRowsBody kind layout body (rows_body event))
-event_found kind layout body (Ok event) some e = rows_found kind layout body (rows_body event) (λ bytes images. (images_found layout bytes images, λ h. images_again layout bytes images some h.0 h.1)) (sym e)
+pub event_found : (kind : RowsKind) (layout : Layout) (body : List ℕ) (r : Result (told.RowsEvent × ℕ) RowFault) → 0 < length layout → counted_seen r ≡ rows_of kind layout body → IfOk r (λ read. IsRowsBody kind layout body (rows_body read.0))
+event_found kind layout body (Ok read) some e = rows_found kind layout body (rows_body read.0) (λ bytes images. (images_found layout bytes images, λ h. images_again layout bytes images some h.0 h.1)) (sym e)
 event_found kind layout body (Err fault) some e = tt
 
-pub event_only : (kind : RowsKind) (layout : Layout) (body : List ℕ) (r : Result told.RowsEvent RowFault) → 0 < length layout → rows_seen r ≡ rows_of kind layout body → (fields : RowsBody) → IsRowsBody kind layout body fields → rows_seen r ≡ Ok fields
+pub event_only : (kind : RowsKind) (layout : Layout) (body : List ℕ) (r : Result (told.RowsEvent × ℕ) RowFault) → 0 < length layout → counted_seen r ≡ rows_of kind layout body → (fields : RowsBody) → IsRowsBody kind layout body fields → counted_seen r ≡ Ok fields
 event_only kind layout body r some e fields is = e ∙ rows_again kind layout body fields (λ bytes images. (images_found layout bytes images, λ h. images_again layout bytes images some h.0 h.1)) is
 
 -- a layout has a column
@@ -276,8 +276,15 @@ front_lengths kind layout body fields some e =
     let h = rows_found kind layout body fields (λ bytes images. (images_found layout bytes images, λ h. images_again layout bytes images some h.0 h.1)) e in
     (h.id_len, h.flags_len)
 
--- bytes that are so many images are these, joined
-pub images_are_joined : (layout : Layout) (bytes : List ℕ) (len : ℕ) → option_map length (images_of layout bytes) ≡ Some len → bytes ≡ concat (unwrap_or (images_of layout bytes) [])
-images_are_joined layout bytes len e =
-    let i : (images : List (List ℕ)) × (images_of layout bytes ≡ Some images) × (length images ≡ len) = map_found length (images_of layout bytes) len e in
-    (images_found layout bytes i.0 i.1).1 ∙ ap (λ (o : Option (List (List ℕ))). concat (unwrap_or o [])) (sym i.1)
+-- bytes that are images are these, joined
+pub images_are_joined : (layout : Layout) (bytes : List ℕ) → is_some (images_of layout bytes) ≡ true → bytes ≡ concat (unwrap_or (images_of layout bytes) [])
+images_are_joined layout bytes are = by_case (images_of layout bytes) refl are
+  where
+    by_case : (o : Option (List (List ℕ))) → images_of layout bytes ≡ o → is_some o ≡ true → bytes ≡ concat (unwrap_or o [])
+    by_case None e some = absurd (cc)
+    by_case (Some images) e some = (images_found layout bytes images e).1
+
+-- images that were counted are there
+pub counted_are_there : (o : Option (List (List ℕ))) (len : ℕ) → option_map length o ≡ Some len → is_some o ≡ true
+counted_are_there None len e = none_is_not len e
+counted_are_there (Some images) len e = refl

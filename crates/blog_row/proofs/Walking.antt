@@ -44,13 +44,13 @@ other_done (v ∷ done) value zero h = refl
 other_done (v ∷ done) value (suc k) h = other_done done value k (λ e. h (ap suc e))
 
 -- the values where the first is NULL
-first_null : (column : Column) (columns : Layout) (nulls : List ℕ) (i : ℕ) (bytes : List ℕ) → is_marked nulls i ≡ true
+pub first_null : (column : Column) (columns : Layout) (nulls : List ℕ) (i : ℕ) (bytes : List ℕ) → is_marked nulls i ≡ true
     → values_front (column ∷ columns) nulls i bytes ≡ option_map (with_first None) (values_front columns nulls (i + 1) bytes)
 unfolding values_front
 first_null column columns nulls i bytes marked = cond-true (is_marked nulls i) _ _ marked
 
 -- the values where the first is there
-first_there : (column : Column) (columns : Layout) (nulls : List ℕ) (i : ℕ) (bytes : List ℕ) → is_marked nulls i ≡ false
+pub first_there : (column : Column) (columns : Layout) (nulls : List ℕ) (i : ℕ) (bytes : List ℕ) → is_marked nulls i ≡ false
     → values_front (column ∷ columns) nulls i bytes ≡ option_and_then (λ v. option_map (with_first (Some v.0)) (values_front columns nulls (i + 1) v.1)) (value_front column bytes)
 unfolding values_front
 first_there column columns nulls i bytes marked = cond-false (is_marked nulls i) _ _ marked

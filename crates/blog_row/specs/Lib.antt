@@ -16,3 +16,5 @@ pub mod ColumnStep
 pub mod LayoutReading
 pub mod TableMapView
 pub mod RowsEventView
+pub mod RowsView
+pub mod ValuesView

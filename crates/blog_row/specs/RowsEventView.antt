@@ -68,3 +68,8 @@ rows_body event = record {
 abbrev pub rows_seen : Result told.RowsEvent RowFault → Result RowsBody RowFault
 rows_seen (Ok event) = Ok (rows_body event)
 rows_seen (Err fault) = Err fault
+
+-- the same of the fields that were read beside the number of their images
+abbrev pub counted_seen : Result (told.RowsEvent × ℕ) RowFault → Result RowsBody RowFault
+counted_seen (Ok read) = Ok (rows_body read.0)
+counted_seen (Err fault) = Err fault

@@ -60,7 +60,7 @@ fn length_of(prefix: Prefix, count: &[u8]) -> usize
 
 /// The value that is stored at the front, and the bytes behind it.
 #[inline(always)]
-fn stored_at(storage: Storage, bytes: &[u8]) -> Option<(&[u8], &[u8])>
+pub(crate) fn stored_at(storage: Storage, bytes: &[u8]) -> Option<(&[u8], &[u8])>
     ensures { option_map cut_seen result ≡ value_stored (storage_seen storage) bytes.now }
 {
     match storage {

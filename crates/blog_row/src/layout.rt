@@ -10,6 +10,7 @@ use crate::layout_parts::{metadata_at, types_at};
 use crate::names::names_at;
 use crate::packed::packed_at;
 use crate::types::{are_columns, metadata_len_of_all};
+use crate::values::Values;
 
 /// The columns of a table, 1 to 4,096 of them: the types and the metadata bytes of its table map
 /// (MySQL Internals manual, "Table_map_event").
@@ -66,6 +67,8 @@ impl Layout<'_> {
 
 impl<'a> Layout<'a> {
     ghost use Rattle.std.specs.Prelude.{IsOk};
+    ghost use Rattle.blog_row.specs.Image.{row_of};
+    ghost use Rattle.blog_row.specs.ValuesView.{values_left};
     ghost use Rattle.blog_row.specs.LayoutView.{layout_columns};
     ghost use Rattle.blog_row.specs.TableMap.{layout_of};
     ghost use Rattle.blog_row.specs.LayoutReading.{layout_seen, layout_behind};
@@ -118,5 +121,17 @@ impl<'a> Layout<'a> {
             unreachable!();
         };
         Layout::known_at(names.rest)
+    }
+
+    /// The values of the image with which the bytes begin, in the order of the columns; none where they begin with no
+    /// image. Each byte of the image is read twice, however many columns there are.
+    pub fn values<'b>(&self, image: &'b [u8]) -> Values<'a, 'b>
+        ensures values { values_left result ≡ row_of (layout_columns self.now) image.now }
+        ensures few { length (values_left result) ≤ 4096 }
+    {
+        if self.image_len(image).is_none() {
+            return Values::none();
+        }
+        Values::of(self.kinds, self.metadata, image)
     }
 }

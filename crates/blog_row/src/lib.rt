@@ -11,11 +11,14 @@ mod layout;
 mod layout_parts;
 mod names;
 mod packed;
+mod reversal;
+mod rows;
 mod rows_event;
 mod rows_head;
 mod rows_parts;
 mod table_map;
 mod types;
+mod values;
 
 pub use fault::RowFault;
 pub use kind::RowsKind;
@@ -23,11 +26,17 @@ pub use laws::{images_stand_alone, reading_is_exact};
 pub use layout::Layout;
 pub use names::{Names, names_at};
 pub use packed::{Packed, packed_at};
+pub use rows::{RowChange, Rows};
 pub use rows_event::RowsEvent;
 pub use rows_head::RowsHead;
 pub use table_map::TableMap;
+pub use values::Values;
 
 #[cfg(test)]
 mod image_tests;
+#[cfg(test)]
+mod reversal_tests;
+#[cfg(test)]
+mod rows_tests;
 #[cfg(test)]
 mod tests;

@@ -1,6 +1,6 @@
 //! Rows events.
 
-ghost use Rattle.std.specs.Prelude.{◌≡◌, ◌%◌, ◌==◌, Some, length, option_map};
+ghost use Rattle.std.specs.Prelude.{◌≡◌, ◌%◌, ◌==◌, Some, length, is_some, true};
 ghost use Rattle.blog_row.specs.Image.{images_of, bitmap_len};
 ghost use Rattle.blog_row.specs.LayoutView.{layout_columns};
 
@@ -24,18 +24,17 @@ pub struct RowsEvent<'a> {
     second: &'a [u8],
     images: &'a [u8],
     layout: Layout<'a>,
-    len: usize,
     pub ghost id_len: { length id.now ≡ 6 },
     pub ghost flags_len: { length flags.now ≡ 2 },
-    pub ghost imaged: { option_map length (images_of (layout_columns layout) images.now) ≡ Some len },
+    pub ghost imaged: { is_some (images_of (layout_columns layout) images.now) ≡ true },
 }
 
 impl<'a> RowsEvent<'a> {
-    ghost use Rattle.std.specs.Prelude.{List, ℕ, Ok, IfOk};
+    ghost use Rattle.std.specs.Prelude.{List, ℕ, Ok, IfOk, IsOk};
     ghost use Rattle.std.specs.List.{concat};
     ghost use Rattle.byteorder.specs.Endian.{little_number};
     ghost use Rattle.blog_row.specs.RowsEvent.{RowsBody, IsRowsBody, rows_of};
-    ghost use Rattle.blog_row.specs.RowsEventView.{bitmaps_by, rows_body, rows_seen};
+    ghost use Rattle.blog_row.specs.RowsEventView.{bitmaps_by, rows_body, rows_seen, counted_seen};
 
     /// Reads a body by its kind and by the layout of its table, or gives the first check that fails: `PartialImage`
     /// where a column isn't in the images, and otherwise `BadBody`.
@@ -47,13 +46,39 @@ impl<'a> RowsEvent<'a> {
         ensures exact { rows_seen result ≡ rows_of kind (layout_columns layout.now) body.now }
         ensures found { IfOk result (λ event. IsRowsBody kind (layout_columns layout.now) body.now (rows_body event)) }
         ensures only { (fields : RowsBody) → IsRowsBody kind (layout_columns layout.now) body.now fields → rows_seen result ≡ Ok fields }
+        ensures of_kind { IfOk result (λ event. event.kind ≡ kind) }
+        ensures of_layout { IfOk result (λ event. event.layout ≡ layout.now) }
+    {
+        let (event, _) = RowsEvent::read_counted(kind, body, layout)?;
+        Ok(event)
+    }
+
+    /// Reads a body as `read` does; beside the event it answers how many images that has.
+    pub fn read_counted(
+        kind: RowsKind,
+        body: &'a [u8],
+        layout: &Layout<'a>,
+    ) -> Result<(RowsEvent<'a>, usize), RowFault>
+        ensures exact { counted_seen result ≡ rows_of kind (layout_columns layout.now) body.now }
+        ensures counted { IfOk result (λ read. read.1 ≡ length (rows_body read.0).images) }
+        ensures of_kind { IfOk result (λ read. read.0.kind ≡ kind) }
+        ensures of_layout { IfOk result (λ read. read.0.layout ≡ layout.now) }
+        ensures found { IfOk result (λ read. IsRowsBody kind (layout_columns layout.now) body.now (rows_body read.0)) }
+        ensures only { (fields : RowsBody) → IsRowsBody kind (layout_columns layout.now) body.now fields → counted_seen result ≡ Ok fields }
     {
         RowsEvent::at(kind, body, layout)
     }
 
-    /// The event of a body, or the first check that fails.
-    fn at(kind: RowsKind, body: &'a [u8], layout: &Layout<'a>) -> Result<RowsEvent<'a>, RowFault>
-        ensures { rows_seen result ≡ rows_of kind (layout_columns layout.now) body.now }
+    /// The event of a body with the number of its images, or the first check that fails.
+    fn at(
+        kind: RowsKind,
+        body: &'a [u8],
+        layout: &Layout<'a>,
+    ) -> Result<(RowsEvent<'a>, usize), RowFault>
+        ensures exact { counted_seen result ≡ rows_of kind (layout_columns layout.now) body.now }
+        ensures counted { IfOk result (λ read. read.1 ≡ length (rows_body read.0).images) }
+        ensures of_kind { IfOk result (λ read. read.0.kind ≡ kind) }
+        ensures of_layout { IfOk result (λ read. read.0.layout ≡ layout.now) }
     {
         let Some(front) = front_at(body) else {
             return Err(RowFault::BadBody);
@@ -77,7 +102,7 @@ impl<'a> RowsEvent<'a> {
         if len % kind.images_a_row() != 0 {
             return Err(RowFault::BadBody);
         }
-        Ok(RowsEvent {
+        let event = RowsEvent {
             kind,
             id: front.id,
             flags: front.flags,
@@ -88,8 +113,40 @@ impl<'a> RowsEvent<'a> {
             second: bitmaps.second,
             images: bitmaps.rest,
             layout: *layout,
-            len,
-        })
+        };
+        Ok((event, len))
+    }
+
+    /// The event of a body, where it is known that reading gives one. The images are not read again: it takes as long
+    /// for many rows as for few.
+    pub fn known(kind: RowsKind, body: &'a [u8], layout: &Layout<'a>) -> RowsEvent<'a>
+        requires { IsOk (rows_of kind (layout_columns layout.now) body.now) }
+        ensures body { rows_of kind (layout_columns layout.now) body.now ≡ Ok (rows_body result) }
+        ensures of_kind { result.kind ≡ kind }
+        ensures of_layout { result.layout ≡ layout.now }
+    {
+        let Some(front) = front_at(body) else {
+            unreachable!();
+        };
+        let Some(count) = packed_at(front.rest) else {
+            unreachable!();
+        };
+        let len = layout.columns().div_ceil(8);
+        let Some(bitmaps) = bitmaps_at(kind, len, count.rest) else {
+            unreachable!();
+        };
+        RowsEvent {
+            kind,
+            id: front.id,
+            flags: front.flags,
+            extra_len: front.extra_len,
+            extra: front.extra,
+            count: count.spelling,
+            first: bitmaps.first,
+            second: bitmaps.second,
+            images: bitmaps.rest,
+            layout: *layout,
+        }
     }
 
     /// The table id, from 0 to 2^48 - 1: six bytes, the lowest first.
@@ -134,13 +191,6 @@ impl<'a> RowsEvent<'a> {
         ensures read { images_of (layout_columns self.now.layout) result.now ≡ Some (rows_body self.now).images }
     {
         self.images
-    }
-
-    /// How many images there are.
-    pub fn images_len(&self) -> usize
-        ensures { result ≡ length (rows_body self.now).images }
-    {
-        self.len
     }
 
     /// How many bytes the images have together.

@@ -1,6 +1,7 @@
 //! Layouts and table maps of the format's own bytes.
 
 use super::*;
+use std::test::Fail;
 
 #[test]
 fn reads_or_refuses_layouts(rt: HostRuntime) {
@@ -46,4 +47,50 @@ fn reads_a_table_map(rt: HostRuntime) {
     let other = TableMap::read(narrower).expect(&rt, "names");
     assert!(rt; !layout.same(&other.layout().expect(&rt, "a layout")));
     assert!(rt; TableMap::read(&body[..14]).is_err());
+    assert_eq!(rt; TableMap::known(body).id(), 0x16C);
+    assert!(rt; Layout::known(body).same(&layout));
+}
+
+#[test]
+fn refuses_bodies_without_names(rt: HostRuntime) {
+    let cases: [(&[u8], bool); 9] = [
+        (b"\x01\0\0\0\0\0\x01\0\x01d\0\x01t\0", true),
+        (b"\x01\0\0\0\0\0\x01\0\0\0\0\0", true),
+        (b"\x01\0\0\0\0\0\x01\0\x01d\x01\x01t\0", false),
+        (b"\x01\0\0\0\0\0\x01\0\x01d\0\x01t\x01", false),
+        (b"\x01\0\0\0\0\0\x01\0\x01d\0\x01t", false),
+        (b"\x01\0\0\0\0\0\x01\0\x05d\0\x01t\0", false),
+        (b"\x01\0\0\0\0\0\x01\0", false),
+        (b"\x01\0\0\0\0\0\x01", false),
+        (b"", false),
+    ];
+    for (body, named) in cases {
+        let refused = TableMap::read(body).err();
+        let want = if named { None } else { Some(RowFault::BadBody) };
+        assert_eq!(rt; refused, want, "at {body:?}");
+    }
+}
+
+#[test]
+fn reads_the_most_columns(rt: HostRuntime) -> Result<(), Fail> {
+    // 4,096 columns of VARCHAR up to 255 bytes, of which only the last is not NULL.
+    let mut table = vec![in rt.alloc(); 0xFC, 0x00, 0x10]?;
+    table.extend_from_slice(&[15; 4096])?;
+    table.extend_from_slice(&[0xFC, 0x00, 0x20])?;
+    for _ in 0..4096 {
+        table.extend_from_slice(&[0xFF, 0x00])?;
+    }
+    table.extend_from_slice(&[0; 511])?;
+    assert_eq!(rt; Layout::at(&table).err(), Some(RowFault::BadBody));
+    table.push(0)?;
+    let layout = Layout::at(&table).expect(&rt, "a layout");
+    assert_eq!(rt; layout.columns(), 4096);
+
+    let mut image = vec![in rt.alloc(); 0xFF; 511]?;
+    image.extend_from_slice(b"\x7F\x02ab")?;
+    assert_eq!(rt; layout.image_len(&image), Some(515));
+    assert_eq!(rt; layout.value(&image, 4094), Some(None));
+    assert_eq!(rt; layout.value(&image, 4095), Some(Some(b"ab".as_slice())));
+    assert_eq!(rt; layout.value(&image, 4096), None);
+    Ok(())
 }

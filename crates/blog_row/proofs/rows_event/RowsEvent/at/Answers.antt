@@ -9,14 +9,14 @@ use Rattle.blog_row.specs.RowsEvent.{are_marked, pieces, rows_of}
 use Rattle.blog_row.specs.LayoutView.{layout_columns}
 use Rattle.blog_row.specs.RowsEventView.{FrontParts, front_seen, rows_front, bitmaps_seen}
 use Rattle.blog_row.proofs.Walking.{rounded_up}
-use Rattle.blog_row.proofs.RowsCode.{Counted, after_bitmaps, no_front, no_count, other_count, no_bitmaps, bitmaps_there, partial, not_images, odd_images, all_there, some_columns, front_lengths}
+use Rattle.blog_row.proofs.RowsCode.{Counted, after_bitmaps, no_front, no_count, other_count, no_bitmaps, bitmaps_there, partial, not_images, odd_images, all_there, counted_are_there, some_columns, front_lengths}
 use Rattle.blog_row.proofs.rows_event.RowsEvent.at.Goals as goal
 
-pub returns-in_default : goal.returns-in_default
-returns-in_default c = sym (no_front _ _ _ (sym c.in_default.ensures))
+pub returns-in_default-clause-exact : goal.returns-in_default-clause-exact
+returns-in_default-clause-exact c = sym (no_front _ _ _ (sym c.in_default.ensures))
 
-pub returns-in_default-packed_at : goal.returns-in_default-packed_at
-returns-in_default-packed_at c =
+pub returns-in_default-packed_at-clause-exact : goal.returns-in_default-packed_at-clause-exact
+returns-in_default-packed_at-clause-exact c =
     let kind = c.args.kind in
     let layout = layout_columns c.args.layout.now in
     let body = c.args.body.now in
@@ -24,8 +24,8 @@ returns-in_default-packed_at c =
     let front_is : rows_front body ≡ Some front = sym c.in-Some.ensures in
     sym (no_count kind layout body front front_is (sym c.in_default-packed_at.ensures))
 
-pub returns-then-count-columns : goal.returns-then-count-columns
-returns-then-count-columns c =
+pub returns-then-count-columns-clause-exact : goal.returns-then-count-columns-clause-exact
+returns-then-count-columns-clause-exact c =
     let kind = c.args.kind in
     let layout = layout_columns c.args.layout.now in
     let body = c.args.body.now in
@@ -35,8 +35,8 @@ returns-then-count-columns c =
     let count_is : packed_front front.4 ≡ Some count = sym c.in-Some-packed_at.ensures in
     sym (other_count kind layout body front count front_is count_is (ap (λ (k : ℕ). eqb count.0 k) (sym c.columns-columns.ensures) ∙ ne_eqb _ _ c.if-count-columns.true))
 
-pub returns-in_default-bitmaps_at : goal.returns-in_default-bitmaps_at
-returns-in_default-bitmaps_at c =
+pub returns-in_default-bitmaps_at-clause-exact : goal.returns-in_default-bitmaps_at-clause-exact
+returns-in_default-bitmaps_at-clause-exact c =
     let kind = c.args.kind in
     let layout = layout_columns c.args.layout.now in
     let body = c.args.body.now in
@@ -48,8 +48,8 @@ returns-in_default-bitmaps_at c =
     let len : bitmap_len (length layout) ≡ c.div_ceil.result = ap bitmap_len (sym c.columns-columns.ensures) ∙ sym (c.div_ceil.ensures ∙ rounded_up _) in
     sym (no_bitmaps kind layout body front count counted (ap (λ (k : ℕ). pieces (images_a_row kind) k count.2) len ∙ sym c.in_default-bitmaps_at.ensures))
 
-pub returns-then-not-all_set : goal.returns-then-not-all_set
-returns-then-not-all_set c =
+pub returns-then-not-all_set-clause-exact : goal.returns-then-not-all_set-clause-exact
+returns-then-not-all_set-clause-exact c =
     let kind = c.args.kind in
     let layout = layout_columns c.args.layout.now in
     let body = c.args.body.now in
@@ -64,8 +64,8 @@ returns-then-not-all_set c =
     let marked : list_all (are_marked (length layout)) bitmaps.0 ≡ false = ap (λ (k : ℕ). list_all (are_marked k) bitmaps.0) (sym c.columns-columns.ensures) ∙ sym c.if-not-all_set.ensures in
     sym (bitmaps_is ∙ partial kind layout front count.1 bitmaps marked)
 
-pub returns-in_default-images_in : goal.returns-in_default-images_in
-returns-in_default-images_in c =
+pub returns-in_default-images_in-clause-exact : goal.returns-in_default-images_in-clause-exact
+returns-in_default-images_in-clause-exact c =
     let kind = c.args.kind in
     let layout = layout_columns c.args.layout.now in
     let body = c.args.body.now in
@@ -80,8 +80,8 @@ returns-in_default-images_in c =
     let marked : list_all (are_marked (length layout)) bitmaps.0 ≡ true = ap (λ (k : ℕ). list_all (are_marked k) bitmaps.0) (sym c.columns-columns.ensures) ∙ sym c.if-not-all_set.ensures in
     sym (bitmaps_is ∙ not_images kind layout front count.1 bitmaps marked (sym c.in_default-images_in.ensures))
 
-pub returns-then-len-images_a_row-ne0 : goal.returns-then-len-images_a_row-ne0
-returns-then-len-images_a_row-ne0 c =
+pub returns-then-len-images_a_row-ne0-clause-exact : goal.returns-then-len-images_a_row-ne0-clause-exact
+returns-then-len-images_a_row-ne0-clause-exact c =
     let kind = c.args.kind in
     let layout = layout_columns c.args.layout.now in
     let body = c.args.body.now in
@@ -98,8 +98,8 @@ returns-then-len-images_a_row-ne0 c =
     let whole : eqb (c.in-Some-images_in.len % images_a_row kind) 0 ≡ false = ap (λ (k : ℕ). eqb (c.in-Some-images_in.len % k) 0) (sym c.images_a_row.ensures) ∙ ne_eqb _ _ c.if-len-images_a_row-ne0.true in
     sym (bitmaps_is ∙ odd_images kind layout front count.1 bitmaps c.in-Some-images_in.len marked images whole)
 
-pub invariant_of-result : goal.invariant_of-result
-invariant_of-result c =
+pub invariant_of-event : goal.invariant_of-event
+invariant_of-event c =
     let kind = c.args.kind in
     let layout = layout_columns c.args.layout.now in
     let body = c.args.body.now in
@@ -115,10 +115,10 @@ invariant_of-result c =
     let images : option_map length (images_of layout bitmaps.1) ≡ Some c.in-Some-images_in.len = sym c.in-Some-images_in.ensures in
     let whole : eqb (c.in-Some-images_in.len % images_a_row kind) 0 ≡ true = ap (λ (k : ℕ). eqb (c.in-Some-images_in.len % k) 0) (sym c.images_a_row.ensures) ∙ eq-eqb _ _ c.if-len-images_a_row-ne0.false in
     let lengths = front_lengths kind layout body _ (some_columns c.args.layout.now) (bitmaps_is ∙ all_there kind layout front count.1 bitmaps c.in-Some-images_in.len marked images whole) in
-    record { id_len = lengths.0; flags_len = lengths.1; imaged = images }
+    record { id_len = lengths.0; flags_len = lengths.1; imaged = counted_are_there _ _ images }
 
-pub returns : goal.returns
-returns c =
+pub returns-clause-exact : goal.returns-clause-exact
+returns-clause-exact c =
     let kind = c.args.kind in
     let layout = layout_columns c.args.layout.now in
     let body = c.args.body.now in

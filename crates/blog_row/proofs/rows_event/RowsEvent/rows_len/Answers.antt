@@ -3,4 +3,4 @@ use Rattle.blog_row.proofs.RowsCode.{images_are_joined}
 use Rattle.blog_row.proofs.rows_event.RowsEvent.rows_len.Goals as goal
 
 pub returns : goal.returns
-returns c = ap length (images_are_joined _ _ _ c.args.self.now.imaged)
+returns c = ap length (images_are_joined _ _ c.args.self.now.imaged)

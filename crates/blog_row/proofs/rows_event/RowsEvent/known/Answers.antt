@@ -1,0 +1,65 @@
+use Rattle.std.proofs.Common.{◌≡◌, ◌∙◌, ℕ, List, length, Some, Ok, sym, ap}
+use Rattle.blog_row.specs.RowsKind.{images_a_row}
+use Rattle.blog_row.specs.Packed.{packed_front}
+use Rattle.blog_row.specs.PackedView.{packed_seen}
+use Rattle.blog_row.specs.Image.{bitmap_len}
+use Rattle.blog_row.specs.LayoutView.{layout_columns}
+use Rattle.blog_row.specs.RowsEvent.{pieces}
+use Rattle.blog_row.specs.RowsEventView.{FrontParts, front_seen, rows_front, bitmaps_seen}
+use Rattle.blog_row.proofs.Walking.{rounded_up}
+use Rattle.blog_row.proofs.RowsCode.{some_columns}
+use Rattle.blog_row.proofs.KnownRows.{KnownRows, known_front, known_count, known_bitmaps, known_rows}
+use Rattle.blog_row.proofs.rows_event.RowsEvent.known.Goals as goal
+
+pub unreachable-requires : goal.unreachable-requires
+unreachable-requires c = known_front c.args.kind (layout_columns c.args.layout.now) c.args.body.now c.requires (sym c.in_default.ensures)
+
+pub unreachable-requires-in_default-packed_at : goal.unreachable-requires-in_default-packed_at
+unreachable-requires-in_default-packed_at c =
+    let layout = layout_columns c.args.layout.now in
+    let body = c.args.body.now in
+    let front : FrontParts = front_seen c.in-Some.front in
+    let front_is : rows_front body ≡ Some front = sym c.in-Some.ensures in
+    known_count c.args.kind layout body front c.requires front_is (sym c.in_default-packed_at.ensures)
+
+pub unreachable-requires-in_default-bitmaps_at : goal.unreachable-requires-in_default-bitmaps_at
+unreachable-requires-in_default-bitmaps_at c =
+    let kind = c.args.kind in
+    let layout = layout_columns c.args.layout.now in
+    let body = c.args.body.now in
+    let front : FrontParts = front_seen c.in-Some.front in
+    let front_is : rows_front body ≡ Some front = sym c.in-Some.ensures in
+    let count : ℕ × List ℕ × List ℕ = packed_seen c.in-Some-packed_at.count in
+    let count_is : packed_front front.4 ≡ Some count = sym c.in-Some-packed_at.ensures in
+    let len : bitmap_len (length layout) ≡ c.div_ceil-len.result = ap bitmap_len (sym c.columns.ensures) ∙ sym (c.div_ceil-len.ensures ∙ rounded_up _) in
+    known_bitmaps kind layout body front count c.requires front_is count_is (ap (λ (k : ℕ). pieces (images_a_row kind) k count.2) len ∙ sym c.in_default-bitmaps_at.ensures)
+
+pub invariant_of-result : goal.invariant_of-result
+invariant_of-result c =
+    let kind = c.args.kind in
+    let layout = layout_columns c.args.layout.now in
+    let body = c.args.body.now in
+    let front : FrontParts = front_seen c.in-Some.front in
+    let front_is : rows_front body ≡ Some front = sym c.in-Some.ensures in
+    let count : ℕ × List ℕ × List ℕ = packed_seen c.in-Some-packed_at.count in
+    let count_is : packed_front front.4 ≡ Some count = sym c.in-Some-packed_at.ensures in
+    let len : bitmap_len (length layout) ≡ c.div_ceil-len.result = ap bitmap_len (sym c.columns.ensures) ∙ sym (c.div_ceil-len.ensures ∙ rounded_up _) in
+    let bitmaps : List (List ℕ) × List ℕ = bitmaps_seen kind c.in-Some-bitmaps_at.bitmaps in
+    let bitmaps_is : pieces (images_a_row kind) (bitmap_len (length layout)) count.2 ≡ Ok bitmaps = ap (λ (k : ℕ). pieces (images_a_row kind) k count.2) len ∙ sym c.in-Some-bitmaps_at.ensures in
+    let known : KnownRows kind layout body front count.1 bitmaps = known_rows kind layout body front count bitmaps (some_columns c.args.layout.now) c.requires front_is count_is bitmaps_is in
+    record { id_len = known.id_len; flags_len = known.flags_len; imaged = known.imaged }
+
+pub returns-clause-body : goal.returns-clause-body
+returns-clause-body c =
+    let kind = c.args.kind in
+    let layout = layout_columns c.args.layout.now in
+    let body = c.args.body.now in
+    let front : FrontParts = front_seen c.in-Some.front in
+    let front_is : rows_front body ≡ Some front = sym c.in-Some.ensures in
+    let count : ℕ × List ℕ × List ℕ = packed_seen c.in-Some-packed_at.count in
+    let count_is : packed_front front.4 ≡ Some count = sym c.in-Some-packed_at.ensures in
+    let len : bitmap_len (length layout) ≡ c.div_ceil-len.result = ap bitmap_len (sym c.columns.ensures) ∙ sym (c.div_ceil-len.ensures ∙ rounded_up _) in
+    let bitmaps : List (List ℕ) × List ℕ = bitmaps_seen kind c.in-Some-bitmaps_at.bitmaps in
+    let bitmaps_is : pieces (images_a_row kind) (bitmap_len (length layout)) count.2 ≡ Ok bitmaps = ap (λ (k : ℕ). pieces (images_a_row kind) k count.2) len ∙ sym c.in-Some-bitmaps_at.ensures in
+    let known : KnownRows kind layout body front count.1 bitmaps = known_rows kind layout body front count bitmaps (some_columns c.args.layout.now) c.requires front_is count_is bitmaps_is in
+    known.read

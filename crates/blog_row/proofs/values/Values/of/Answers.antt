@@ -1,0 +1,31 @@
+-- Behind the null bits of an image stand its values.
+use Rattle.std.proofs.Common.{◌≡◌, ◌∙◌, length, is_some, ap, sym, arith}
+use Rattle.blog_row.specs.Checks.{cut}
+use Rattle.blog_row.specs.Column.{columns_of}
+use Rattle.blog_row.specs.Image.{bitmap_len}
+use Rattle.blog_row.proofs.Cutting.{cut_found}
+use Rattle.blog_row.proofs.Layouts.{length_of_columns}
+use Rattle.blog_row.proofs.Walking.{nulls_cut, nulls_short, rounded_up}
+use Rattle.blog_row.proofs.ValueWalking.{row_read, row_is}
+use Rattle.blog_row.proofs.values.Values.of.Goals as goal
+
+pub unreachable-requires : goal.unreachable-requires
+unreachable-requires c =
+    let few : bitmap_len (length (columns_of c.args.kinds.now c.args.metadata.now)) ≡ c.div_ceil.result = ap bitmap_len (length_of_columns _ _) ∙ sym (c.div_ceil.ensures ∙ rounded_up _) in
+    let short = nulls_short _ c.args.image.now (ap (λ n. cut n c.args.image.now) few ∙ sym c.in_default.ensures) in
+    let none = ap is_some short in
+    cc
+
+pub invariant_of-result : goal.invariant_of-result
+invariant_of-result c =
+    let few : bitmap_len (length (columns_of c.args.kinds.now c.args.metadata.now)) ≡ c.div_ceil.result = ap bitmap_len (length_of_columns _ _) ∙ sym (c.div_ceil.ensures ∙ rounded_up _) in
+    let read = nulls_cut _ c.args.image.now c.in-Some.nulls.now c.in-Some.rest.now (ap (λ n. cut n c.args.image.now) few ∙ sym c.in-Some.ensures) in
+    let long = (cut_found c.div_ceil.result c.args.image.now c.in-Some.nulls.now c.in-Some.rest.now (sym c.in-Some.ensures)).0 in
+    let rounded = c.div_ceil.ensures ∙ rounded_up _ in
+    record { known = c.requires.known; long = omega (arith, rounded, long); imaged = ap is_some (sym read) ∙ c.requires.imaged }
+
+pub returns : goal.returns
+returns c =
+    let few : bitmap_len (length (columns_of c.args.kinds.now c.args.metadata.now)) ≡ c.div_ceil.result = ap bitmap_len (length_of_columns _ _) ∙ sym (c.div_ceil.ensures ∙ rounded_up _) in
+    let read = nulls_cut _ c.args.image.now c.in-Some.nulls.now c.in-Some.rest.now (ap (λ n. cut n c.args.image.now) few ∙ sym c.in-Some.ensures) in
+    ap row_read (sym read) ∙ row_is _ c.args.image.now

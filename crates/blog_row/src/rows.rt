@@ -1,0 +1,86 @@
+//! Going through the rows of a rows event.
+
+ghost use Rattle.std.specs.Prelude.{◌≡◌, ◌≤◌, ◌+◌, is_some, true, length, option_to_list};
+ghost use Rattle.blog_row.specs.Image.{images_of};
+ghost use Rattle.blog_row.specs.LayoutView.{layout_columns};
+
+use crate::kind::RowsKind;
+use crate::layout::Layout;
+use crate::rows_event::RowsEvent;
+
+/// A row of a rows event: its images as they stand in the log.
+#[derive(Clone, Copy, Debug, PartialEq, Eq)]
+pub struct RowChange<'a> {
+    /// The image of the row before the change; None where the row is inserted.
+    pub before: Option<&'a [u8]>,
+    /// The image of the row after the change; None where the row is deleted.
+    pub after: Option<&'a [u8]>,
+}
+
+/// The rows of a rows event, in order. An update's row is two images, the one before and the one after.
+#[derive(Debug, Drop)]
+pub struct Rows<'a> {
+    kind: RowsKind,
+    layout: Layout<'a>,
+    // The images that are left.
+    rest: &'a [u8],
+    pub ghost imaged: { is_some (images_of (layout_columns layout) rest.now) ≡ true },
+}
+
+impl<'a> RowsEvent<'a> {
+    ghost use Rattle.std.specs.List.{concat};
+    ghost use Rattle.blog_row.specs.RowsEvent.{rows_by};
+    ghost use Rattle.blog_row.specs.RowsEventView.{rows_body};
+    ghost use Rattle.blog_row.specs.RowsView.{rows_left, most_left};
+
+    /// The rows, in order: of an insert each image after, of a delete each image before, and of an update the images
+    /// before and after, each two of which are a row. It takes no memory, and reads each image once.
+    pub fn rows(&self) -> Rows<'a>
+        ensures rows { rows_left result ≡ rows_by self.now.kind (rows_body self.now).images }
+        ensures most { most_left result ≡ length (concat (rows_body self.now).images) }
+    {
+        Rows {
+            kind: self.kind(),
+            layout: self.layout(),
+            rest: self.images(),
+        }
+    }
+}
+
+impl<'a> Rows<'a> {
+    ghost use Rattle.std.specs.Iterator.{YieldsFirstRef};
+    ghost use Rattle.blog_row.specs.RowsView.{images_left};
+
+    /// The next image.
+    fn image(&mut self) -> Option<&'a [u8]>
+        ensures images { YieldsFirstRef images_left self.old result self.new }
+        ensures kind { self.new.kind ≡ self.old.kind }
+        ensures bytes { length self.new.rest.now + length (option_to_list result) ≤ length self.old.rest.now }
+    {
+        let len = self.layout.image_len(self.rest)?;
+        let (image, behind) = self.rest.split_at(len);
+        self.rest = behind;
+        Some(image)
+    }
+}
+
+impl<'a> Iterator for Rows<'a> {
+    type Item = RowChange<'a>;
+
+    ghost use Rattle.std.specs.Iterator.{YieldsFirstBy, at_most};
+    ghost use Rattle.blog_row.specs.RowsView.{rows_left, most_left, row_seen};
+
+    ghost next_gives = { YieldsFirstBy row_seen rows_left };
+
+    ghost remaining = { λ rows. at_most (most_left rows) };
+
+    fn next(&mut self) -> Option<RowChange<'a>> {
+        let image = self.image()?;
+        let (before, after) = match self.kind {
+            RowsKind::Write => (None, Some(image)),
+            RowsKind::Update => (Some(image), Some(self.image()?)),
+            RowsKind::Delete => (Some(image), None),
+        };
+        Some(RowChange { before, after })
+    }
+}

@@ -1,0 +1,279 @@
+//! Rows events of the format's own bytes.
+
+use super::RowsKind::{Delete, Update, Write};
+use super::*;
+use std::process::Abort;
+
+/// Table maps of `d`.`t`: of one LONG column, of two, and of nine TINY columns.
+const ONE_LONG: &[u8] = b"\x01\0\0\0\0\0\x01\0\x01d\0\x01t\0\x01\x03\0\x01";
+
+const TWO_LONGS: &[u8] = b"\x01\0\0\0\0\0\x01\0\x01d\0\x01t\0\x02\x03\x03\0\x03";
+
+const NINE_TINIES: &[u8] =
+    b"\x01\0\0\0\0\0\x01\0\x01d\0\x01t\0\x09\x01\x01\x01\x01\x01\x01\x01\x01\x01\0\xFF\x01";
+
+/// The rows event of a body, by its table map.
+fn event_of<'a>(
+    rt: &impl Abort,
+    kind: RowsKind,
+    map: &'a [u8],
+    body: &'a [u8],
+) -> Result<RowsEvent<'a>, RowFault> {
+    let map = TableMap::read(map).expect(rt, "names");
+    let layout = map.layout().expect(rt, "a layout");
+    RowsEvent::read(kind, body, &layout)
+}
+
+/// A table map, the body of a rows event, and what is read from it.
+struct Worked {
+    kind: RowsKind,
+    map: &'static [u8],
+    body: &'static [u8],
+    id: u64,
+    flags: u16,
+    ends: bool,
+    count: &'static [u8],
+    bitmaps: (&'static [u8], &'static [u8]),
+    images: &'static [u8],
+    columns: usize,
+    rows: &'static [RowChange<'static>],
+}
+
+static WORKED: [Worked; 7] = [
+    // Two rows of two columns; the second has a NULL.
+    Worked {
+        kind: Write,
+        map: TWO_LONGS,
+        body: b"\x6C\x01\0\0\0\0\x01\0\x02\0\x02\xFF\xFC\x01\0\0\0\x02\0\0\0\xFE\x03\0\0\0",
+        id: 0x16C,
+        flags: 1,
+        ends: true,
+        count: b"\x02",
+        bitmaps: (b"\xFF", b""),
+        images: b"\xFC\x01\0\0\0\x02\0\0\0\xFE\x03\0\0\0",
+        columns: 2,
+        rows: &[
+            RowChange {
+                before: None,
+                after: Some(b"\xFC\x01\0\0\0\x02\0\0\0"),
+            },
+            RowChange {
+                before: None,
+                after: Some(b"\xFE\x03\0\0\0"),
+            },
+        ],
+    },
+    // Two rows, each changed; the second was NULL.
+    Worked {
+        kind: Update,
+        map: ONE_LONG,
+        body: b"\x01\0\0\0\0\0\0\0\x02\0\x01\xFF\x01\xFE\x01\0\0\0\xFE\x02\0\0\0\xFF\xFE\x03\0\0\0",
+        id: 1,
+        flags: 0,
+        ends: false,
+        count: b"\x01",
+        bitmaps: (b"\xFF", b"\x01"),
+        images: b"\xFE\x01\0\0\0\xFE\x02\0\0\0\xFF\xFE\x03\0\0\0",
+        columns: 1,
+        rows: &[
+            RowChange {
+                before: Some(b"\xFE\x01\0\0\0"),
+                after: Some(b"\xFE\x02\0\0\0"),
+            },
+            RowChange {
+                before: Some(b"\xFF"),
+                after: Some(b"\xFE\x03\0\0\0"),
+            },
+        ],
+    },
+    // Two extra bytes, a column count of three bytes, and two rows.
+    Worked {
+        kind: Delete,
+        map: ONE_LONG,
+        body: b"\x01\x02\x03\x04\x05\x06\x03\x80\x04\0\xAA\xBB\xFC\x01\0\x01\xFE\x05\0\0\0\xFF",
+        id: 0x0605_0403_0201,
+        flags: 0x8003,
+        ends: true,
+        count: b"\xFC\x01\0",
+        bitmaps: (b"\x01", b""),
+        images: b"\xFE\x05\0\0\0\xFF",
+        columns: 1,
+        rows: &[
+            RowChange {
+                before: Some(b"\xFE\x05\0\0\0"),
+                after: None,
+            },
+            RowChange {
+                before: Some(b"\xFF"),
+                after: None,
+            },
+        ],
+    },
+    // Nine columns have two bytes of bits; only the first and the last are not NULL.
+    Worked {
+        kind: Write,
+        map: NINE_TINIES,
+        body: b"\xFF\xFF\xFF\xFF\xFF\xFF\xFE\xFF\x02\0\x09\xFF\x01\xFE\xFEab",
+        id: 0xFFFF_FFFF_FFFF,
+        flags: 0xFFFE,
+        ends: false,
+        count: b"\x09",
+        bitmaps: (b"\xFF\x01", b""),
+        images: b"\xFE\xFEab",
+        columns: 9,
+        rows: &[RowChange {
+            before: None,
+            after: Some(b"\xFE\xFEab"),
+        }],
+    },
+    // No rows.
+    Worked {
+        kind: Write,
+        map: ONE_LONG,
+        body: b"\x01\0\0\0\0\0\0\0\x02\0\x01\xFF",
+        id: 1,
+        flags: 0,
+        ends: false,
+        count: b"\x01",
+        bitmaps: (b"\xFF", b""),
+        images: b"",
+        columns: 1,
+        rows: &[],
+    },
+    Worked {
+        kind: Update,
+        map: ONE_LONG,
+        body: b"\x01\0\0\0\0\0\0\0\x02\0\x01\xFF\x01",
+        id: 1,
+        flags: 0,
+        ends: false,
+        count: b"\x01",
+        bitmaps: (b"\xFF", b"\x01"),
+        images: b"",
+        columns: 1,
+        rows: &[],
+    },
+    Worked {
+        kind: Delete,
+        map: ONE_LONG,
+        body: b"\x01\0\0\0\0\0\0\0\x02\0\x01\xFF",
+        id: 1,
+        flags: 0,
+        ends: false,
+        count: b"\x01",
+        bitmaps: (b"\xFF", b""),
+        images: b"",
+        columns: 1,
+        rows: &[],
+    },
+];
+
+#[test]
+fn reads_rows_events(rt: HostRuntime) {
+    for want in &WORKED {
+        let event = event_of(&rt, want.kind, want.map, want.body).expect(&rt, "an event");
+        assert_eq!(rt; event.kind(), want.kind);
+        assert_eq!(rt; event.table_id(), want.id);
+        assert_eq!(rt; event.flags(), want.flags);
+        assert_eq!(rt; event.ends(), want.ends);
+        assert_eq!(rt; event.count(), want.count);
+        assert_eq!(rt; event.bitmaps(), want.bitmaps);
+        assert_eq!(rt; event.images(), want.images);
+        assert_eq!(rt; event.rows_len(), want.images.len());
+        assert_eq!(rt; event.layout().columns(), want.columns);
+        let mut left = want.rows.iter();
+        for row in event.rows() {
+            assert_eq!(rt; Some(&row), left.next(), "of {:?}", want.body);
+        }
+        assert_eq!(rt; left.next(), None, "of {:?}", want.body);
+
+        let head = RowsHead::read(want.body).expect(&rt, "a head");
+        assert_eq!(rt; head.table_id(), want.id);
+        assert_eq!(rt; head.flags(), want.flags);
+        assert_eq!(rt; head.ends(), want.ends);
+    }
+}
+
+/// Bodies that don't have their layout.
+static BAD: [(RowsKind, &[u8], &[u8]); 19] = [
+    // Nine bytes; ten, and no column count.
+    (Write, ONE_LONG, b"\x01\0\0\0\0\0\0\0\x02"),
+    (Write, ONE_LONG, b"\x01\0\0\0\0\0\0\0\x02\0"),
+    // Extra lengths of 1, 0 and 65,535; extra bytes cut short.
+    (Write, ONE_LONG, b"\x01\0\0\0\0\0\0\0\x01\0\x01\xFF"),
+    (Write, ONE_LONG, b"\x01\0\0\0\0\0\0\0\0\0\x01\xFF"),
+    (Write, ONE_LONG, b"\x01\0\0\0\0\0\0\0\xFF\xFF\x01\xFF"),
+    (Write, ONE_LONG, b"\x01\0\0\0\0\0\0\0\x04\0\xAA"),
+    // Column counts of 2 and 0, and such as spell no number.
+    (Write, ONE_LONG, b"\x01\0\0\0\0\0\0\0\x02\0\x02\xFF"),
+    (Write, ONE_LONG, b"\x01\0\0\0\0\0\0\0\x02\0\0\xFF"),
+    (Write, ONE_LONG, b"\x01\0\0\0\0\0\0\0\x02\0\xFB\xFF"),
+    (Write, ONE_LONG, b"\x01\0\0\0\0\0\0\0\x02\0\xFC\x01"),
+    (Write, ONE_LONG, b"\x01\0\0\0\0\0\0\0\x02\0\xFE\xFF"),
+    (Write, ONE_LONG, b"\x01\0\0\0\0\0\0\0\x02\0\xFF\xFF"),
+    // No bitmap; no second bitmap; half of one.
+    (Delete, ONE_LONG, b"\x01\0\0\0\0\0\0\0\x02\0\x01"),
+    (Update, ONE_LONG, b"\x01\0\0\0\0\0\0\0\x02\0\x01\xFF"),
+    (Write, NINE_TINIES, b"\x01\0\0\0\0\0\0\0\x02\0\x09\xFF"),
+    // An image cut short; a byte behind the last image; one image, and three, of updates.
+    (
+        Write,
+        ONE_LONG,
+        b"\x01\0\0\0\0\0\0\0\x02\0\x01\xFF\xFE\x01\0\0",
+    ),
+    (
+        Delete,
+        ONE_LONG,
+        b"\x01\0\0\0\0\0\0\0\x02\0\x01\xFF\xFF\xFE",
+    ),
+    (
+        Update,
+        ONE_LONG,
+        b"\x01\0\0\0\0\0\0\0\x02\0\x01\xFF\xFF\xFF",
+    ),
+    (
+        Update,
+        ONE_LONG,
+        b"\x01\0\0\0\0\0\0\0\x02\0\x01\xFF\xFF\xFF\xFF\xFF",
+    ),
+];
+
+/// Bodies with a column that isn't in the images, whatever follows.
+static PARTIAL: [(RowsKind, &[u8], &[u8]); 5] = [
+    (Write, ONE_LONG, b"\x01\0\0\0\0\0\0\0\x02\0\x01\xFE\xFE"),
+    (
+        Update,
+        ONE_LONG,
+        b"\x01\0\0\0\0\0\0\0\x02\0\x01\xFE\xFF\xFF",
+    ),
+    (Update, ONE_LONG, b"\x01\0\0\0\0\0\0\0\x02\0\x01\xFF\xFE"),
+    (Write, NINE_TINIES, b"\x01\0\0\0\0\0\0\0\x02\0\x09\xFF\0"),
+    (Delete, NINE_TINIES, b"\x01\0\0\0\0\0\0\0\x02\0\x09\x7F\x01"),
+];
+
+#[test]
+fn refuses_bad_bodies(rt: HostRuntime) {
+    for (kind, map, body) in &BAD {
+        let refused = event_of(&rt, *kind, map, body).err();
+        assert_eq!(rt; refused, Some(RowFault::BadBody), "at {body:?}");
+    }
+}
+
+#[test]
+fn refuses_partial_images(rt: HostRuntime) {
+    for (kind, map, body) in &PARTIAL {
+        let refused = event_of(&rt, *kind, map, body).err();
+        assert_eq!(rt; refused, Some(RowFault::PartialImage), "at {body:?}");
+    }
+}
+
+#[test]
+fn reads_ten_bytes_as_a_head(rt: HostRuntime) {
+    let body: &[u8] = &[1, 2, 3, 4, 5, 6, 7, 8, 0, 0];
+    let head = RowsHead::read(body).expect(&rt, "a head");
+    assert_eq!(rt; head.table_id(), 0x0605_0403_0201);
+    assert_eq!(rt; head.flags(), 0x0807);
+    assert!(rt; head.ends());
+    assert_eq!(rt; RowsHead::read(&body[..9]), Err(RowFault::BadBody));
+    assert_eq!(rt; RowsHead::read(&[]), Err(RowFault::BadBody));
+}
