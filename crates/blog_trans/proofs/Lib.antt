@@ -1,1 +1,32 @@
 pub mod KindCode
+pub mod Tables
+mod CountsCode
+pub mod ProgressSteps
+pub mod ProgressRows
+pub mod ProgressState
+pub mod ProgressGroups
+pub mod KeptRows
+pub mod ProgressFirsts
+pub mod ProgressMaps
+pub mod Columns
+pub mod EntriesMarked
+pub mod EntriesClosed
+pub mod EntriesEnded
+pub mod JudgingStatement
+pub mod JudgingMaps
+pub mod JudgingLayouts
+pub mod JudgingRows
+pub mod Judging
+mod WalkerCode
+pub mod PlacedParts
+pub mod PlacedFacts
+pub mod ProgressAccepted
+mod WalkerSteps
+mod WalkCode
+pub mod EntriesFound
+pub mod IndexTables
+pub mod IndexFound
+pub mod IndexFacts
+pub mod IndexStatements
+mod IndexCode
+pub mod IndexRows

@@ -2,6 +2,8 @@
 -- the latest first.
 use Rattle.std.specs.Prelude.{ℕ, Bool, true, false, ◌&&◌, ◌||◌, not, List, [], ◌∷◌, find, Option, Some, None, is_some, bytes_eq}
 use Rattle.std.specs.Option.{option_map_or}
+use Rattle.blog_event.specs.declared.event.Event as told
+use Rattle.blog_event.specs.Event.{event_of}
 use Rattle.blog_event.specs.File.{Placed}
 use Rattle.blog_event.specs.Format.{front_while}
 use Rattle.blog_row.specs.RowsEvent.{table_id, has_end_flag}
@@ -10,6 +12,10 @@ use Rattle.blog_trans.specs.declared.kind.EventKind.TheVariants as kind
 use Rattle.blog_trans.specs.declared.place.Place.{Place}
 use Rattle.blog_trans.specs.declared.place.Place.TheVariants.{Outside, Announced, Inside}
 use Rattle.blog_trans.specs.Kinds.{kind_of, is_begin_kind, is_end_kind, is_map_kind, rows_of_kind}
+
+-- an event of the program with its place
+abbrev pub placed : told.Event → Placed
+placed e = record { pos = e.pos; event = event_of e }
 
 -- ---- tests of events
 

@@ -52,7 +52,7 @@ pub enum EventKind {
     PartialRows,
     /// An event of a type that isn't known here, and that its header lets a reader skip.
     Skippable,
-    /// An event of any other type.
+    /// An event of any other type, or of one that its header doesn't let a reader skip.
     Unknown,
 }
 

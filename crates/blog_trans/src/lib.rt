@@ -1,10 +1,29 @@
-//! Kinds of events, places and selections: what the transactions of a log are told by, and its first fault.
+//! The index of a log: its transactions under a selection, or its first fault.
 #![tactic(auto)]
 
+mod counts;
+mod entry;
+mod groups;
+mod judge;
+mod keeper;
 mod kind;
+mod laws;
+mod layouts;
+mod maps;
 mod place;
 mod selection;
+mod table_name;
+mod taken;
+mod walker;
+mod walking;
 
+pub use entry::Entry;
+pub use groups::{Index, TableCount};
 pub use kind::{EventKind, event_kind};
+pub use laws::{
+    accepted_logs_have_groups, groups_are_of_events, progress_gives_groups,
+    statements_have_used_maps,
+};
 pub use place::Place;
 pub use selection::Selection;
+pub use walking::index;

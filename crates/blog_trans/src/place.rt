@@ -10,3 +10,22 @@ pub enum Place {
     /// After `BEGIN`.
     Inside,
 }
+
+impl Place {
+    ghost use Rattle.std.specs.Prelude.{◌≡◌};
+    ghost use Rattle.blog_trans.specs.Places.{is_inside, is_outside};
+
+    /// Whether it is inside a transaction.
+    pub fn is_inside(self) -> bool
+        ensures { result ≡ is_inside self }
+    {
+        matches!(self, Place::Inside)
+    }
+
+    /// Whether it is outside, and no transaction is announced.
+    pub fn is_outside(self) -> bool
+        ensures { result ≡ is_outside self }
+    {
+        matches!(self, Place::Outside)
+    }
+}

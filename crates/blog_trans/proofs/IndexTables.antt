@@ -1,0 +1,72 @@
+-- The numbers by table of an index are those of its groups.
+use Rattle.std.proofs.Common.{◌≡◌, ℕ, ◌<◌, List, [], ◌∷◌, ◌++◌, map, length, Option, Some, option_map, refl, sym, ap, ◌∙◌, arith}
+use Rattle.std.specs.List.{flat_map, slice_get}
+use Rattle.std.proofs.lemmas.List.{append-nil, length-map}
+use Rattle.std.proofs.lemmas.List.Folds.{flat_map-map}
+use Rattle.std.proofs.lemmas.Option.{slice_get-map}
+use Rattle.blog_event.specs.File.{Placed}
+use Rattle.blog_row.specs.TableMap.{Table}
+use Rattle.blog_trans.specs.Selection.{Selection}
+use Rattle.blog_trans.specs.Groups.{PlacedRows, PlacedStatement, PlacedTransaction, Transaction, placed_groups, groups, event_value, rows_value, statement_value, transaction_value}
+use Rattle.blog_trans.specs.Changes.{Change, TableCount, table_of, changes_of_rows, changes_of_statement, changes_of_transaction, changes_of, count_of, first_tables, tables_of, counts_of}
+use Rattle.blog_trans.specs.WalkerView.{statements_changes, statements_tables}
+use Rattle.blog_trans.specs.PlacedChanges.{placed_changes, placed_tables}
+
+-- ---- the changes
+
+statements_changed : (ss : List PlacedStatement) → statements_changes ss ≡ flat_map changes_of_statement (map statement_value ss)
+statements_changed [] = refl
+statements_changed (s ∷ ss) =
+    ap (λ cs. cs ++ statements_changes ss) (sym (flat_map-map changes_of_rows rows_value s.rows))
+    ∙ ap (λ cs. flat_map changes_of_rows (map rows_value s.rows) ++ cs) (statements_changed ss)
+
+changed : (ts : List PlacedTransaction) → flat_map (λ t. statements_changes t.statements) ts ≡ changes_of (map transaction_value ts)
+changed [] = refl
+changed (t ∷ ts) =
+    ap (λ cs. cs ++ flat_map (λ t. statements_changes t.statements) ts) (statements_changed t.statements)
+    ∙ ap (λ cs. flat_map changes_of_statement (map statement_value t.statements) ++ cs) (changed ts)
+
+-- ---- the tables
+
+maps_named : (ms : List Placed) → map (λ m. table_of m.event.body) ms ≡ map (λ m. table_of m.body) (map event_value ms)
+maps_named [] = refl
+maps_named (m ∷ ms) = ap (λ ts. table_of m.event.body ∷ ts) (maps_named ms)
+
+statements_named : (ss : List PlacedStatement) → statements_tables ss ≡ flat_map (λ s. map (λ m. table_of m.body) s.maps) (map statement_value ss)
+statements_named [] = refl
+statements_named (s ∷ ss) =
+    ap (λ ts. ts ++ statements_tables ss) (maps_named s.maps)
+    ∙ ap (λ ts. map (λ m. table_of m.body) (map event_value s.maps) ++ ts) (statements_named ss)
+
+-- the tables of the maps of groups, before each is taken once
+abbrev map_tables : List Transaction → List Table
+map_tables ts = flat_map (λ t. flat_map (λ s. map (λ m. table_of m.body) s.maps) t.statements) ts
+
+named : (ts : List PlacedTransaction) → flat_map (λ t. statements_tables t.statements) ts ≡ map_tables (map transaction_value ts)
+named [] = refl
+named (t ∷ ts) =
+    ap (λ xs. xs ++ flat_map (λ t. statements_tables t.statements) ts) (statements_named t.statements)
+    ∙ ap (λ xs. flat_map (λ s. map (λ m. table_of m.body) s.maps) (map statement_value t.statements) ++ xs) (named ts)
+
+-- ---- of the groups of a log
+
+pub changes_same : (bytes : List ℕ) (sel : Selection) → placed_changes (placed_groups bytes sel) ≡ changes_of (groups bytes sel)
+unfolding groups
+changes_same bytes sel = append-nil (flat_map (λ t. statements_changes t.statements) (placed_groups bytes sel)) ∙ changed (placed_groups bytes sel)
+
+pub tables_same : (bytes : List ℕ) (sel : Selection) → first_tables [] (placed_tables (placed_groups bytes sel)) ≡ tables_of (groups bytes sel)
+unfolding groups
+tables_same bytes sel = ap (first_tables []) (append-nil (flat_map (λ t. statements_tables t.statements) (placed_groups bytes sel)) ∙ named (placed_groups bytes sel))
+
+-- how many there are
+pub many_same : (bytes : List ℕ) (sel : Selection) → length (first_tables [] (placed_tables (placed_groups bytes sel))) ≡ length (counts_of (groups bytes sel))
+many_same bytes sel = ap length (tables_same bytes sel) ∙ sym (length-map (tables_of (groups bytes sel)) (count_of (changes_of (groups bytes sel))))
+
+-- those of one table
+pub counts_same : (bytes : List ℕ) (sel : Selection) (n : ℕ) (c : TableCount)
+    → option_map (count_of (placed_changes (placed_groups bytes sel))) (slice_get (first_tables [] (placed_tables (placed_groups bytes sel))) n) ≡ Some c
+    → slice_get (counts_of (groups bytes sel)) n ≡ Some c
+counts_same bytes sel n c told =
+    slice_get-map (count_of (changes_of (groups bytes sel))) (tables_of (groups bytes sel)) n
+    ∙ ap (λ (cs : List Change). option_map (count_of cs) (slice_get (tables_of (groups bytes sel)) n)) (sym (changes_same bytes sel))
+    ∙ ap (λ (ts : List Table). option_map (count_of (placed_changes (placed_groups bytes sel))) (slice_get ts n)) (sym (tables_same bytes sel)) ∙ told

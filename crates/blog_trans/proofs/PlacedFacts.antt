@@ -1,0 +1,193 @@
+-- The facts of each group of events.
+use Rattle.std.proofs.Common.{◌≡◌, ℕ, Bool, true, false, ◌&&◌, ◌||◌, not, if◌then◌else◌, List, [], ◌∷◌, reverse, Option, Some, None, bytes_eq, refl, sym, ap, subst, ◌∙◌}
+use Rattle.std.specs.Option.{option_map_or}
+use Rattle.std.specs.List.{AllByRecursion, filter_map, slice_get, Contains}
+use Rattle.std.proofs.lemmas.Bool.{and_parts, or_left, or_right, false≢true}
+use Rattle.std.proofs.lemmas.List.{reverse-reverse}
+use Rattle.std.proofs.lemmas.List.Elements.{All-contains_itself, recursion_from_All}
+use Rattle.std.proofs.lemmas.Option.{none-some, same_Some}
+use Rattle.blog_event.specs.File.{Placed}
+use Rattle.blog_row.specs.TableMap.{names_of}
+use Rattle.blog_trans.specs.Selection.{Selection}
+use Rattle.blog_trans.specs.Places.{is_map, is_map_of, map_in}
+use Rattle.blog_trans.specs.Acceptance.{is_selected}
+use Rattle.blog_trans.specs.Groups.{PlacedRows, PlacedStatement, PlacedTransaction, Span, spans, statements_of, kept_rows, first_maps, statement_if, kept_statement, transaction_if, kept_transaction, placed_groups_in}
+use Rattle.blog_trans.specs.StatementMaps.{first_of_ids}
+use Rattle.blog_trans.specs.PlacedFacts.{IsPlacedMap, IsPlacedRows, IsPlacedStatement, IsPlacedTransaction}
+use Rattle.blog_trans.proofs.ProgressFirsts.{id_at, ids_of, is_id_among, without_id, IsFirst, bytes-own, bytes-same, among-without, all-by, first-filter, first-found}
+use Rattle.blog_trans.proofs.KeptRows.{IsKeptOf, kept-facts}
+use Rattle.blog_trans.proofs.PlacedParts.{all-filter, all-found, all-given, all-at, IsSpanOf, spans-all, statements-all}
+
+-- ---- maps
+
+-- where the test of an option holds, it has a value
+tested : {A : Type 0} (o : Option A) (test : A → Bool) → option_map_or test o false ≡ true → (x : A) × (o ≡ Some x)
+tested None test e = absurd (false≢true e)
+tested (Some x) test e = (x, refl)
+
+-- the map of a selected table that is found among such events
+map-placed : (Member : Placed → Type 0) (sel : Selection) (events : List Placed) (id : List ℕ) (m : Placed) → AllByRecursion Member events → map_in events id ≡ Some m
+    → is_selected sel m.event.body ≡ true → IsPlacedMap Member sel m
+map-placed Member sel events id m all found selected =
+    let at = all-found Member (is_map_of id) events m all found in
+    let names = tested (names_of m.event.body) _ selected in
+    record { member = at.0; is_one = (and_parts (is_map m) (bytes_eq (id_at m) id) at.1).0; selected = selected; names = names.0; names_are = names.1 }
+
+-- the maps that are kept for ids are the first of their ids
+first-asked : (ids : List (List ℕ)) (events : List Placed) → AllByRecursion (λ m. (map_in events (id_at m) ≡ Some m) × (is_id_among ids (id_at m) ≡ true)) (first_maps ids events)
+first-asked ids events =
+    subst (λ l. AllByRecursion (λ m. (map_in events (id_at m) ≡ Some m) × (is_id_among ids (id_at m) ≡ true)) l)
+    (sym (first-filter ids (reverse events)) ∙ ap (first_maps ids) (reverse-reverse events))
+    (all-filter (λ m. map_in events (id_at m) ≡ Some m) (λ m. is_id_among ids (id_at m)) (first_of_ids (reverse events))
+    (all-by (IsFirst (reverse events)) (λ m. map_in events (id_at m) ≡ Some m) (λ m found. ap (λ l. map_in l (id_at m)) (sym (reverse-reverse events)) ∙ found)
+    (first_of_ids (reverse events)) (first-found (reverse events))))
+
+-- the map of an id that is asked for is among those that are kept
+asked-found : (ids : List (List ℕ)) (events : List Placed) (id : List ℕ) (p : Placed) → is_id_among ids id ≡ true → map_in events id ≡ Some p → map_in (first_maps ids events) id ≡ Some p
+asked-found ids [] id p asked e = absurd (none-some p e)
+asked-found ids (q ∷ qs) id p asked e =
+    by_case (is_map q) refl (bytes_eq (id_at q) id) refl (is_id_among ids (id_at q)) refl (asked-found (without_id (id_at q) ids) qs id p) (asked-found ids qs id p asked) e
+  where
+    by_case : (b : Bool) → is_map q ≡ b → (c : Bool) → bytes_eq (id_at q) id ≡ c → (d : Bool) → is_id_among ids (id_at q) ≡ d
+        → (is_id_among (without_id (id_at q) ids) id ≡ true → map_in qs id ≡ Some p → map_in (first_maps (without_id (id_at q) ids) qs) id ≡ Some p)
+        → (map_in qs id ≡ Some p → map_in (first_maps ids qs) id ≡ Some p) → (if b && c then Some q else map_in qs id) ≡ Some p
+        → map_in (if b && d then q ∷ first_maps (without_id (id_at q) ids) qs else first_maps ids qs) id ≡ Some p
+    by_case true is true same true some others rest h = rw (is, same) h
+    by_case true is true same false none others rest h = absurd (false≢true (sym none ∙ ap (is_id_among ids) (bytes-same (id_at q) id same) ∙ asked))
+    by_case true is false differs true some others rest h =
+        rw (is, differs) (others (among-without (id_at q) id ids ∙ ap (λ t. not t && is_id_among ids id) differs ∙ asked) h)
+    by_case true is false differs false none others rest h = rest h
+    by_case false is c same d some others rest h = rest h
+
+-- ---- rows events
+
+-- a rows event that is kept of such events, with its map found among these
+row-placed : (Member : Placed → Type 0) (sel : Selection) (events maps : List Placed) (r : PlacedRows) → AllByRecursion Member events → Member r.event → IsKeptOf sel events r.event r
+    → map_in maps (id_at r.event) ≡ Some r.map → IsPlacedRows Member sel maps r
+row-placed Member sel events maps r all member kept found =
+    record { member = member; kind_is = kept.kind_is; map = map-placed Member sel events (id_at r.event) r.map all kept.found kept.selected; found = found; read = kept.read }
+
+-- it is what is kept of itself
+abbrev IsOwn : (Placed → Type 0) → Selection → List Placed → PlacedRows → Type 0
+IsOwn Member sel events r = Member r.event × IsKeptOf sel events r.event r
+
+rows-own : (Member : Placed → Type 0) (sel : Selection) (events : List Placed) → AllByRecursion Member events → AllByRecursion (IsOwn Member sel events) (filter_map (kept_rows sel events) events)
+rows-own Member sel events all = all-given Member (IsOwn Member sel events) (kept_rows sel events) by events all
+  where
+    by : (p : Placed) (r : PlacedRows) → Member p → kept_rows sel events p ≡ Some r → IsOwn Member sel events r
+    by p r member e =
+        let kept = kept-facts sel events p r e in
+        subst (λ (q : Placed). Member q × IsKeptOf sel events q r) (sym kept.event_is) (member, kept)
+
+-- the rows event of an id
+row-of : (P : PlacedRows → Type 0) (rows : List PlacedRows) (id : List ℕ) → is_id_among (ids_of rows) id ≡ true → AllByRecursion P rows → (r : PlacedRows) × (id ≡ id_at r.event) × P r
+row-of P [] id e all = absurd (false≢true e)
+row-of P (r ∷ rows) id e all = by_case (bytes_eq id (id_at r.event)) refl (λ more. row-of P rows id more all.1) e
+  where
+    by_case : (b : Bool) → bytes_eq id (id_at r.event) ≡ b → (is_id_among (ids_of rows) id ≡ true → (r : PlacedRows) × (id ≡ id_at r.event) × P r)
+        → (b || is_id_among (ids_of rows) id) ≡ true → (r : PlacedRows) × (id ≡ id_at r.event) × P r
+    by_case true same more h = (r, bytes-same id (id_at r.event) same, all.0)
+    by_case false differs more h = more h
+
+-- each rows event has its own table id
+rows-asked : (rows : List PlacedRows) → AllByRecursion (λ (r : PlacedRows). is_id_among (ids_of rows) (id_at r.event) ≡ true) rows
+rows-asked [] = tt
+rows-asked (r ∷ rows) = (
+  or_left (bytes_eq (id_at r.event) (id_at r.event)) (is_id_among (ids_of rows) (id_at r.event)) (bytes-own (id_at r.event)),
+  all-by _ _ (λ s asked. or_right (bytes_eq (id_at s.event) (id_at r.event)) (is_id_among (ids_of rows) (id_at s.event)) asked) rows (rows-asked rows),
+)
+
+all-both : {A : Type 0} (P Q : A → Type 0) (xs : List A) → AllByRecursion P xs → AllByRecursion Q xs → AllByRecursion (λ x. P x × Q x) xs
+all-both P Q [] first second = tt
+all-both P Q (x ∷ xs) first second = ((first.0, second.0), all-both P Q xs first.1 second.1)
+
+-- ---- statements
+
+-- where one is found, there is one
+found-some : (ms : List Placed) (id : List ℕ) (m : Placed) → map_in ms id ≡ Some m → (x : Placed) × (xs : List Placed) × (ms ≡ x ∷ xs)
+found-some [] id m e = absurd (none-some m e)
+found-some (x ∷ xs) id m e = (x, xs, refl)
+
+statement-by : (Member : Placed → Type 0) (sel : Selection) (events : List Placed) (rows : List PlacedRows) (s : PlacedStatement) → AllByRecursion Member events
+    → AllByRecursion (IsOwn Member sel events) rows → statement_if events rows ≡ Some s → IsPlacedStatement Member sel s
+statement-by Member sel events [] s all own e = absurd (none-some s e)
+statement-by Member sel events (r ∷ rows) s all own e = subst (IsPlacedStatement Member sel) (same_Some (record { maps = maps; rows = r ∷ rows }) s e) (record {
+  maps = all-by _ (IsPlacedMap Member sel) map_is maps (first-asked ids events);
+  rows = all-by _ (IsPlacedRows Member sel maps) row_is (r ∷ rows) (all-both _ _ (r ∷ rows) (rows-asked (r ∷ rows)) own);
+  some_map = found-some maps (id_at r.event) r.map (asked-found ids events (id_at r.event) r.map (rows-asked (r ∷ rows)).0 own.0.1.found);
+  some_rows = (r, rows, refl);
+})
+  where
+    ids : List (List ℕ)
+    ids = ids_of (r ∷ rows)
+
+    maps : List Placed
+    maps = first_maps ids events
+
+    map_is : (m : Placed) → (map_in events (id_at m) ≡ Some m) × (is_id_among ids (id_at m) ≡ true) → IsPlacedMap Member sel m
+    map_is m h =
+        let row = row-of (IsOwn Member sel events) (r ∷ rows) (id_at m) h.1 own in
+        let same : row.0.map ≡ m = same_Some row.0.map m (sym row.2.1.found ∙ ap (map_in events) (sym row.1) ∙ h.0) in
+        map-placed Member sel events (id_at m) m all h.0 (ap (λ (x : Placed). is_selected sel x.event.body) (sym same) ∙ row.2.1.selected)
+
+    row_is : (x : PlacedRows) → (is_id_among ids (id_at x.event) ≡ true) × IsOwn Member sel events x → IsPlacedRows Member sel maps x
+    row_is x h = row-placed Member sel events maps x all h.1.0 h.1.1 (asked-found ids events (id_at x.event) x.map h.0 h.1.1.found)
+
+-- a statement that is kept of such events
+statement-placed : (Member : Placed → Type 0) (sel : Selection) (events : List Placed) (s : PlacedStatement) → AllByRecursion Member events → kept_statement sel events ≡ Some s
+    → IsPlacedStatement Member sel s
+statement-placed Member sel events s all e = statement-by Member sel events (filter_map (kept_rows sel events) events) s all (rows-own Member sel events all) e
+
+-- ---- transactions
+
+transaction-by : (Member : Placed → Type 0) (sel : Selection) (span : Span) (ss : List PlacedStatement) (t : PlacedTransaction) → IsSpanOf Member span
+    → AllByRecursion (IsPlacedStatement Member sel) ss → transaction_if span ss ≡ Some t → IsPlacedTransaction Member sel t
+transaction-by Member sel span [] t of_all placed e = absurd (none-some t e)
+transaction-by Member sel span (s ∷ ss) t of_all placed e =
+    subst (IsPlacedTransaction Member sel) (same_Some (record { begin = span.begin; statements = s ∷ ss; end = span.end }) t e) (record {
+      begin_member = of_all.begin;
+      begin_is = of_all.begin_is;
+      end_member = of_all.end;
+      end_is = of_all.end_is;
+      statements = placed;
+      some_statement = (s, ss, refl);
+    })
+
+-- a transaction that is kept of a span of such events
+transaction-placed : (Member : Placed → Type 0) (sel : Selection) (span : Span) (t : PlacedTransaction) → IsSpanOf Member span → kept_transaction sel span ≡ Some t → IsPlacedTransaction Member sel t
+transaction-placed Member sel span t of_all e =
+    let statements = all-given (AllByRecursion Member) (IsPlacedStatement Member sel) (kept_statement sel) (λ events s all kept. statement-placed Member sel events s all kept)
+    (statements_of span.inside) (statements-all Member span.inside of_all.inside) in
+    transaction-by Member sel span (filter_map (kept_statement sel) (statements_of span.inside)) t of_all statements e
+
+-- ---- groups
+
+-- what holds of events holds of those of their groups
+pub groups-placed : (Member : Placed → Type 0) (sel : Selection) (es : List Placed) → AllByRecursion Member es → AllByRecursion (IsPlacedTransaction Member sel) (placed_groups_in sel es)
+groups-placed Member sel es all =
+    all-given (IsSpanOf Member) (IsPlacedTransaction Member sel) (kept_transaction sel) (λ span t of_all kept. transaction-placed Member sel span t of_all kept) (spans es) (spans-all Member es all)
+
+-- each event of the groups is one of the events
+pub groups-among : (sel : Selection) (es : List Placed) → AllByRecursion (IsPlacedTransaction (Contains es) sel) (placed_groups_in sel es)
+groups-among sel es = groups-placed (Contains es) sel es (recursion_from_All (Contains es) es (All-contains_itself es))
+
+-- ---- by their numbers
+
+-- the transaction of a number
+pub transaction-at : (Member : Placed → Type 0) (sel : Selection) (es : List Placed) (k : ℕ) (t : PlacedTransaction) → AllByRecursion Member es → slice_get (placed_groups_in sel es) k ≡ Some t
+    → IsPlacedTransaction Member sel t
+transaction-at Member sel es k t all e = all-at (IsPlacedTransaction Member sel) (placed_groups_in sel es) k t (groups-placed Member sel es all) e
+
+-- its statement of a number
+pub statement-at : (Member : Placed → Type 0) (sel : Selection) (t : PlacedTransaction) (k : ℕ) (s : PlacedStatement) → IsPlacedTransaction Member sel t → slice_get t.statements k ≡ Some s
+    → IsPlacedStatement Member sel s
+statement-at Member sel t k s placed e = all-at (IsPlacedStatement Member sel) t.statements k s placed.statements e
+
+-- that one's map of a number
+pub map-at : (Member : Placed → Type 0) (sel : Selection) (s : PlacedStatement) (k : ℕ) (m : Placed) → IsPlacedStatement Member sel s → slice_get s.maps k ≡ Some m → IsPlacedMap Member sel m
+map-at Member sel s k m placed e = all-at (IsPlacedMap Member sel) s.maps k m placed.maps e
+
+-- and its rows event of a number
+pub rows-at : (Member : Placed → Type 0) (sel : Selection) (s : PlacedStatement) (k : ℕ) (r : PlacedRows) → IsPlacedStatement Member sel s → slice_get s.rows k ≡ Some r
+    → IsPlacedRows Member sel s.maps r
+rows-at Member sel s k r placed e = all-at (IsPlacedRows Member sel s.maps) s.rows k r placed.rows e

@@ -1,0 +1,92 @@
+-- What holds of each of some events holds of those of their spans and statements.
+use Rattle.std.proofs.Common.{◌≡◌, ℕ, zero, suc, Bool, true, false, not, if◌then◌else◌, List, [], ◌∷◌, filter, find, Option, Some, None, option_map, refl, sym, ap, subst, ◌∙◌}
+use Rattle.std.specs.List.{AllByRecursion, filter_map, cons_option, slice_get}
+use Rattle.std.proofs.lemmas.Option.{none-some, same_Some}
+use Rattle.blog_event.specs.File.{Placed}
+use Rattle.blog_event.specs.Format.{front_while}
+use Rattle.blog_trans.specs.Places.{is_begin, is_end, is_last_rows}
+use Rattle.blog_trans.specs.Groups.{Span, cons_if, spans, onto_first, statements_of}
+
+-- ---- lists
+
+-- of the elements that pass a test, and the test too
+pub all-filter : {A : Type 0} (P : A → Type 0) (test : A → Bool) (xs : List A) → AllByRecursion P xs → AllByRecursion (λ x. P x × (test x ≡ true)) (filter test xs)
+all-filter P test [] all = tt
+all-filter P test (x ∷ xs) all = by_case (test x) refl (all-filter P test xs all.1)
+  where
+    by_case : (b : Bool) → test x ≡ b → AllByRecursion (λ y. P y × (test y ≡ true)) (filter test xs)
+        → AllByRecursion (λ y. P y × (test y ≡ true)) (if b then x ∷ filter test xs else filter test xs)
+    by_case true passes more = ((all.0, passes), more)
+    by_case false passes more = more
+
+-- of those in front of the first that fails a test
+pub all-while : {A : Type 0} (P : A → Type 0) (test : A → Bool) (xs : List A) → AllByRecursion P xs → AllByRecursion P (front_while test xs)
+all-while P test [] all = tt
+all-while P test (x ∷ xs) all = by_case (test x) (all-while P test xs all.1)
+  where
+    by_case : (b : Bool) → AllByRecursion P (front_while test xs) → AllByRecursion P (if b then x ∷ front_while test xs else [])
+    by_case true more = (all.0, more)
+    by_case false more = tt
+
+-- of the first that passes it
+pub all-found : {A : Type 0} (P : A → Type 0) (test : A → Bool) (xs : List A) (y : A) → AllByRecursion P xs → find test xs ≡ Some y → P y × (test y ≡ true)
+all-found P test [] y all e = absurd (none-some y e)
+all-found P test (x ∷ xs) y all e = by_case (test x) refl (all-found P test xs y all.1) e
+  where
+    by_case : (b : Bool) → test x ≡ b → (find test xs ≡ Some y → P y × (test y ≡ true)) → (if b then Some x else find test xs) ≡ Some y → P y × (test y ≡ true)
+    by_case true passes more h = let same = same_Some x y h in (subst P same all.0, ap test (sym same) ∙ passes)
+    by_case false passes more h = more h
+
+-- of all that a function gives of them
+pub all-given : {A B : Type 0} (P : A → Type 0) (Q : B → Type 0) (f : A → Option B) → ((x : A) (y : B) → P x → f x ≡ Some y → Q y) → (xs : List A) → AllByRecursion P xs → AllByRecursion Q (filter_map f xs)
+all-given P Q f by [] all = tt
+all-given P Q f by (x ∷ xs) all = by_case (f x) refl (all-given P Q f by xs all.1)
+  where
+    by_case : (o : Option _) → f x ≡ o → AllByRecursion Q (filter_map f xs) → AllByRecursion Q (cons_option o (filter_map f xs))
+    by_case None is more = more
+    by_case (Some y) is more = (by x y all.0 is, more)
+
+-- of the one at a place
+pub all-at : {A : Type 0} (P : A → Type 0) (xs : List A) (k : ℕ) (x : A) → AllByRecursion P xs → slice_get xs k ≡ Some x → P x
+all-at P [] k x all e = absurd (none-some x e)
+all-at P (y ∷ xs) zero x all e = subst P (same_Some y x e) all.0
+all-at P (y ∷ xs) (suc k) x all e = all-at P xs k x all.1 e
+
+-- ---- spans and statements
+
+-- a span of such events
+pub record IsSpanOf (P : Placed → Type 0) (s : Span) : Type 0 where
+  pub begin : P s.begin
+  pub begin_is : is_begin s.begin ≡ true
+  pub inside : AllByRecursion P s.inside
+  pub end : P s.end
+  pub end_is : is_end s.end ≡ true
+
+-- the spans of such events
+pub spans-all : (P : Placed → Type 0) (ps : List Placed) → AllByRecursion P ps → AllByRecursion (IsSpanOf P) (spans ps)
+spans-all P [] all = tt
+spans-all P (p ∷ ps) all = by_case (is_begin p) refl (find is_end ps) refl (spans-all P ps all.1)
+  where
+    by_case : (b : Bool) → is_begin p ≡ b → (o : Option Placed) → find is_end ps ≡ o → AllByRecursion (IsSpanOf P) (spans ps)
+        → AllByRecursion (IsSpanOf P)
+        (if b then cons_if (option_map (λ end. record { begin = p; inside = front_while (λ x. not (is_end x)) ps; end = end }) o) (spans ps) else spans ps)
+    by_case true begins None found more = more
+    by_case true begins (Some q) found more =
+        let end = all-found P is_end ps q all.1 found in
+        (record { begin = all.0; begin_is = begins; inside = all-while P _ ps all.1; end = end.0; end_is = end.1 }, more)
+    by_case false begins o found more = more
+
+-- one more event of the first statement
+onto-first-all : (P : Placed → Type 0) (p : Placed) (ss : List (List Placed)) → P p → AllByRecursion (AllByRecursion P) ss → AllByRecursion (AllByRecursion P) (onto_first p ss)
+onto-first-all P p [] own all = tt
+onto-first-all P p (s ∷ ss) own all = ((own, all.0), all.1)
+
+-- the statements of such events
+pub statements-all : (P : Placed → Type 0) (ps : List Placed) → AllByRecursion P ps → AllByRecursion (AllByRecursion P) (statements_of ps)
+statements-all P [] all = tt
+statements-all P (p ∷ ps) all = by_case (is_last_rows p) (statements-all P ps all.1)
+  where
+    by_case : (b : Bool) → AllByRecursion (AllByRecursion P) (statements_of ps)
+        → AllByRecursion (AllByRecursion P) (if b then (p ∷ []) ∷ statements_of ps else onto_first p (statements_of ps))
+    by_case true more = ((all.0, tt), more)
+    by_case false more = onto-first-all P p (statements_of ps) all.0 more

@@ -1,0 +1,132 @@
+-- The maps of a kept statement are the first maps that are used. `statement` has its events, the latest first.
+use Rattle.std.proofs.Common.{◌≡◌, ℕ, Bool, true, false, ◌&&◌, ◌||◌, if◌then◌else◌, List, [], ◌∷◌, ◌++◌, filter, reverse, Option, Some, None, bytes_eq, refl, sym, ap, ◌∙◌, append-nil}
+use Rattle.std.specs.Option.{option_map_or}
+use Rattle.std.specs.List.{AllByRecursion, list_any}
+use Rattle.std.proofs.lemmas.Bool.{false≢true}
+use Rattle.std.proofs.lemmas.Option.{none-some, same_Some}
+use Rattle.blog_event.specs.File.{Placed}
+use Rattle.blog_trans.specs.Selection.{Selection}
+use Rattle.blog_trans.specs.Places.{is_rows, since, map_in}
+use Rattle.blog_trans.specs.Acceptance.{is_selected}
+use Rattle.blog_trans.specs.Groups.{PlacedRows, PlacedStatement, kept_rows, first_maps, statement_if}
+use Rattle.blog_trans.specs.Progress.{Open, appended_if, with_rows, closed, progress}
+use Rattle.blog_trans.specs.StatementMaps.{first_of_ids, is_used}
+use Rattle.blog_trans.specs.Passing.{HavePassed}
+use Rattle.blog_trans.proofs.ProgressSteps.{reverse-behind, IsChecked}
+use Rattle.blog_trans.proofs.ProgressRows.{AreChecked, kept_so_far, with-checked, no-rows-kept, found-stays}
+use Rattle.blog_trans.proofs.ProgressState.{open-kept}
+use Rattle.blog_trans.proofs.ProgressFirsts.{id_at, ids_of, is_id_among, IsFirst, bytes-own, bytes-same, bytes-differ, and-false, or-swap, and-spread, first-filter, first-found}
+use Rattle.blog_trans.proofs.KeptRows.{kept-facts}
+
+-- ---- used maps
+
+-- an id is that of a rows event, if there is one
+abbrev has_id : Option PlacedRows → List ℕ → Bool
+has_id o id = option_map_or (λ (r : PlacedRows). bytes_eq id (id_at r.event)) o false
+
+-- an id is among those of rows events and one more
+among-appended : (rows : List PlacedRows) (o : Option PlacedRows) (id : List ℕ) → is_id_among (ids_of (appended_if rows o)) id ≡ (has_id o id || is_id_among (ids_of rows) id)
+among-appended rows None id = refl
+among-appended [] (Some r) id = refl
+among-appended (x ∷ rows) (Some r) id =
+    ap (λ t. bytes_eq id (id_at x.event) || t) (among-appended rows (Some r) id) ∙ or-swap (bytes_eq id (id_at x.event)) (bytes_eq id (id_at r.event)) (is_id_among (ids_of rows) id)
+
+-- a map is used by a rows event that is its statement's and of its id, if this is kept
+used-latest : (sel : Selection) (m : Placed) (statement later : List Placed) (p : Placed) → (is_rows p ≡ true → IsChecked sel statement p)
+    → map_in (reverse statement ++ p ∷ later) (id_at m) ≡ Some m → (is_selected sel m.event.body && (is_rows p && bytes_eq (id_at p) (id_at m))) ≡ has_id (kept_rows sel (reverse statement) p) (id_at m)
+used-latest sel m statement later p checked found = by_rows (is_rows p) refl
+  where
+    selected : Bool
+    selected = is_selected sel m.event.body
+
+    -- its map is the one by which it was checked
+    same_map : (c : Placed) → map_in (reverse statement) (id_at p) ≡ Some c → bytes_eq (id_at p) (id_at m) ≡ true → c ≡ m
+    same_map c at same =
+        same_Some c m (sym (found-stays (reverse statement) (p ∷ later) (id_at p) c at) ∙ ap (map_in (reverse statement ++ p ∷ later)) (bytes-same (id_at p) (id_at m) same) ∙ found)
+
+    by_kept : (c : IsChecked sel statement p) (o : Option PlacedRows) → kept_rows sel (reverse statement) p ≡ o → (b : Bool) → bytes_eq (id_at p) (id_at m) ≡ b
+        → (s : Bool) → selected ≡ s → (s && b) ≡ has_id o (id_at m)
+    by_kept c None kept b same false is = refl
+    by_kept c None kept false same true is = refl
+    by_kept c None kept true same true is =
+        let some = c.kept (ap (λ (x : Placed). is_selected sel x.event.body) (same_map c.map c.found same) ∙ is) in
+        absurd (none-some some.0 (sym kept ∙ some.1))
+    by_kept c (Some r) kept false same s is =
+        and-false s ∙ sym (ap (λ (x : Placed). bytes_eq (id_at m) (id_at x)) (kept-facts sel (reverse statement) p r kept).event_is ∙ bytes-differ (id_at p) (id_at m) same)
+    by_kept c (Some r) kept true same true is =
+        sym (ap (λ (x : Placed). bytes_eq (id_at m) (id_at x)) (kept-facts sel (reverse statement) p r kept).event_is
+        ∙ ap (bytes_eq (id_at m)) (bytes-same (id_at p) (id_at m) same) ∙ bytes-own (id_at m))
+    by_kept c (Some r) kept true same false is =
+        let facts = kept-facts sel (reverse statement) p r kept in
+        absurd (false≢true (sym is ∙ sym (ap (λ (x : Placed). is_selected sel x.event.body) (same_map r.map facts.found same)) ∙ facts.selected))
+
+    by_rows : (b : Bool) → is_rows p ≡ b → (selected && (b && bytes_eq (id_at p) (id_at m))) ≡ has_id (kept_rows sel (reverse statement) p) (id_at m)
+    by_rows true is = by_kept (checked is) (kept_rows sel (reverse statement) p) refl (bytes_eq (id_at p) (id_at m)) refl selected refl
+    by_rows false is = and-false selected ∙ sym (ap (λ o. has_id o (id_at m)) (no-rows-kept sel (reverse statement) p is))
+
+-- the first map of an id is used if a kept rows event has the id
+used-is : (sel : Selection) (m : Placed) (statement : List Placed) → AreChecked sel statement → (later : List Placed) → map_in (reverse statement ++ later) (id_at m) ≡ Some m
+    → is_used sel statement m ≡ is_id_among (ids_of (kept_so_far sel statement)) (id_at m)
+used-is sel m [] checked later found = and-false (is_selected sel m.event.body)
+used-is sel m (p ∷ statement) checked later found =
+    let behind = ap (λ l. map_in l (id_at m)) (sym (reverse-behind p statement later)) ∙ found in
+    and-spread (is_selected sel m.event.body) (is_rows p && bytes_eq (id_at p) (id_at m)) (list_any (λ q. is_rows q && bytes_eq (id_at q) (id_at m)) statement)
+    ∙ ap (λ t. t || is_used sel statement m) (used-latest sel m statement later p checked.0 behind)
+    ∙ ap (λ t. has_id (kept_rows sel (reverse statement) p) (id_at m) || t) (used-is sel m statement checked.1 (p ∷ later) behind)
+    ∙ sym (among-appended (kept_so_far sel statement) (kept_rows sel (reverse statement) p) (id_at m))
+
+-- two tests that answer alike leave the same
+filter-same : {A : Type 0} (P : A → Type 0) (f g : A → Bool) → ((x : A) → P x → f x ≡ g x) → (xs : List A) → AllByRecursion P xs → filter f xs ≡ filter g xs
+filter-same P f g each [] all = refl
+filter-same P f g each (x ∷ xs) all =
+    ap (λ t. if t then x ∷ filter f xs else filter f xs) (each x all.0) ∙ ap (λ l. if g x then x ∷ l else l) (filter-same P f g each xs all.1)
+
+-- the first maps of the ids of the kept rows events are the first maps that are used
+pub used-maps : (sel : Selection) (statement : List Placed) → AreChecked sel statement
+    → first_maps (ids_of (kept_so_far sel statement)) (reverse statement) ≡ filter (is_used sel statement) (first_of_ids statement)
+used-maps sel statement checked =
+    first-filter (ids_of (kept_so_far sel statement)) statement
+    ∙ filter-same (IsFirst statement) (λ m. is_id_among (ids_of (kept_so_far sel statement)) (id_at m)) (is_used sel statement)
+    (λ m found. sym (used-is sel m statement checked [] (ap (λ l. map_in l (id_at m)) (append-nil (reverse statement)) ∙ found)))
+    (first_of_ids statement) (first-found statement)
+
+-- ---- the end of a statement
+
+-- a statement of these rows events with the used maps, if there is a rows event
+abbrev pub used_statement : Selection → List Placed → List PlacedRows → Option PlacedStatement
+used_statement sel statement [] = None
+used_statement sel statement (r ∷ rows) = Some (record { maps = filter (is_used sel statement) (first_of_ids statement); rows = r ∷ rows })
+
+statement-by : (sel : Selection) (statement : List Placed) (rows : List PlacedRows) → first_maps (ids_of rows) (reverse statement) ≡ filter (is_used sel statement) (first_of_ids statement)
+    → statement_if (reverse statement) rows ≡ used_statement sel statement rows
+statement-by sel statement [] maps = refl
+statement-by sel statement (r ∷ rows) maps = ap (λ ms. Some (record { maps = ms; rows = r ∷ rows })) maps
+
+-- the kept rows events of the open statement and one more event that passed
+pub taken-rows : (sel : Selection) (earlier : List Placed) (p : Placed) (o : Open) → HavePassed sel (p ∷ earlier) → (progress sel earlier).current ≡ Some o
+    → (with_rows (kept_rows sel (reverse (since earlier)) p) o).rows ≡ kept_so_far sel (p ∷ since earlier)
+taken-rows sel earlier p o passed is = ap (λ l. appended_if l (kept_rows sel (reverse (since earlier)) p)) (open-kept sel earlier o passed.1 is)
+
+-- the maps that they go by are the used first maps
+pub taken-maps : (sel : Selection) (earlier : List Placed) (p : Placed) (o : Open) → HavePassed sel (p ∷ earlier) → (progress sel earlier).current ≡ Some o
+    → first_maps (ids_of (with_rows (kept_rows sel (reverse (since earlier)) p) o).rows) (reverse (p ∷ since earlier))
+    ≡ filter (is_used sel (p ∷ since earlier)) (first_of_ids (p ∷ since earlier))
+taken-maps sel earlier p o passed is =
+    ap (λ l. first_maps (ids_of l) (reverse (p ∷ since earlier))) (taken-rows sel earlier p o passed is) ∙ used-maps sel (p ∷ since earlier) (with-checked sel earlier p passed)
+
+-- the statement that they make has these
+pub taken-statement : (sel : Selection) (earlier : List Placed) (p : Placed) (o : Open) → HavePassed sel (p ∷ earlier) → (progress sel earlier).current ≡ Some o
+    → statement_if (reverse (p ∷ since earlier)) (with_rows (kept_rows sel (reverse (since earlier)) p) o).rows
+    ≡ used_statement sel (p ∷ since earlier) (with_rows (kept_rows sel (reverse (since earlier)) p) o).rows
+taken-statement sel earlier p o passed is =
+    statement-by sel (p ∷ since earlier) (with_rows (kept_rows sel (reverse (since earlier)) p) o).rows (taken-maps sel earlier p o passed is)
+
+-- and is what the open transaction has at the statement's end
+pub taken-closed : (sel : Selection) (earlier : List Placed) (p : Placed) (o : Open) → HavePassed sel (p ∷ earlier) → (progress sel earlier).current ≡ Some o
+    → closed (reverse (p ∷ since earlier)) (with_rows (kept_rows sel (reverse (since earlier)) p) o)
+    ≡ record {
+      begin = o.begin;
+      statements = appended_if o.statements (used_statement sel (p ∷ since earlier) (with_rows (kept_rows sel (reverse (since earlier)) p) o).rows);
+      rows = [];
+    }
+taken-closed sel earlier p o passed is = ap (λ s. record { begin = o.begin; statements = appended_if o.statements s; rows = [] }) (taken-statement sel earlier p o passed is)

@@ -1,0 +1,178 @@
+-- How far a walk over a log has come: what was read, and what is left.
+use Rattle.std.proofs.Common.{◌≡◌, ℕ, ◌+◌, ◌≤◌, ◌<◌, Bool, true, false, not, ◌&&◌, ◌==◌, if◌then◌else◌, nat_lt, List, [], ◌∷◌, ◌++◌, length, drop, reverse, filter, Option, Some, None, refl, sym, ap, ◌∙◌, subst, inl, inr, arith}
+use Rattle.std.proofs.lemmas.Bool.{ne_eqb, eq-eqb}
+use Rattle.std.proofs.lemmas.List.{append-nil, reverse-reverse, length-drop}
+use Rattle.std.proofs.lemmas.List.Elements.{filter-append}
+use Rattle.std.proofs.lemmas.Option.{same_Some}
+use Rattle.blog_event.specs.declared.fault.Fault.{Fault}
+use Rattle.blog_event.specs.declared.fault.Fault.TheVariants.{CutEvent, NoEventAt}
+use Rattle.blog_event.specs.Fault.{needs, first_failing, fault_at}
+use Rattle.blog_event.specs.Event.{Event, event_at, event_size}
+use Rattle.blog_event.specs.File.{Placed, placed_from, end_of, is_below, read}
+use Rattle.blog_event.specs.Going.{EndsAt, AreRead}
+use Rattle.blog_event.proofs.Headers.{event-at-short}
+use Rattle.blog_event.proofs.Going.{left-more, left-none}
+use Rattle.blog_event.proofs.Opened.{LogReads}
+use Rattle.blog_trans.specs.declared.walker.Walker.{Walker}
+use Rattle.blog_trans.specs.Selection.{Selection}
+use Rattle.blog_trans.specs.Acceptance.{event_fault, is_in_range, range, is_start_inside, read_fault, first_read_fault, is_cut}
+use Rattle.blog_trans.specs.Refusals.{IsRefusal}
+use Rattle.blog_trans.specs.WalkerView.{Walks, IsWithin}
+use Rattle.blog_trans.specs.WalkView.{walk_fault}
+use Rattle.blog_trans.proofs.CountsCode.{few-upto}
+use Rattle.blog_trans.proofs.ProgressSteps.{reverse-latest, reverse-behind}
+
+-- the events that were read, the latest first, and those that are left
+pub record Left {A : Type 0} (bytes : List ℕ) (sel : Selection) (at : ℕ) (walker : Walker A) : Type 0 where
+  pub earlier : List Placed
+  pub left : List Event
+  pub are : AreRead bytes sel.stop at left
+  pub walks : Walks sel (range sel earlier) walker
+  pub same : first_read_fault sel [] (placed_from 4 (read bytes sel.stop)) ≡ first_read_fault sel earlier (placed_from at left)
+  pub whole : reverse earlier ++ placed_from at left ≡ placed_from 4 (read bytes sel.stop)
+  pub ends : end_of at left ≡ end_of 4 (read bytes sel.stop)
+
+-- no fault before others
+fault-behind : (check : Option Fault) (others : Option Fault) → check ≡ None → first_failing (check ∷ others ∷ []) ≡ others
+fault-behind check others none = ap (λ c. first_failing (c ∷ others ∷ [])) none ∙ at others
+  where
+    at : (o : Option Fault) → first_failing (None ∷ o ∷ []) ≡ o
+    at None = refl
+    at (Some f) = refl
+
+fault-first : (check : Option Fault) (others : List (Option Fault)) (f : Fault) → check ≡ Some f → first_failing (check ∷ others) ≡ Some f
+fault-first check others f is = ap (λ c. first_failing (c ∷ others)) is
+
+-- ---- the event at 4
+
+-- no position lies behind itself
+outside-range : (sel : Selection) (e : Event) → is_in_range sel (record { pos = 4; event = e }) ≡ false
+outside-range sel e = refl
+
+format-fault : (sel : Selection) (e : Event) → is_start_inside sel (record { pos = 4; event = e }) ≡ false → read_fault sel [] (record { pos = 4; event = e }) ≡ None
+format-fault sel e out = ap (λ b. first_failing (fault_at sel.start (needs (not b) NoEventAt) ∷ None ∷ [])) out
+
+pub left-start : {A : Type 0} (walker : Walker A) (bytes : List ℕ) (sel : Selection) (at : ℕ) (first : Event) → LogReads bytes sel.stop at → event_at (drop 4 bytes) ≡ Some first
+    → is_start_inside sel (record { pos = 4; event = first }) ≡ false → Walks sel [] walker → Left bytes sel at walker
+left-start walker bytes sel at first reads stands out walks =
+    let here : reads.first ≡ first = same_Some reads.first first (sym reads.stands ∙ stands) in
+    let read_is : read bytes sel.stop ≡ first ∷ reads.later = reads.read_is ∙ ap (λ (e : Event). e ∷ reads.later) here in
+    let starts : 4 + event_size first ≡ at = ap (λ (e : Event). 4 + event_size e) (sym here) ∙ reads.starts in
+    let p : Placed = record { pos = 4; event = first } in
+    record {
+      earlier = p ∷ [];
+      left = reads.later;
+      are = reads.left.are;
+      walks = walks;
+      same = ap (λ (es : List Event). first_read_fault sel [] (placed_from 4 es)) read_is
+          ∙ fault-behind (read_fault sel [] p) (first_read_fault sel (p ∷ []) (placed_from (4 + event_size first) reads.later)) (format-fault sel first out)
+          ∙ ap (λ (n : ℕ). first_read_fault sel (p ∷ []) (placed_from n reads.later)) starts;
+      whole = ap (λ (n : ℕ). p ∷ placed_from n reads.later) (sym starts) ∙ ap (placed_from 4) (sym read_is);
+      ends = ap (λ (n : ℕ). end_of n reads.later) (sym starts) ∙ ap (end_of 4) (sym read_is);
+    }
+
+-- the start lies inside the event at 4
+pub inside-format : (bytes : List ℕ) (sel : Selection) (at : ℕ) (first : Event) → LogReads bytes sel.stop at → event_at (drop 4 bytes) ≡ Some first
+    → is_start_inside sel (record { pos = 4; event = first }) ≡ true → walk_fault bytes sel ≡ Some (NoEventAt sel.start)
+inside-format bytes sel at first reads stands inside =
+    let here : reads.first ≡ first = same_Some reads.first first (sym reads.stands ∙ stands) in
+    let p : Placed = record { pos = 4; event = first } in
+    fault-first (first_read_fault sel [] (placed_from 4 (read bytes sel.stop))) _ (NoEventAt sel.start)
+    (ap (λ (es : List Event). first_read_fault sel [] (placed_from 4 es)) (reads.read_is ∙ ap (λ (e : Event). e ∷ reads.later) here)
+    ∙ fault-first (read_fault sel [] p) _ (NoEventAt sel.start) (ap (λ b. first_failing (fault_at sel.start (needs (not b) NoEventAt) ∷ None ∷ [])) inside))
+
+-- ---- one more event
+
+module _ {A : Type 0} (bytes : List ℕ) (sel : Selection) (at : ℕ) (before : Walker A) (l : Left bytes sel at before) (e : Event)
+    (below : is_below at sel.stop ≡ true) (stands : event_at (drop at bytes) ≡ Some e) where
+  abbrev pub latest : Placed
+  latest = record { pos = at; event = e }
+
+  fault-here : first_read_fault sel [] (placed_from 4 (read bytes sel.stop))
+      ≡ first_failing (read_fault sel l.earlier latest ∷ first_read_fault sel (latest ∷ l.earlier) (placed_from (at + event_size e) (left-more bytes sel.stop at l.left e l.are below stands).0) ∷ [])
+  fault-here = l.same ∙ ap (λ (es : List Event). first_read_fault sel l.earlier (placed_from at es)) (left-more bytes sel.stop at l.left e l.are below stands).1
+
+  -- it passed
+  pub left-on : (after : Walker A) (n : ℕ) → at + event_size e ≡ n → read_fault sel l.earlier latest ≡ None → Walks sel (range sel (latest ∷ l.earlier)) after → Left bytes sel n after
+  left-on after n next passed walks =
+      let more = left-more bytes sel.stop at l.left e l.are below stands in
+      record {
+        earlier = latest ∷ l.earlier;
+        left = more.0;
+        are = subst (λ (m : ℕ). AreRead bytes sel.stop m more.0) next more.2;
+        walks = walks;
+        same = fault-here ∙ fault-behind _ _ passed ∙ ap (λ (m : ℕ). first_read_fault sel (latest ∷ l.earlier) (placed_from m more.0)) next;
+        whole = ap (λ (m : ℕ). reverse (latest ∷ l.earlier) ++ placed_from m more.0) (sym next) ∙ reverse-behind latest l.earlier (placed_from (at + event_size e) more.0)
+            ∙ ap (λ (es : List Event). reverse l.earlier ++ placed_from at es) (sym more.1) ∙ l.whole;
+        ends = ap (λ (m : ℕ). end_of m more.0) (sym next) ∙ ap (end_of at) (sym more.1) ∙ l.ends;
+      }
+
+  -- it is refused
+  pub left-refused : (fault : Fault) → IsRefusal (read_fault sel l.earlier latest) fault → IsRefusal (walk_fault bytes sel) fault
+  left-refused fault (inl memory) = inl memory
+  left-refused fault (inr is) = inr (fault-first _ _ fault (fault-here ∙ fault-first _ _ fault is))
+
+-- ---- the end
+
+module _ {A : Type 0} (bytes : List ℕ) (sel : Selection) (at : ℕ) (walker : Walker A) (l : Left bytes sel at walker) (ends : EndsAt bytes sel.stop at) where
+  none : l.left ≡ []
+  none = left-none bytes sel.stop at l.left l.are ends
+
+  end-is : at ≡ end_of 4 (read bytes sel.stop)
+  end-is = ap (end_of at) (sym none) ∙ l.ends
+
+  passed : first_read_fault sel [] (placed_from 4 (read bytes sel.stop)) ≡ None
+  passed = l.same ∙ ap (λ (es : List Event). first_read_fault sel l.earlier (placed_from at es)) none
+
+  fault-is : (cut : Bool) → is_below at sel.stop && not (at == length bytes) ≡ cut → walk_fault bytes sel ≡ fault_at at (needs (not cut) CutEvent)
+  fault-is cut is =
+      fault-behind _ _ passed
+      ∙ ap (λ (n : ℕ). fault_at n (needs (not (is_below n sel.stop && not (n == length bytes))) CutEvent)) (sym end-is)
+      ∙ ap (λ b. fault_at at (needs (not b) CutEvent)) is
+
+  -- a rest is left that is no event
+  pub left-cut : is_below at sel.stop && not (at == length bytes) ≡ true → walk_fault bytes sel ≡ Some (CutEvent at)
+  left-cut is = fault-is true is
+
+  -- all is read
+  pub left-over : is_below at sel.stop && not (at == length bytes) ≡ false
+      → (walk_fault bytes sel ≡ None) × (at ≡ end_of 4 (read bytes sel.stop)) × Walks sel (reverse (range sel (placed_from 4 (read bytes sel.stop)))) walker
+  left-over is =
+      let read_all : reverse l.earlier ≡ placed_from 4 (read bytes sel.stop) = sym (append-nil (reverse l.earlier)) ∙ ap (λ (es : List Event). reverse l.earlier ++ placed_from at es) (sym none) ∙ l.whole in
+      (fault-is false is, end-is, subst (λ (ps : List Placed). Walks sel ps walker) (range-reverse l.earlier ∙ ap (λ (ps : List Placed). reverse (range sel ps)) read_all) l.walks)
+    where
+      range-reverse : (ps : List Placed) → range sel ps ≡ reverse (range sel (reverse ps))
+      range-reverse ps = sym (reverse-reverse (range sel ps)) ∙ ap reverse (sym (filter-reverse ps))
+        where
+          filter-reverse : (ps : List Placed) → range sel (reverse ps) ≡ reverse (range sel ps)
+          filter-reverse [] = refl
+          filter-reverse (p ∷ ps) = ap (range sel) (reverse-latest p ps) ∙ filter-append (is_in_range sel) (reverse ps) (p ∷ []) ∙ ap (λ xs. xs ++ range sel (p ∷ [])) (filter-reverse ps) ∙ last (is_in_range sel p)
+            where
+              last : (b : Bool) → reverse (range sel ps) ++ (if b then p ∷ [] else []) ≡ reverse (if b then p ∷ range sel ps else range sel ps)
+              last true = sym (reverse-latest p (range sel ps))
+              last false = append-nil (reverse (range sel ps))
+
+-- ---- small facts
+
+pub within-more : {A : Type 0} (walker : Walker A) (n m : ℕ) → n ≤ m → IsWithin n walker → IsWithin m walker
+within-more walker n m le few = record { entries = omega (arith, le, few.entries); numbers = few-upto n m walker.counts.rows.entries le few.numbers }
+
+pub both : {a b : Bool} → a ≡ true → b ≡ true → a && b ≡ true
+both p q = λ i. p i && q i
+
+-- no event stands at the end
+pub none-at-end : (bytes : List ℕ) (at : ℕ) → at ≡ length bytes → event_at (drop at bytes) ≡ None
+none-at-end bytes at is = event-at-short (drop at bytes) (omega (arith, length-drop at bytes, is))
+
+not-same : (n m : ℕ) → (n ≡ m → ⊥) → not (n == m) ≡ true
+not-same n m ne = ap not (ne_eqb n m ne)
+
+pub below-the-end : {b : Bool} (n m : ℕ) → b ≡ true → (n ≡ m → ⊥) → b && not (n == m) ≡ true
+below-the-end n m below ne = both below (not-same n m ne)
+
+pub at-the-end : (b : Bool) (n m : ℕ) → n ≡ m → b && not (n == m) ≡ false
+at-the-end b n m is = ap (λ x. b && not x) (eq-eqb n m is) ∙ no b
+  where
+    no : (b : Bool) → b && false ≡ false
+    no true = refl
+    no false = refl

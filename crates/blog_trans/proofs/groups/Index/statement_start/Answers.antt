@@ -1,0 +1,24 @@
+use Rattle.std.proofs.Common.{◌+◌, ap, ◌∙◌, arith}
+use Rattle.blog_trans.specs.Entries.{statement_place}
+use Rattle.blog_trans.specs.IndexView.{index_groups}
+use Rattle.blog_trans.proofs.IndexStatements.{has_statement, same_transaction, below, start_found}
+use Rattle.blog_trans.proofs.groups.Index.statement_start.Goals as goal
+
+pub first_statement-requires : goal.first_statement-requires
+first_statement-requires g c = below c.args.self.now c.args.t c.args.s (has_statement c.args.self.now c.args.t c.args.s c.requires)
+
+pub overflow_add-n : goal.overflow_add-n
+overflow_add-n g c =
+    let has = has_statement c.args.self.now c.args.t c.args.s c.requires in
+    omega (arith, (start_found c.args.self.now c.args.t c.args.s (c.first_statement.result + c.args.s) has (ap (λ n. n + c.args.s) c.first_statement.ensures)).within)
+
+pub index-requires : goal.index-requires
+index-requires g c =
+    let has = has_statement c.args.self.now c.args.t c.args.s c.requires in
+    omega (arith, (start_found c.args.self.now c.args.t c.args.s (c.first_statement.result + c.args.s) has (ap (λ n. n + c.args.s) c.first_statement.ensures)).within)
+
+pub returns : goal.returns
+returns g c = λ x at.
+    let has = has_statement c.args.self.now c.args.t c.args.s c.requires in
+    (start_found c.args.self.now c.args.t c.args.s (c.first_statement.result + c.args.s) has (ap (λ n. n + c.args.s) c.first_statement.ensures)).value c.index.result.now c.index.ensures
+    ∙ ap (λ z. statement_place (index_groups c.args.self.now) c.args.t z c.args.s) (same_transaction c.args.self.now c.args.t c.args.s has x at)

@@ -1,0 +1,56 @@
+use Rattle.std.proofs.Common.{◌≡◌, ◌∙◌, ap, sym, subst, inr, Some}
+use Rattle.blog_event.specs.LogView.{log_bytes}
+use Rattle.blog_event.proofs.Opened.{log-opened}
+use Rattle.blog_trans.specs.Selection.{selection_of}
+use Rattle.blog_trans.specs.Entries.{Shows}
+use Rattle.blog_trans.specs.Progress.{Progress}
+use Rattle.blog_trans.specs.CountsView.{AreCounts}
+use Rattle.blog_trans.specs.WalkerView.{progress_changes, progress_tables}
+use Rattle.blog_trans.proofs.IndexCode.{walk-refused, end-refused, last-is, progress-is}
+use Rattle.blog_trans.proofs.walking.index.Goals as goal
+
+pub walk-requires-clause-walks : goal.walk-requires-clause-walks
+walk-requires-clause-walks g c = c.new-walker.ensures.walks (selection_of c.args.sel.now)
+
+pub returns-in-Err-clause-refused : goal.returns-in-Err-clause-refused
+returns-in-Err-clause-refused g c =
+    walk-refused (log_bytes c.args.log.now) (selection_of c.args.sel.now) c.in-Err.fault (log-opened c.args.log.now) c.in-Err.ensures.through
+
+pub returns-in-Some-clause-refused : goal.returns-in-Some-clause-refused
+returns-in-Some-clause-refused g c =
+    let bytes = log_bytes c.args.log.now in
+    let sel = selection_of c.args.sel.now in
+    let through = c.in-Ok.ensures.through in
+    inr (end-refused bytes sel (log-opened c.args.log.now) through.0
+    ∙ last-is bytes sel c.end.result c.in-Ok.at c.place.result c.end.ensures through.1 (c.place.ensures ∙ through.2.judge.place_is)
+    ∙ sym c.end_fault.ensures ∙ c.in-Some.is)
+
+pub new-requires-clause-accepted : goal.new-requires-clause-accepted
+new-requires-clause-accepted g c =
+    let bytes = log_bytes c.args.log.now in
+    let sel = selection_of c.args.sel.now in
+    let through = c.in-Ok.ensures.through in
+    end-refused bytes sel (log-opened c.args.log.now) through.0
+    ∙ last-is bytes sel c.end.result c.in-Ok.at c.place.result c.end.ensures through.1 (c.place.ensures ∙ through.2.judge.place_is)
+    ∙ sym c.end_fault.ensures ∙ c.in_default.is
+
+pub new-requires-clause-kept : goal.new-requires-clause-kept
+new-requires-clause-kept g c =
+    let bytes = log_bytes c.args.log.now in
+    let sel = selection_of c.args.sel.now in
+    let through = c.in-Ok.ensures.through in
+    let accepted = end-refused bytes sel (log-opened c.args.log.now) through.0
+    ∙ last-is bytes sel c.end.result c.in-Ok.at c.place.result c.end.ensures through.1 (c.place.ensures ∙ through.2.judge.place_is)
+    ∙ sym c.end_fault.ensures ∙ c.in_default.is in
+    let keeper = c.walk.new.walker.keeper in
+    subst (Shows keeper.entries.items keeper.transactions keeper.statements) (progress-is bytes sel accepted through.2.passed) through.2.keeps.keeper.shows
+
+pub new-requires-clause-counted : goal.new-requires-clause-counted
+new-requires-clause-counted g c =
+    let bytes = log_bytes c.args.log.now in
+    let sel = selection_of c.args.sel.now in
+    let through = c.in-Ok.ensures.through in
+    let accepted = end-refused bytes sel (log-opened c.args.log.now) through.0
+    ∙ last-is bytes sel c.end.result c.in-Ok.at c.place.result c.end.ensures through.1 (c.place.ensures ∙ through.2.judge.place_is)
+    ∙ sym c.end_fault.ensures ∙ c.in_default.is in
+    subst (λ (k : Progress). AreCounts (progress_changes k) (progress_tables k) c.walk.new.walker.counts) (progress-is bytes sel accepted through.2.passed) through.2.keeps.counts

@@ -1,0 +1,83 @@
+use Rattle.std.proofs.Common.{◌≡◌, ◌∙◌, ◌∷◌, ◌&&◌, ◌==◌, not, List, None, true, false, ◌+◌, ◌<◌, ◌≤◌, ℕ, ap, sym, subst, length, refl, arith, inl, inr, Some, drop, option_map}
+use Rattle.blog_event.specs.Event.{Event, event_of, event_at, event_size}
+use Rattle.blog_event.specs.File.{Placed, is_below}
+use Rattle.blog_event.specs.LogView.{log_bytes}
+use Rattle.blog_event.proofs.Opened.{log-reads}
+use Rattle.blog_trans.specs.Selection.{selection_of}
+use Rattle.blog_trans.specs.Acceptance.{is_start_inside, range, read_fault}
+use Rattle.blog_trans.specs.Refusals.{IsRefusal}
+use Rattle.blog_trans.specs.WalkerView.{Walks, IsWithin, placed}
+use Rattle.blog_trans.specs.WalkView.{walk_fault}
+use Rattle.blog_trans.proofs.WalkCode.{within-more, below-the-end, at-the-end, none-at-end, left-start, inside-format, left-on, left-refused, left-cut, left-over}
+use Rattle.blog_trans.proofs.walking.walk.Goals as goal
+
+pub events-init : goal.events-init
+events-init g c =
+    let sel = selection_of c.args.sel.now in
+    let out : is_start_inside sel (record { pos = 4; event = event_of c.format.result }) ≡ false =
+    ap (λ (n : ℕ). is_start_inside sel (record { pos = n; event = event_of c.format.result })) (sym c.format.ensures.pos) ∙ sym c.is_start_inside.ensures ∙ c.if-is_start_inside.false in
+    let reads = log-reads c.args.log.now c.args.sel.now.stop c.first-at.result c.first-at.ensures.event in
+    record {
+      left = left-start c.args.walker.now (log_bytes c.args.log.now) sel c.first-at.result (event_of c.format.result) reads c.format.ensures.event out c.requires.walks;
+      behind = omega (arith, reads.starts);
+      inside = c.first-at.ensures.within;
+      few = within-more c.args.walker.now 0 c.first-at.result (omega arith) c.requires.begins;
+    }
+
+pub returns-then-is_start_inside : goal.returns-then-is_start_inside
+returns-then-is_start_inside g c =
+    let sel = selection_of c.args.sel.now in
+    let inside : is_start_inside sel (record { pos = 4; event = event_of c.format.result }) ≡ true =
+    ap (λ (n : ℕ). is_start_inside sel (record { pos = n; event = event_of c.format.result })) (sym c.format.ensures.pos) ∙ sym c.is_start_inside.ensures ∙ c.if-is_start_inside.true in
+    record { through = inr (inside-format (log_bytes c.args.log.now) sel _ (event_of c.format.result) (log-reads c.args.log.now c.args.sel.now.stop _ (ap (option_map (λ e. 4 + event_size e)) c.format.ensures.event)) c.format.ensures.event inside) }
+
+pub returns-in_default : goal.returns-in_default
+returns-in_default g c =
+    let sel = selection_of c.args.sel.now in
+    let below : is_below c.events.at sel.stop ≡ true = sym c.is_below.ensures ∙ c.events-test.true in
+    record { through = inr (left-cut (log_bytes c.args.log.now) sel c.events.at c.events.walker c.events.invariant.left (inr (sym c.in_default.ensures.event)) (below-the-end _ _ below (λ e. omega (arith, e, c.if-at-end.true, c.end.ensures)))) }
+
+pub returns-in-Err : goal.returns-in-Err
+returns-in-Err g c =
+    let sel = selection_of c.args.sel.now in
+    let bytes = log_bytes c.args.log.now in
+    let l = c.events.invariant.left in
+    let e = event_of c.in-Ok.event in
+    let below : is_below c.events.at sel.stop ≡ true = sym c.is_below.ensures ∙ c.events-test.true in
+    let at : placed c.in-Ok.event ≡ record { pos = c.events.at; event = e } = ap (λ (n : ℕ). record { pos = n; event = e }) c.in-Ok.ensures.pos in
+    record {
+      through = left-refused bytes sel c.events.at c.events.walker l e below (sym c.in-Ok.ensures.event) c.in-Err.fault
+          (subst (λ (p : Placed). IsRefusal (read_fault sel l.earlier p) c.in-Err.fault) at (c.in-Err.ensures.walks l.earlier l.walks));
+    }
+
+pub events-preserved : goal.events-preserved
+events-preserved g c =
+    let sel = selection_of c.args.sel.now in
+    let bytes = log_bytes c.args.log.now in
+    let l = c.events.invariant.left in
+    let e = event_of c.in-Ok.event in
+    let below : is_below c.events.at sel.stop ≡ true = sym c.is_below.ensures ∙ c.events-test.true in
+    let stands : event_at (drop c.events.at bytes) ≡ Some e = sym c.in-Ok.ensures.event in
+    let at : placed c.in-Ok.event ≡ record { pos = c.events.at; event = e } = ap (λ (n : ℕ). record { pos = n; event = e }) c.in-Ok.ensures.pos in
+    let read = c.in-Ok-read.ensures.walks l.earlier l.walks in
+    record {
+      left = left-on bytes sel c.events.at c.events.walker l e below stands c.read.new.walker _ (ap (λ (n : ℕ). c.events.at + n) (sym c.in-Ok.ensures.size))
+          (ap (read_fault sel l.earlier) (sym at) ∙ read.0) (subst (λ (p : Placed). Walks sel (range sel (p ∷ l.earlier)) c.read.new.walker) at read.1);
+      behind = omega (arith, c.events.invariant.behind);
+      inside = c.in-Ok.ensures.within;
+      few = within-more c.read.new.walker _ _ (omega (arith, c.in-Ok.ensures.pos, c.in-Ok.ensures.size)) c.in-Ok-read.ensures.within;
+    }
+
+pub returns-else-at-end : goal.returns-else-at-end
+returns-else-at-end g c =
+    let sel = selection_of c.args.sel.now in
+    let bytes = log_bytes c.args.log.now in
+    let here : c.events.at ≡ length bytes = omega (arith, c.if-at-end.false, c.end.ensures) in
+    let none : event_at (drop c.events.at bytes) ≡ None = none-at-end bytes c.events.at here in
+    record { through = left-over bytes sel c.events.at c.events.walker c.events.invariant.left (inr none) (at-the-end _ _ _ here) }
+
+pub returns-after-events : goal.returns-after-events
+returns-after-events g c =
+    let sel = selection_of c.args.sel.now in
+    let above : is_below c.events.at sel.stop ≡ false = sym c.is_below.ensures ∙ c.events-test.false in
+    record { through = left-over (log_bytes c.args.log.now) sel c.events.at c.events.walker c.events.invariant.left (inl above) (ap (λ b. b && not (c.events.at == length (log_bytes c.args.log.now))) above) }

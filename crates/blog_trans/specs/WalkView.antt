@@ -1,0 +1,34 @@
+-- What a walk over a log tells.
+use Rattle.std.specs.Prelude.{◌≡◌, ◌+◌, ℕ, not, ◌&&◌, nat_lt, List, [], ◌∷◌, reverse, Option, None, Result, Ok, Err, MatchResult}
+use Rattle.blog_event.specs.declared.fault.Fault.{Fault}
+use Rattle.blog_event.specs.declared.fault.Fault.TheVariants.{CutEvent, NoEventAt, Unended}
+use Rattle.blog_event.specs.Fault.{needs, first_failing, fault_at}
+use Rattle.blog_event.specs.File.{Placed, placed_from, end_of, is_below, read}
+use Rattle.blog_trans.specs.declared.walker.Walker.{Walker}
+use Rattle.blog_trans.specs.declared.place.Place.{Place}
+use Rattle.blog_trans.specs.Selection.{Selection}
+use Rattle.blog_trans.specs.Places.{is_outside}
+use Rattle.blog_trans.specs.Acceptance.{range, first_read_fault, is_cut}
+use Rattle.blog_trans.specs.Refusals.{IsRefusal}
+use Rattle.blog_trans.specs.WalkerView.{Walks}
+
+-- an event is read: it passed and is walked, or the log is refused at it. `read` has it and the events before it.
+abbrev pub IsRead : {A : Type 0} → Option Fault → Selection → List Placed → Result Unit Fault → Walker A → Type 0
+IsRead wanted sel read result walker = MatchResult result (λ done. (wanted ≡ None) × Walks sel (range sel read) walker) (IsRefusal wanted)
+
+-- the fault of the events that are read, or of a rest behind them
+abbrev pub walk_fault : List ℕ → Selection → Option Fault
+walk_fault bytes sel =
+    let events = read bytes sel.stop in
+    first_failing (first_read_fault sel [] (placed_from 4 events) ∷ fault_at (end_of 4 events) (needs (not (is_cut bytes sel events)) CutEvent) ∷ [])
+
+-- all events are read, which ends at this position, or the log is refused at the first that fails
+abbrev pub IsThrough : {A : Type 0} → List ℕ → Selection → Result ℕ Fault → Walker A → Type 0
+IsThrough bytes sel result walker =
+    let events = read bytes sel.stop in
+    MatchResult result (λ at. (walk_fault bytes sel ≡ None) × (at ≡ end_of 4 events) × Walks sel (reverse (range sel (placed_from 4 events))) walker) (IsRefusal (walk_fault bytes sel))
+
+-- the fault of a range that ends at a position and in a place, of a log of so many bytes
+abbrev pub end_fault : ℕ → Selection → Place → ℕ → Option Fault
+end_fault end sel last at = first_failing (
+    fault_at sel.start (needs (not (is_below sel.start sel.stop && nat_lt end sel.start)) NoEventAt) ∷ fault_at at (needs (is_outside last) Unended) ∷ [])

@@ -1,0 +1,315 @@
+//! The index of a log: its groups under a selection.
+
+ghost use Rattle.std.specs.Prelude.{◌≡◌, ◌+◌, length, map, take, None};
+ghost use Rattle.blog_event.specs.Event.{event_size};
+ghost use Rattle.blog_event.specs.LogView.{log_bytes};
+ghost use Rattle.blog_trans.specs.Selection.{selection_of};
+ghost use Rattle.blog_trans.specs.Acceptance.{fault};
+ghost use Rattle.blog_trans.specs.Groups.{placed_groups};
+ghost use Rattle.blog_trans.specs.PlacedChanges.{placed_changes, placed_tables};
+ghost use Rattle.blog_trans.specs.CountsView.{AreCounts};
+ghost use Rattle.blog_trans.specs.Entries.{ats_of, links_from, statement_starts, statements_in, transaction_starts};
+
+use crate::counts::Counts;
+use crate::entry::Entry;
+use crate::keeper::Keeper;
+use crate::kind::{EventKind, event_kind};
+use crate::selection::Selection;
+use blog_event::{Event, Log};
+use blog_row::{Layout, RowsEvent, TableMap};
+use std::alloc::{Allocator, Global};
+
+/// The groups of a log under a selection: what is kept of it. Transactions are numbered from 0, and so are the
+/// statements of a transaction, the maps and the rows events of a statement. Nothing is copied from the log.
+#[derive(Drop)]
+pub struct Index<'a, 's, A: Allocator = Global> {
+    log: Log<'a>,
+    sel: Selection<'s>,
+    entries: Vec<Entry, A>,
+    transactions: u32,
+    statements: u32,
+    counts: Counts<'a, A>,
+    pub ghost accepted: { fault (log_bytes log) (selection_of sel) ≡ None },
+    ghost ats: { map (λ e. e.at) entries.items ≡ ats_of (placed_groups (log_bytes log) (selection_of sel)) },
+    ghost links: { map (λ e. e.link) entries.items ≡ links_from 0 (placed_groups (log_bytes log) (selection_of sel)) },
+    ghost counted: { transactions ≡ length (placed_groups (log_bytes log) (selection_of sel)) },
+    ghost statements_counted: { statements ≡ statements_in (placed_groups (log_bytes log) (selection_of sel)) },
+    ghost transaction_column: { take transactions (map (λ e. e.transaction) entries.items)
+        ≡ transaction_starts 0 (placed_groups (log_bytes log) (selection_of sel)) },
+    ghost statement_column: { take statements (map (λ e. e.statement) entries.items)
+        ≡ statement_starts 0 (placed_groups (log_bytes log) (selection_of sel)) },
+    ghost tallied: { AreCounts (placed_changes (placed_groups (log_bytes log) (selection_of sel)))
+        (placed_tables (placed_groups (log_bytes log) (selection_of sel))) counts },
+}
+
+/// A table, and how many of its rows the groups insert, update and delete.
+#[derive(Clone, Copy, Debug, PartialEq, Eq)]
+pub struct TableCount<'a> {
+    /// The bytes of the schema's name.
+    pub schema: &'a [u8],
+    /// The bytes of the table's name.
+    pub table: &'a [u8],
+    /// How many rows are inserted.
+    pub inserts: u64,
+    /// How many rows are updated.
+    pub updates: u64,
+    /// How many rows are deleted.
+    pub deletes: u64,
+}
+
+impl<'a, 's, A: Allocator> Index<'a, 's, A> {
+    ghost use Rattle.std.specs.Prelude.{◌<◌, ◌∷◌, List, [], Ok, Some, IsSome, IfSome, drop, option_map, slice_get, vec_len};
+    ghost use Rattle.blog_event.specs.Event.{event_at, event_of};
+    ghost use Rattle.blog_row.specs.TableMap.{names_of, layout_of};
+    ghost use Rattle.blog_row.specs.TableMapView.{map_names};
+    ghost use Rattle.blog_row.specs.LayoutView.{layout_columns};
+    ghost use Rattle.blog_row.specs.RowsEventView.{rows_body};
+    ghost use Rattle.blog_trans.specs.Groups.{PlacedStatement, PlacedTransaction, groups};
+    ghost use Rattle.blog_trans.specs.Changes.{counts_of};
+    ghost use Rattle.blog_trans.specs.TableCountView.{table_counted};
+    ghost use Rattle.blog_trans.specs.Entries.{ShowsGroups, statement_place, transaction_place};
+    ghost use Rattle.blog_trans.specs.IndexView.{index_bytes, index_groups, index_selection, placed, map_at, rows_at, statement_at};
+
+    /// The groups of a log, of what was kept of it.
+    pub(crate) fn new(
+        log: Log<'a>,
+        sel: Selection<'s>,
+        keeper: Keeper<A>,
+        counts: Counts<'a, A>,
+    ) -> Self
+        requires accepted { fault (log_bytes log) (selection_of sel) ≡ None }
+        requires kept { ShowsGroups keeper.entries.items keeper.transactions keeper.statements (placed_groups (log_bytes log) (selection_of sel)) }
+        requires counted { AreCounts (placed_changes (placed_groups (log_bytes log) (selection_of sel)))
+            (placed_tables (placed_groups (log_bytes log) (selection_of sel))) counts }
+        ensures bytes { index_bytes result ≡ log_bytes log.entry }
+        ensures selection { index_selection result ≡ selection_of sel.entry }
+    {
+        Index {
+            log,
+            sel,
+            entries: keeper.entries,
+            transactions: keeper.transactions,
+            statements: keeper.statements,
+            counts,
+        }
+    }
+
+    /// The log.
+    pub fn log(&self) -> Log<'a>
+        ensures bytes { log_bytes result ≡ index_bytes self.now }
+        ensures accepted { fault (index_bytes self.now) (index_selection self.now) ≡ None }
+    {
+        self.log
+    }
+
+    /// The number of transactions.
+    pub fn transactions(&self) -> usize
+        ensures { result ≡ length (index_groups self.now) }
+    {
+        self.transactions as usize
+    }
+
+    /// The entry at which transaction `t` begins.
+    fn transaction_start(&self, t: usize) -> usize
+        requires { t < length (index_groups self.now) }
+        ensures { result ≡ transaction_place (index_groups self.now) t }
+    {
+        self.entries[t].transaction as usize
+    }
+
+    /// The entry behind transaction `t`.
+    fn transaction_end(&self, t: usize) -> usize
+        requires { t < length (index_groups self.now) }
+        ensures { result ≡ transaction_place (index_groups self.now) (t + 1) }
+    {
+        if self.transactions() > t + 1 {
+            self.transaction_start(t + 1)
+        } else {
+            self.entries.len()
+        }
+    }
+
+    /// The number of the first statement of transaction `t`.
+    fn first_statement(&self, t: usize) -> usize
+        requires { t < length (index_groups self.now) }
+        ensures { result ≡ statements_in (take t (index_groups self.now)) }
+    {
+        let start = self.transaction_start(t);
+        self.entries[start].link as usize
+    }
+
+    /// The number of the first statement behind transaction `t`.
+    fn statements_end(&self, t: usize) -> usize
+        requires { t < length (index_groups self.now) }
+        ensures { result ≡ statements_in (take (t + 1) (index_groups self.now)) }
+    {
+        if self.transactions() > t + 1 {
+            self.first_statement(t + 1)
+        } else {
+            self.statements as usize
+        }
+    }
+
+    /// The event that begins at a position.
+    fn event_at(&self, at: u32) -> Event<'a>
+        requires { IsSome (event_at (drop at (index_bytes self.now))) }
+        ensures event { event_at (drop at (index_bytes self.now)) ≡ Some (event_of result) }
+        ensures pos { result.pos ≡ at }
+        ensures size { result.header.size ≡ event_size (event_of result) }
+    {
+        let Ok(event) = self.log.event_at(at) else {
+            unreachable!();
+        };
+        event
+    }
+
+    /// The `BEGIN` of transaction `t`.
+    pub fn begin(&self, t: usize) -> Event<'a>
+        requires { t < length (index_groups self.now) }
+        ensures event { option_map (λ x. x.begin) (slice_get (index_groups self.now) t) ≡ Some (placed result) }
+        ensures size { result.header.size ≡ event_size (event_of result) }
+    {
+        let start = self.transaction_start(t);
+        self.event_at(self.entries[start].at)
+    }
+
+    /// The event that ends transaction `t`: a `COMMIT` or an Xid.
+    pub fn end(&self, t: usize) -> Event<'a>
+        requires { t < length (index_groups self.now) }
+        ensures event { option_map (λ x. x.end) (slice_get (index_groups self.now) t) ≡ Some (placed result) }
+        ensures size { result.header.size ≡ event_size (event_of result) }
+    {
+        let last = self.transaction_end(t) - 1;
+        self.event_at(self.entries[last].at)
+    }
+
+    /// The number of statements of transaction `t`.
+    pub fn statements(&self, t: usize) -> usize
+        requires { t < length (index_groups self.now) }
+        ensures { option_map (λ x. length x.statements) (slice_get (index_groups self.now) t) ≡ Some result }
+    {
+        self.statements_end(t) - self.first_statement(t)
+    }
+
+    /// The number of statements of all transactions.
+    pub fn all_statements(&self) -> usize
+        ensures { result ≡ statements_in (index_groups self.now) }
+    {
+        self.statements as usize
+    }
+
+    /// The entry at which statement `s` of transaction `t` begins.
+    fn statement_start(&self, t: usize, s: usize) -> usize
+        requires { IsSome (statement_at (index_groups self.now) t s) }
+        ensures { (x : PlacedTransaction) → slice_get (index_groups self.now) t ≡ Some x → result ≡ statement_place (index_groups self.now) t x s }
+    {
+        let n = self.first_statement(t) + s;
+        self.entries[n].statement as usize
+    }
+
+    /// The entry behind statement `s` of transaction `t`.
+    fn statement_end(&self, t: usize, s: usize) -> usize
+        requires { IsSome (statement_at (index_groups self.now) t s) }
+        ensures { (x : PlacedTransaction) → slice_get (index_groups self.now) t ≡ Some x → result ≡ statement_place (index_groups self.now) t x (s + 1) }
+    {
+        if self.statements(t) > s + 1 {
+            self.statement_start(t, s + 1)
+        } else {
+            self.transaction_end(t) - 1
+        }
+    }
+
+    /// The number of maps of statement `s` of transaction `t`.
+    pub fn maps(&self, t: usize, s: usize) -> usize
+        requires { IsSome (statement_at (index_groups self.now) t s) }
+        ensures { option_map (λ x. length x.maps) (statement_at (index_groups self.now) t s) ≡ Some result }
+    {
+        let start = self.statement_start(t, s);
+        self.entries[start].link as usize
+    }
+
+    /// The map `m` of statement `s` of transaction `t`.
+    pub fn map(&self, t: usize, s: usize, m: usize) -> (Event<'a>, TableMap<'a>)
+        requires { IsSome (map_at (index_groups self.now) t s m) }
+        ensures event { map_at (index_groups self.now) t s m ≡ Some (placed result.0) }
+        ensures names { names_of result.0.body.now ≡ Some (map_names result.1) }
+        ensures size { result.0.header.size ≡ event_size (event_of result.0) }
+    {
+        let n = self.statement_start(t, s) + m;
+        let event = self.event_at(self.entries[n].at);
+        (event, TableMap::known(event.body))
+    }
+
+    /// The number of rows events of statement `s` of transaction `t`.
+    pub fn rows(&self, t: usize, s: usize) -> usize
+        requires { IsSome (statement_at (index_groups self.now) t s) }
+        ensures { option_map (λ x. length x.rows) (statement_at (index_groups self.now) t s) ≡ Some result }
+    {
+        self.statement_end(t, s) - self.statement_start(t, s) - self.maps(t, s)
+    }
+
+    /// The rows event `r` of statement `s` of transaction `t`, and the map that it goes by.
+    fn rows_and_map(&self, t: usize, s: usize, r: usize) -> (Event<'a>, Event<'a>)
+        requires { IsSome (rows_at (index_groups self.now) t s r) }
+        ensures event { option_map (λ x. x.event) (rows_at (index_groups self.now) t s r) ≡ Some (placed result.0) }
+        ensures map { option_map (λ x. x.map) (rows_at (index_groups self.now) t s r) ≡ Some (placed result.1) }
+        ensures size { result.0.header.size ≡ event_size (event_of result.0) }
+    {
+        let n = self.statement_start(t, s) + self.maps(t, s) + r;
+        let entry = self.entries[n];
+        (self.event_at(entry.at), self.event_at(entry.link))
+    }
+
+    /// The rows event `r` of statement `s` of transaction `t`, with the map that it goes by. No row is read.
+    pub fn rows_event(
+        &self,
+        t: usize,
+        s: usize,
+        r: usize,
+    ) -> (Event<'a>, TableMap<'a>, RowsEvent<'a>)
+        requires { IsSome (rows_at (index_groups self.now) t s r) }
+        ensures event { option_map (λ x. x.event) (rows_at (index_groups self.now) t s r) ≡ Some (placed result.0) }
+        ensures kind { IfSome (rows_at (index_groups self.now) t s r) (λ x. x.kind ≡ result.2.kind) }
+        ensures read { IfSome (rows_at (index_groups self.now) t s r) (λ x. x.body ≡ rows_body result.2) }
+        ensures names { IfSome (rows_at (index_groups self.now) t s r) (λ x. names_of x.map.event.body ≡ Some (map_names result.1)) }
+        ensures layout { IfSome (rows_at (index_groups self.now) t s r) (λ x. layout_of x.map.event.body ≡ Ok (layout_columns result.2.layout)) }
+        ensures size { result.0.header.size ≡ event_size (event_of result.0) }
+    {
+        let (event, map) = self.rows_and_map(t, s, r);
+        let EventKind::Rows(kind) = event_kind(&event) else {
+            unreachable!();
+        };
+        let layout = Layout::known(map.body);
+        let rows = RowsEvent::known(kind, event.body, &layout);
+        (event, TableMap::known(map.body), rows)
+    }
+
+    /// An entry for each event of the groups, in the order in which the log in normal form has them.
+    pub fn entries(&self) -> &[Entry]
+        ensures ats { map (λ e. e.at) result.now ≡ ats_of (index_groups self.now) }
+    {
+        &self.entries
+    }
+
+    /// The number of tables that have a map in the groups.
+    pub fn tables(&self) -> usize
+        ensures { result ≡ length (counts_of (groups (index_bytes self.now) (index_selection self.now))) }
+    {
+        self.counts.len()
+    }
+
+    /// A table, and how many of its rows the groups change; tables are in the order of their first maps in the groups.
+    pub fn table(&self, n: usize) -> TableCount<'a>
+        requires { n < length (counts_of (groups (index_bytes self.now) (index_selection self.now))) }
+        ensures { slice_get (counts_of (groups (index_bytes self.now) (index_selection self.now))) n ≡ Some (table_counted result) }
+    {
+        let (name, count) = self.counts.table(n);
+        TableCount {
+            schema: name.schema,
+            table: name.table,
+            inserts: count.inserts,
+            updates: count.updates,
+            deletes: count.deletes,
+        }
+    }
+}

@@ -1,0 +1,182 @@
+//! Keeping the events of the groups: the flat list of entries, as it grows.
+
+ghost use Rattle.std.specs.Prelude.{◌≡◌, ◌+◌, ◌<◌, ◌≤◌, ◌^◌, List, [], ◌∷◌, ◌++◌, map, take, drop, length, Some, None, OnOk, IfErr, vec_len};
+ghost use Rattle.indexmap.specs.IndexMap.{index_map_len, values};
+ghost use Rattle.blog_event.specs.declared.fault.Fault.TheVariants.{OutOfMemory};
+ghost use Rattle.blog_event.specs.File.{Placed};
+ghost use Rattle.blog_trans.specs.Groups.{PlacedRows};
+ghost use Rattle.blog_trans.specs.Progress.{Open, Progress, ended, with_rows};
+ghost use Rattle.blog_trans.specs.StatementMaps.{used_maps};
+ghost use Rattle.blog_trans.specs.EntryView.{entry_at, entry_with_link, map_entries};
+
+use crate::entry::Entry;
+use crate::maps::Maps;
+use blog_event::Fault;
+use std::alloc::Allocator;
+
+/// The entries of what is kept of the events so far.
+#[derive(Drop)]
+pub(crate) struct Keeper<A: Allocator> {
+    pub(crate) entries: Vec<Entry, A>,
+    // How many transactions and statements are kept.
+    pub(crate) transactions: u32,
+    pub(crate) statements: u32,
+    // Where the open transaction begins in the list, and where its open statement does.
+    pub(crate) transaction_start: u32,
+    pub(crate) statement_start: u32,
+    // How many statements were kept before the open transaction.
+    pub(crate) first_statement: u32,
+    ghost start_in: { transaction_start ≤ vec_len entries },
+    ghost statement_in: { statement_start ≤ vec_len entries },
+    ghost few_transactions: { transactions ≤ transaction_start },
+    ghost few_statements: { statements ≤ statement_start },
+    ghost few_before: { first_statement ≤ transaction_start },
+}
+
+impl<A: Allocator> Keeper<A> {
+    ghost use Rattle.blog_trans.specs.KeeperView.{Holds, closed_by};
+
+    /// Nothing is kept yet.
+    pub(crate) fn new(alloc: A) -> Self
+        ensures { Holds result (record { done = []; current = None }) }
+    {
+        Keeper {
+            entries: Vec::new(alloc),
+            transactions: 0,
+            statements: 0,
+            transaction_start: 0,
+            statement_start: 0,
+            first_statement: 0,
+        }
+    }
+
+    /// A transaction begins.
+    pub(crate) fn begin(&mut self, at: u32) -> Result<(), Fault>
+        requires { vec_len self.old.entries + 1 < 2 ^ 32 }
+        ensures kept { (k : Progress) (p : Placed) → p.pos ≡ at → k.current ≡ None → Holds self.old k
+            → OnOk result (Holds self.new (record { done = k.done; current = Some (record { begin = p; statements = []; rows = [] }) })) }
+        ensures refused { IfErr result (λ fault. fault ≡ OutOfMemory) }
+        ensures few { vec_len self.new.entries ≤ vec_len self.old.entries + 1 }
+    {
+        self.transaction_start = self.entries.len() as u32;
+        self.first_statement = self.statements;
+        push(&mut self.entries, at, self.statements)?;
+        self.statement_start = self.entries.len() as u32;
+        Ok(())
+    }
+
+    /// A rows event of the open statement, whose table map begins at `map`.
+    pub(crate) fn rows(&mut self, at: u32, map: u32) -> Result<(), Fault>
+        ensures kept { (k : Progress) (o : Open) (r : PlacedRows) → r.event.pos ≡ at → r.map.pos ≡ map → k.current ≡ Some o → Holds self.old k
+            → OnOk result (Holds self.new (record { done = k.done; current = Some (with_rows (Some r) o) })) }
+        ensures refused { IfErr result (λ fault. fault ≡ OutOfMemory) }
+        ensures few { vec_len self.new.entries ≤ vec_len self.old.entries + 1 }
+    {
+        push(&mut self.entries, at, map)
+    }
+
+    /// The open statement ends: the maps that its rows events use come in front of these.
+    pub(crate) fn close<'a>(&mut self, maps: &Maps<'a, A>) -> Result<(), Fault>
+        requires { vec_len self.old.entries + index_map_len maps.now < 2 ^ 32 }
+        ensures kept { (k : Progress) (o : Open) (ms : List Placed) → map (λ m. m.at) (used_maps (values maps.now)) ≡ map (λ m. m.pos) ms
+            → k.current ≡ Some o → Holds self.old k → OnOk result (Holds self.new (record { done = k.done; current = Some (closed_by ms o) })) }
+        ensures refused { IfErr result (λ fault. fault ≡ OutOfMemory) }
+        ensures few { vec_len self.new.entries ≤ vec_len self.old.entries + index_map_len maps.now }
+    {
+        let start = self.statement_start as usize;
+        if self.entries.len() == start {
+            return Ok(());
+        }
+        put_maps(&mut self.entries, maps, start)?;
+        self.entries[self.statements as usize].statement = self.statement_start;
+        self.statements += 1;
+        self.statement_start = self.entries.len() as u32;
+        Ok(())
+    }
+
+    /// The open transaction ends: it is left out if no statement of it is kept.
+    pub(crate) fn end(&mut self, at: u32) -> Result<(), Fault>
+        requires { vec_len self.old.entries + 1 < 2 ^ 32 }
+        ensures kept { (k : Progress) (o : Open) (p : Placed) → p.pos ≡ at → k.current ≡ Some o → o.rows ≡ [] → Holds self.old k
+            → OnOk result (Holds self.new (ended p k.done o)) }
+        ensures refused { IfErr result (λ fault. fault ≡ OutOfMemory) }
+        ensures few { vec_len self.new.entries ≤ vec_len self.old.entries + 1 }
+    {
+        if self.statements == self.first_statement {
+            self.statement_start = self.transaction_start;
+            self.entries.truncate(self.transaction_start as usize);
+            return Ok(());
+        }
+        push(&mut self.entries, at, 0)?;
+        self.entries[self.transactions as usize].transaction = self.transaction_start;
+        self.transactions += 1;
+        self.transaction_start = self.entries.len() as u32;
+        Ok(())
+    }
+}
+
+/// Adds an entry of an event.
+fn push<A: Allocator>(entries: &mut Vec<Entry, A>, at: u32, link: u32) -> Result<(), Fault>
+    ensures items { OnOk result (entries.new.items ≡ entries.old.items ++ entry_at at link ∷ []) }
+    ensures refused { IfErr result (λ fault. fault ≡ OutOfMemory) }
+    ensures least { vec_len entries.old ≤ vec_len entries.new }
+    ensures few { vec_len entries.new ≤ vec_len entries.old + 1 }
+{
+    let entry = Entry {
+        at,
+        transaction: 0,
+        statement: 0,
+        link,
+    };
+    let Ok(_) = entries.push(entry) else {
+        return Err(Fault::OutOfMemory);
+    };
+    Ok(())
+}
+
+/// Adds an entry for each map that is used.
+fn push_maps<'a, A: Allocator>(entries: &mut Vec<Entry, A>, maps: &Maps<'a, A>) -> Result<(), Fault>
+    ensures items { OnOk result (entries.new.items ≡ entries.old.items ++ map_entries (used_maps (values maps.now))) }
+    ensures refused { IfErr result (λ fault. fault ≡ OutOfMemory) }
+    ensures least { vec_len entries.old ≤ vec_len entries.new }
+    ensures few { vec_len entries.new ≤ vec_len entries.old + index_map_len maps.now }
+{
+    for map in maps.values() {
+        if map.used {
+            push(entries, map.at, 0)?;
+        }
+    }
+    Ok(())
+}
+
+/// Writes one link into all of these entries.
+fn set_links(entries: &mut [Entry], link: u32)
+    ensures { entries.new ≡ map (entry_with_link link) entries.old }
+{
+    for entry in entries.iter_mut() {
+        entry.link = link;
+    }
+}
+
+/// Puts entries of the maps that are used in front of those from `start` on; the link of each is their number.
+fn put_maps<'a, A: Allocator>(
+    entries: &mut Vec<Entry, A>,
+    maps: &Maps<'a, A>,
+    start: usize,
+) -> Result<(), Fault>
+    requires within { start ≤ vec_len entries.old }
+    requires room { vec_len entries.old + index_map_len maps.now < 2 ^ 32 }
+    ensures items { OnOk result (entries.new.items ≡ take start entries.old.items
+        ++ (map (entry_with_link (length (used_maps (values maps.now)))) (map_entries (used_maps (values maps.now)))
+        ++ drop start entries.old.items)) }
+    ensures refused { IfErr result (λ fault. fault ≡ OutOfMemory) }
+    ensures least { vec_len entries.old ≤ vec_len entries.new }
+    ensures few { vec_len entries.new ≤ vec_len entries.old + index_map_len maps.now }
+{
+    let before = entries.len();
+    push_maps(entries, maps)?;
+    let added = entries.len() - before;
+    entries[start..].rotate_right(added);
+    set_links(&mut entries[start..start + added], added as u32);
+    Ok(())
+}

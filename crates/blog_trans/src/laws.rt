@@ -1,0 +1,41 @@
+//! What is promised of the transactions that are kept while a log is walked.
+
+ghost use Rattle.std.specs.Prelude.{◌≡◌, ℕ, List, [], ◌∷◌, reverse, map, filter, Some, false};
+ghost use Rattle.std.specs.List.{AllByRecursion, Contains};
+ghost use Rattle.blog_event.specs.File.{Placed, placed_from, read};
+ghost use Rattle.blog_row.specs.RowsEvent.{table_id};
+ghost use Rattle.blog_trans.specs.Selection.{Selection};
+ghost use Rattle.blog_trans.specs.Places.{place, is_inside, since};
+ghost use Rattle.blog_trans.specs.Acceptance.{range, IsAccepted};
+ghost use Rattle.blog_trans.specs.Passing.{HavePassed, Passes};
+ghost use Rattle.blog_trans.specs.Groups.{kept_rows, first_maps, placed_groups_in, placed_groups};
+ghost use Rattle.blog_trans.specs.Progress.{Open, with_rows, progress};
+ghost use Rattle.blog_trans.specs.StatementMaps.{first_of_ids, is_used};
+ghost use Rattle.blog_trans.specs.PlacedFacts.{IsPlacedTransaction};
+
+/// Of events that pass their checks and end outside of a transaction, the transactions that the progress has kept are
+/// the groups of the events. The call does nothing.
+pub fn progress_gives_groups()
+    ensures { (sel : Selection) (es : List Placed) → Passes sel [] es → is_inside (place (reverse es)) ≡ false → placed_groups_in sel es ≡ (progress sel (reverse es)).done }
+{}
+
+/// Of a statement that is open, with one more event that passes its checks, the maps that its kept rows events go by are
+/// the used ones of its first maps. The call does nothing.
+pub fn statements_have_used_maps()
+    ensures { (sel : Selection) (earlier : List Placed) (p : Placed) (o : Open) → HavePassed sel (p ∷ earlier) → (progress sel earlier).current ≡ Some o
+        → first_maps (map (λ x. table_id x.event.event.body) (with_rows (kept_rows sel (reverse (since earlier)) p) o).rows) (reverse (p ∷ since earlier))
+        ≡ filter (is_used sel (p ∷ since earlier)) (first_of_ids (p ∷ since earlier)) }
+{}
+
+/// Of any events the groups are made of these: each begins with a `BEGIN` and ends with a `COMMIT` or an Xid, and has a
+/// statement; each statement has a map and a rows event; each map is one of a selected table; each rows event goes by
+/// one of its statement's maps, and is read by it. The call does nothing.
+pub fn groups_are_of_events()
+    ensures { (sel : Selection) (es : List Placed) → AllByRecursion (IsPlacedTransaction (Contains es) sel) (placed_groups_in sel es) }
+{}
+
+/// The groups of an accepted log are the transactions that the progress over its range has kept. The call does nothing.
+pub fn accepted_logs_have_groups()
+    ensures { (bytes : List ℕ) (sel : Selection) → IsAccepted bytes sel
+        → placed_groups bytes sel ≡ (progress sel (reverse (range sel (placed_from 4 (read bytes sel.stop))))).done }
+{}

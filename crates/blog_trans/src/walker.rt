@@ -1,0 +1,142 @@
+//! Walking through a log: each event of the range is judged, and what the groups take of it is kept.
+
+use crate::counts::Counts;
+use crate::judge::Judge;
+use crate::keeper::Keeper;
+use crate::selection::Selection;
+use crate::taken::{KeptRows, Taken};
+use blog_event::{Event, Fault};
+use std::alloc::Allocator;
+
+/// What is known and kept of the events of the range so far.
+#[derive(Drop)]
+pub(crate) struct Walker<'a, A: Allocator> {
+    pub(crate) judge: Judge<'a, A>,
+    pub(crate) keeper: Keeper<A>,
+    pub(crate) counts: Counts<'a, A>,
+}
+
+impl<'a, A: Allocator + Copy> Walker<'a, A> {
+    ghost use Rattle.std.specs.Prelude.{◌≡◌, ◌+◌, ◌≤◌, ◌<◌, ◌^◌, ℕ, Option, List, [], ◌∷◌, map, length, Some, None, OnOk, IfErr, IfSome, MatchResult, vec_len};
+    ghost use Rattle.blog_trans.specs.Places.{since};
+    ghost use Rattle.indexmap.specs.IndexMap.{values, index_map_len};
+    ghost use Rattle.blog_event.specs.declared.fault.Fault.TheVariants.{OutOfMemory};
+    ghost use Rattle.blog_event.specs.Fault.{fault_at};
+    ghost use Rattle.blog_event.specs.Event.{event_of};
+    ghost use Rattle.blog_event.specs.File.{Placed};
+    ghost use Rattle.blog_trans.specs.Selection.{Selection as Sel, selection_of};
+    ghost use Rattle.blog_trans.specs.Acceptance.{event_fault};
+    ghost use Rattle.blog_trans.specs.Groups.{PlacedRows};
+    ghost use Rattle.blog_trans.specs.Changes.{table_of};
+    ghost use Rattle.blog_trans.specs.Progress.{Open, Progress, with_rows};
+    ghost use Rattle.blog_trans.specs.TableNameView.{table_named};
+    ghost use Rattle.blog_trans.specs.StatementMaps.{used_maps};
+    ghost use Rattle.blog_row.specs.declared.kind.RowsKind.{RowsKind};
+    ghost use Rattle.blog_trans.specs.declared.taken.Taken.TheVariants as taken;
+    ghost use Rattle.blog_trans.specs.TakenView.{IsKept, IsTaken};
+    ghost use Rattle.blog_trans.specs.Passing.{HavePassed};
+    ghost use Rattle.blog_trans.specs.Progress.{progress};
+    ghost use Rattle.blog_trans.specs.Refusals.{IsRefusal};
+    ghost use Rattle.blog_trans.specs.KeeperView.{closed_by};
+    ghost use Rattle.blog_trans.specs.JudgeView.{Knows};
+    ghost use Rattle.blog_trans.specs.CountsView.{AreFew};
+    ghost use Rattle.blog_trans.specs.WalkerView.{Walks, IsWithin, IsWalked, Keeps, images_of, placed};
+
+    /// Nothing was read yet.
+    pub(crate) fn new(alloc: A) -> Self
+        ensures walks { (sel : Sel) → Walks sel [] result }
+        ensures within { IsWithin 0 result }
+    {
+        Walker {
+            judge: Judge::new(alloc),
+            keeper: Keeper::new(alloc),
+            counts: Counts::new(alloc),
+        }
+    }
+
+    /// Keeps a rows event that begins at `at`.
+    fn keep(&mut self, at: u32, kept: &KeptRows<'a>) -> Result<(), Fault>
+        requires few { AreFew 4294967295 self.old.counts }
+        requires images { kept.now.images ≤ 4294967295 }
+        ensures kept { (k : Progress) (o : Open) (r : PlacedRows) → r.event.pos ≡ at → IsKept (Some kept.now) (Some r) → k.current ≡ Some o
+            → Keeps k self.old → OnOk result (Keeps (record { done = k.done; current = Some (with_rows (Some r) o) }) self.new) }
+        ensures judge { self.new.judge ≡ self.old.judge }
+        ensures few { vec_len self.new.keeper.entries ≤ vec_len self.old.keeper.entries + 1 }
+        ensures numbers { (n : ℕ) → AreFew n self.old.counts → OnOk result (AreFew (n + kept.now.images) self.new.counts) }
+        ensures refused { IfErr result (λ fault. fault ≡ OutOfMemory) }
+    {
+        self.keeper.rows(at, kept.map)?;
+        self.counts.count(kept)?;
+        Ok(())
+    }
+
+    /// The open statement ends.
+    fn close(&mut self) -> Result<(), Fault>
+        requires { vec_len self.old.keeper.entries + index_map_len self.old.judge.maps < 2 ^ 32 }
+        ensures kept { (k : Progress) (o : Open) (ms : List Placed) → map (λ m. m.at) (used_maps (values self.old.judge.maps)) ≡ map (λ m. m.pos) ms
+            → map (λ m. table_named m.name) (used_maps (values self.old.judge.maps)) ≡ map (λ m. table_of m.event.body) ms
+            → (o.rows ≡ [] → ms ≡ []) → k.current ≡ Some o → Keeps k self.old
+            → OnOk result (Keeps (record { done = k.done; current = Some (closed_by ms o) }) self.new) }
+        ensures judge { (sel : Sel) (statement earlier : List Placed) → Knows sel statement earlier self.old.judge → OnOk result (Knows sel [] earlier self.new.judge) }
+        ensures few { OnOk result (vec_len self.new.keeper.entries + index_map_len self.new.judge.maps ≤ vec_len self.old.keeper.entries + index_map_len self.old.judge.maps) }
+        ensures numbers { (n : ℕ) → AreFew n self.old.counts → OnOk result (AreFew n self.new.counts) }
+        ensures refused { IfErr result (λ fault. fault ≡ OutOfMemory) }
+    {
+        self.keeper.close(self.judge.maps())?;
+        self.counts.keep(self.judge.maps())?;
+        self.judge.close();
+        Ok(())
+    }
+
+    /// Keeps a rows event that begins at `at`, if its table is selected.
+    fn keep_if(&mut self, at: u32, kept: Option<KeptRows<'a>>) -> Result<(), Fault>
+        requires few { AreFew 4294967295 self.old.counts }
+        requires images { IfSome kept (λ rows. rows.images ≤ 4294967295) }
+        ensures kept { (k : Progress) (o : Open) (x : Option PlacedRows) → ((r : PlacedRows) → x ≡ Some r → r.event.pos ≡ at) → IsKept kept.entry x → k.current ≡ Some o
+            → Keeps k self.old → OnOk result (Keeps (record { done = k.done; current = Some (with_rows x o) }) self.new) }
+        ensures judge { self.new.judge ≡ self.old.judge }
+        ensures few { vec_len self.new.keeper.entries ≤ vec_len self.old.keeper.entries + 1 }
+        ensures numbers { (n : ℕ) → AreFew n self.old.counts → OnOk result (AreFew (n + images_of kept.entry) self.new.counts) }
+        ensures refused { IfErr result (λ fault. fault ≡ OutOfMemory) }
+    {
+        match &kept {
+            Some(kept) => self.keep(at, kept),
+            None => Ok(()),
+        }
+    }
+
+    /// A rows event that begins at `at`, which is kept if its table is selected, and may be the last of its statement.
+    fn take_rows(&mut self, at: u32, kept: Option<KeptRows<'a>>, last: bool) -> Result<(), Fault>
+        requires few { AreFew 4294967295 self.old.counts }
+        requires images { IfSome kept (λ rows. rows.images ≤ 4294967295) }
+        requires room { vec_len self.old.keeper.entries + index_map_len self.old.judge.maps + 1 < 2 ^ 32 }
+        ensures walks { (sel : Sel) (earlier : List Placed) (p : Placed) → p.pos ≡ at → IsTaken sel earlier p (taken.Rows kept.entry last) → HavePassed sel (p ∷ earlier)
+            → Knows sel (p ∷ since earlier) (p ∷ earlier) self.old.judge → Keeps (progress sel earlier) self.old → OnOk result (Walks sel (p ∷ earlier) self.new) }
+        ensures few { OnOk result (vec_len self.new.keeper.entries + index_map_len self.new.judge.maps ≤ vec_len self.old.keeper.entries + index_map_len self.old.judge.maps + 1) }
+        ensures numbers { (n : ℕ) → AreFew n self.old.counts → OnOk result (AreFew (n + images_of kept.entry) self.new.counts) }
+        ensures refused { IfErr result (λ fault. fault ≡ OutOfMemory) }
+    {
+        self.keep_if(at, kept)?;
+        if last {
+            self.close()?;
+        }
+        Ok(())
+    }
+
+    /// One more event of the range: what the groups take of it is kept, or the first check that it fails is answered.
+    pub(crate) fn step(&mut self, sel: &Selection<'_>, event: &Event<'a>) -> Result<(), Fault>
+        requires within { IsWithin event.now.pos self.old }
+        requires ends { event.now.pos + (19 + length event.now.body.now) < 2 ^ 32 }
+        ensures walks { (earlier : List Placed) → Walks (selection_of sel.now) earlier self.old
+            → IsWalked (event_fault (selection_of sel.now) earlier (placed event.now)) (selection_of sel.now) (placed event.now ∷ earlier) event.now.pos result self.new }
+        ensures within { OnOk result (IsWithin (event.now.pos + (19 + length event.now.body.now)) self.new) }
+    {
+        match self.judge.judge(sel, event)? {
+            Taken::Nothing => {}
+            Taken::Begin => self.keeper.begin(event.pos)?,
+            Taken::End => self.keeper.end(event.pos)?,
+            Taken::Rows { kept, last } => self.take_rows(event.pos, kept, last)?,
+        }
+        Ok(())
+    }
+}
