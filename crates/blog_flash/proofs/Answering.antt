@@ -1,45 +1,98 @@
--- What is promised of the answer to a log that is undone.
-use Rattle.std.proofs.Common.{◌≡◌, ℕ, true, ◌&&◌, List, Option, Some, None, refl, sym, subst, ◌∙◌, ap}
-use Rattle.std.specs.Prelude.{is_none}
-use Rattle.blog_event.specs.File.{AreBytes, placed_from, read}
+-- What is promised of the answer to a log.
+use Rattle.std.proofs.Common.{◌≡◌, ℕ, List, Vec, Result, Ok, Err, None, IfOk, IfErr, refl, sym, ap, ap₂, subst, ◌∙◌, inl, inr}
+use Rattle.std.proofs.lemmas.Option.{none-some}
+use Rattle.blog_event.specs.File.{AreBytes, read}
 use Rattle.blog_event.specs.declared.fault.Fault.{Fault}
 use Rattle.blog_trans.specs.Selection.{Selection, all}
-use Rattle.blog_trans.specs.Acceptance.{fault, range, IsAccepted}
-use Rattle.blog_flash.specs.declared.modes.Mode.{Mode}
-use Rattle.blog_flash.specs.declared.modes.Mode.TheVariants.{Flashback}
-use Rattle.blog_flash.specs.OneInsert.{is_one_insert}
+use Rattle.blog_trans.specs.Acceptance.{fault, IsAccepted}
+use Rattle.blog_trans.specs.Groups.{groups}
+use Rattle.blog_trans.specs.Refusals.{IsRefusal}
+use Rattle.blog_flash.specs.Answers.{Answers, IsOutput}
+use Rattle.blog_flash.specs.declared.modes.Mode.TheVariants.{Flashback, Forward, FlashbackSql, ForwardSql, Summary}
+use Rattle.blog_flash.specs.declared.order.Order.TheVariants as order
+use Rattle.blog_flash.specs.LaidOut.{groups_in}
 use Rattle.blog_flash.specs.Outputs.{output_of, MeetsHeadline}
-use Rattle.blog_flash.specs.Refusal.{is_flashback, is_all, is_accepted_insert}
-use Rattle.blog_flash.specs.Texts.{flashback_text}
+use Rattle.blog_flash.specs.Printed.{sql_text, summary_text}
+use Rattle.blog_flash.specs.Reversal.{reversed}
+use Rattle.blog_flash.specs.Texts.{normal_text, flashback_text, laid_out_after}
 use Rattle.blog_flash.specs.Theorems.{IsInverse}
-use Rattle.blog_flash.proofs.Headline.{flashback-undoes, forward-normal}
-use Rattle.blog_flash.proofs.Refusing.{is-flashback, is-everything}
+use Rattle.blog_flash.proofs.Agreeing.{Chosen}
+use Rattle.blog_flash.proofs.Headline.{is-source, flashback-groups, flashback-undoes, forward-normal}
 use Rattle.blog_flash.proofs.Stops.{flashback-stops}
 
 -- flashback as an inverse on bytes
 pub flashback-inverse : (bytes : List ℕ) (sel : Selection) → AreBytes bytes → IsAccepted bytes sel → IsInverse bytes sel (flashback_text bytes sel)
 flashback-inverse bytes sel are accepted = let normal = forward-normal bytes sel are accepted in record { twice = normal.undone_twice; of_normal = normal.undone }
 
--- a log of the shape is accepted
-pub shape-accepted : (bytes : List ℕ) → is_accepted_insert bytes ≡ true → IsAccepted bytes all
-unfolding is_accepted_insert
-shape-accepted bytes h = by_fault (fault bytes all) h
-  where
-    by_fault : (o : Option Fault) → (is_none o && is_one_insert (range all (placed_from 4 (read bytes all.stop)))) ≡ true → o ≡ None
-    by_fault None h = refl
-    by_fault (Some f) h = absurd (cc)
+-- ---- the log that undoes
 
--- the text is the output, and the headline holds of it
-pub answered-text : (mode : Mode) (bytes : List ℕ) (sel : Selection) (text : List ℕ) → (is_flashback mode && is_all sel) ≡ true → text ≡ flashback_text bytes all → text ≡ output_of mode bytes sel
-unfolding output_of
-answered-text mode bytes sel text h is = is ∙ sym (ap (λ m. output_of m bytes sel) (is-flashback mode sel h) ∙ ap (flashback_text bytes) (is-everything mode sel h))
+undoing-output : (bytes : List ℕ) (sel : Selection) → AreBytes bytes → IsAccepted bytes sel → IsOutput bytes Flashback sel (flashback_text bytes sel)
+unfolding output_of MeetsHeadline
+undoing-output bytes sel are accepted =
+    (accepted, refl, (flashback-undoes bytes sel are accepted, flashback-inverse bytes sel are accepted, flashback-stops bytes sel are accepted))
 
-pub answered-headline : (mode : Mode) (bytes : List ℕ) (sel : Selection) (text : List ℕ) → (is_flashback mode && is_all sel) ≡ true → AreBytes bytes → is_accepted_insert bytes ≡ true
-    → text ≡ flashback_text bytes all → MeetsHeadline mode bytes sel text
-unfolding MeetsHeadline
-answered-headline mode bytes sel text h are shape is =
-    let accepted = shape-accepted bytes shape in
-    let flashback : MeetsHeadline Flashback bytes all (flashback_text bytes all) = (flashback-undoes bytes all are accepted, flashback-inverse bytes all are accepted, flashback-stops bytes all are accepted) in
-    let of_text : MeetsHeadline Flashback bytes all text = subst (MeetsHeadline Flashback bytes all) (sym is) flashback in
-    let of_selection : MeetsHeadline Flashback bytes sel text = subst (λ s. MeetsHeadline Flashback bytes s text) (sym (is-everything mode sel h)) of_text in
-    subst (λ m. MeetsHeadline m bytes sel text) (sym (is-flashback mode sel h)) of_selection
+undoing-text : (bytes : List ℕ) (sel : Selection) → laid_out_after (read bytes sel.stop) (groups_in order.Backward (groups bytes sel)) ≡ flashback_text bytes sel
+unfolding flashback_text
+undoing-text bytes sel = refl
+
+pub undoing-answers : {A : Type 0} (bytes : List ℕ) (sel : Selection) (r : Result (Vec ℕ A) Fault) → AreBytes bytes → IfOk r (λ text. IsAccepted bytes sel)
+    → IfOk r (λ text. text.items ≡ laid_out_after (read bytes sel.stop) (groups_in order.Backward (groups bytes sel))) → IfErr r (IsRefusal (fault bytes sel)) → Answers bytes Flashback sel r
+undoing-answers bytes sel (Ok text) are accepted is refused =
+    subst (IsOutput bytes Flashback sel) (sym (is ∙ undoing-text bytes sel)) (undoing-output bytes sel are accepted)
+undoing-answers bytes sel (Err f) are accepted is refused = refused
+
+-- ---- the normal form
+
+normal-output : (bytes : List ℕ) (sel : Selection) → AreBytes bytes → IsAccepted bytes sel → IsOutput bytes Forward sel (normal_text bytes sel)
+unfolding output_of MeetsHeadline
+normal-output bytes sel are accepted = (accepted, refl, forward-normal bytes sel are accepted)
+
+normal-laid : (bytes : List ℕ) (sel : Selection) → laid_out_after (read bytes sel.stop) (groups_in order.Forward (groups bytes sel)) ≡ normal_text bytes sel
+unfolding normal_text
+normal-laid bytes sel = refl
+
+pub normal-answers : {A : Type 0} (bytes : List ℕ) (sel : Selection) (r : Result (Vec ℕ A) Fault) → AreBytes bytes → IfOk r (λ text. IsAccepted bytes sel)
+    → IfOk r (λ text. text.items ≡ laid_out_after (read bytes sel.stop) (groups_in order.Forward (groups bytes sel))) → IfErr r (IsRefusal (fault bytes sel)) → Answers bytes Forward sel r
+normal-answers bytes sel (Ok text) are accepted is refused =
+    subst (IsOutput bytes Forward sel) (sym (is ∙ normal-laid bytes sel)) (normal-output bytes sel are accepted)
+normal-answers bytes sel (Err f) are accepted is refused = refused
+
+-- ---- printed texts
+
+sql-output : (bytes : List ℕ) (sel : Selection) → IsAccepted bytes sel → IsOutput bytes ForwardSql sel (sql_text (groups bytes sel))
+unfolding output_of MeetsHeadline
+sql-output bytes sel accepted = (accepted, refl, (accepted, refl))
+
+-- the groups as they are
+pub sql-answers : {A : Type 0} (bytes : List ℕ) (sel : Selection) (r : Result (Vec ℕ A) Fault) → IfOk r (λ text. IsAccepted bytes sel) → IfOk r (λ text. text.items ≡ sql_text (groups bytes sel))
+    → IfErr r (IsRefusal (fault bytes sel)) → Answers bytes ForwardSql sel r
+sql-answers bytes sel (Ok text) accepted is refused = subst (IsOutput bytes ForwardSql sel) (sym is) (sql-output bytes sel accepted)
+sql-answers bytes sel (Err f) accepted is refused = refused
+
+undone-output : (bytes : List ℕ) (sel : Selection) → IsAccepted bytes sel → IsOutput bytes FlashbackSql sel (sql_text (reversed (groups bytes sel)))
+unfolding output_of MeetsHeadline
+undone-output bytes sel accepted = (accepted, refl, (accepted, refl))
+
+-- the groups of the log that undoes them
+pub undone-answers : {A : Type 0} (bytes : List ℕ) (sel : Selection) (written : List ℕ) (own : Selection) (r : Result (Vec ℕ A) Fault) → AreBytes bytes → IsAccepted bytes sel → own ≡ all
+    → written ≡ laid_out_after (read bytes sel.stop) (groups_in order.Backward (groups bytes sel)) → IfOk r (λ text. text.items ≡ sql_text (groups written own)) → IfErr r (IsRefusal (fault written own))
+    → Answers bytes FlashbackSql sel r
+undone-answers bytes sel written own (Ok text) are accepted every laid is refused =
+    let written_is : written ≡ flashback_text bytes sel = laid ∙ undoing-text bytes sel in
+    let groups_are : groups written own ≡ reversed (groups bytes sel) = ap₂ groups written_is every ∙ flashback-groups (Chosen bytes sel) bytes sel (is-source bytes sel are accepted) in
+    subst (IsOutput bytes FlashbackSql sel) (sym (is ∙ ap sql_text groups_are)) (undone-output bytes sel accepted)
+undone-answers bytes sel written own (Err f) are accepted every laid is (inl none) = inl none
+undone-answers bytes sel written own (Err f) are accepted every laid is (inr refused) =
+    let written_is : written ≡ flashback_text bytes sel = laid ∙ undoing-text bytes sel in
+    let taken : fault written own ≡ None = ap₂ fault written_is every ∙ (flashback-undoes bytes sel are accepted).accepted in
+    absurd (none-some f (sym taken ∙ refused))
+
+summary-output : (bytes : List ℕ) (sel : Selection) → IsAccepted bytes sel → IsOutput bytes Summary sel (summary_text (groups bytes sel))
+unfolding output_of MeetsHeadline
+summary-output bytes sel accepted = (accepted, refl, (accepted, refl))
+
+-- the groups in numbers
+pub summary-answers : {A : Type 0} (bytes : List ℕ) (sel : Selection) (r : Result (Vec ℕ A) Fault) → IfOk r (λ text. IsAccepted bytes sel) → IfOk r (λ text. text.items ≡ summary_text (groups bytes sel))
+    → IfErr r (IsRefusal (fault bytes sel)) → Answers bytes Summary sel r
+summary-answers bytes sel (Ok text) accepted is refused = subst (IsOutput bytes Summary sel) (sym is) (summary-output bytes sel accepted)
+summary-answers bytes sel (Err f) accepted is refused = refused

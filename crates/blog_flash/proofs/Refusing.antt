@@ -1,101 +1,62 @@
--- Which fault a log is answered with.
-use Rattle.std.proofs.Common.{◌≡◌, ℕ, ◌^◌, ◌<◌, ◌≤◌, Bool, true, false, eqb, ◌&&◌, List, length, take, Option, Some, None, bytes_eq, refl, sym}
+-- What opening a log refuses is refused.
+use Rattle.std.proofs.Common.{◌≡◌, ℕ, true, List, [], ◌∷◌, take, drop, bytes_eq, Option, Some, None, is_some, refl, sym, ap, ap₂, ◌∙◌}
+use Rattle.std.specs.Option.{option_map_or}
+use Rattle.std.proofs.lemmas.Option.{none-some}
 use Rattle.std.proofs.lemmas.Slice.Eq.{bytes_eq-Decides}
-use Rattle.std.specs.Prelude.{nat_lt, is_none}
-use Rattle.std.proofs.lemmas.Bool.{lt-ltb, le-ltb, eqb-true}
-use Rattle.blog_event.specs.declared.fault.Fault.TheVariants.{NotABinlog, UnknownEvent, TooLong}
-use Rattle.blog_event.specs.File.{magic}
-use Rattle.blog_trans.specs.Selection.{Selection, all}
-use Rattle.blog_flash.specs.declared.modes.Mode.{Mode}
-use Rattle.blog_flash.specs.declared.modes.Mode.TheVariants.{Flashback, Forward, FlashbackSql, ForwardSql, Summary}
-use Rattle.blog_flash.specs.Refusal.{is_flashback, is_all, is_accepted_insert, refusal}
+use Rattle.blog_event.specs.declared.fault.Fault.{Fault}
+use Rattle.blog_event.specs.declared.fault.Fault.TheVariants.{NotABinlog, CutEvent}
+use Rattle.blog_event.specs.Event.{Event, event_at}
+use Rattle.blog_event.specs.Fault.{needs, first_failing, fault_at}
+use Rattle.blog_event.specs.File.{magic, read}
+use Rattle.blog_event.specs.Format.{format_fault}
+use Rattle.blog_event.specs.Opening.{opening_fault}
+use Rattle.blog_event.proofs.Framing.{read-first}
+use Rattle.blog_trans.specs.Selection.{Selection}
+use Rattle.blog_trans.specs.Acceptance.{has_first, first_format_fault, fault}
+use Rattle.blog_flash.proofs.Agreeing.{needed}
+use Rattle.blog_flash.proofs.Passed.{no_fault_at}
 
--- more bytes than positions
-pub refused-long : (mode : Mode) (bytes : List ℕ) (sel : Selection) → 2 ^ 32 ≤ length bytes → refusal mode bytes sel ≡ Some (TooLong 0)
-unfolding refusal
-refused-long mode bytes sel long = let not_short : nat_lt (length bytes) (2 ^ 32) ≡ false = le-ltb (length bytes) (2 ^ 32) long in rw not_short
+-- ---- the first event
 
--- no binary log
-pub refused-file : (mode : Mode) (bytes : List ℕ) (sel : Selection) → length bytes < 2 ^ 32 → bytes_eq (take 4 bytes) magic ≡ false → refusal mode bytes sel ≡ Some (NotABinlog 0)
-unfolding refusal
-refused-file mode bytes sel short other = let is_short : nat_lt (length bytes) (2 ^ 32) ≡ true = lt-ltb (length bytes) (2 ^ 32) short in rw (is_short, other)
+-- nothing is read where no event stands behind the mark
+none-read : (bytes : List ℕ) (stop : Option ℕ) → bytes_eq (take 4 bytes) magic ≡ true → event_at (drop 4 bytes) ≡ None → read bytes stop ≡ []
+unfolding read
+none-read bytes stop mark none = rw (mark, none) refl
 
--- a log of another shape
-pub refused-shape : (mode : Mode) (bytes : List ℕ) (sel : Selection) → length bytes < 2 ^ 32 → bytes_eq (take 4 bytes) magic ≡ true
-    → (is_flashback mode && (is_all sel && is_accepted_insert bytes)) ≡ false → refusal mode bytes sel ≡ Some (UnknownEvent 4)
-unfolding refusal
-refused-shape mode bytes sel short mark other = let is_short : nat_lt (length bytes) (2 ^ 32) ≡ true = lt-ltb (length bytes) (2 ^ 32) short in rw (is_short, mark, other)
+-- what is read has a first event exactly where one stands behind the mark, and it is this one
+record IsFirst (events : List Event) (first : Option Event) : Type 0 where
+  some : is_some first ≡ has_first events
+  format : option_map_or format_fault first None ≡ first_format_fault events
 
--- a log that is undone
-pub refused-not : (mode : Mode) (bytes : List ℕ) (sel : Selection) → length bytes < 2 ^ 32 → bytes_eq (take 4 bytes) magic ≡ true
-    → (is_flashback mode && (is_all sel && is_accepted_insert bytes)) ≡ true → refusal mode bytes sel ≡ None
-unfolding refusal
-refused-not mode bytes sel short mark shape = let is_short : nat_lt (length bytes) (2 ^ 32) ≡ true = lt-ltb (length bytes) (2 ^ 32) short in rw (is_short, mark, shape)
-
--- what is answered with a mode and a selection that aren't yet
-pub refused-mode : (mode : Mode) (bytes : List ℕ) (sel : Selection) → length bytes < 2 ^ 32 → bytes_eq (take 4 bytes) magic ≡ true
-    → (is_flashback mode && is_all sel) ≡ false → refusal mode bytes sel ≡ Some (UnknownEvent 4)
-refused-mode mode bytes sel short mark other = refused-shape mode bytes sel short mark (by_tests (is_flashback mode) (is_all sel) other)
+first-read : (bytes : List ℕ) (stop : Option ℕ) → bytes_eq (take 4 bytes) magic ≡ true → IsFirst (read bytes stop) (event_at (drop 4 bytes))
+first-read bytes stop mark = by_event (event_at (drop 4 bytes)) refl
   where
-    by_tests : (a b : Bool) → (a && b) ≡ false → (a && (b && is_accepted_insert bytes)) ≡ false
-    by_tests true true h = absurd (cc)
-    by_tests true false h = refl
-    by_tests false b h = refl
+    by_event : (o : Option Event) → event_at (drop 4 bytes) ≡ o → IsFirst (read bytes stop) o
+    by_event None none = let is = none-read bytes stop mark none in record { some = ap has_first (sym is); format = ap first_format_fault (sym is) }
+    by_event (Some e) stands =
+        let is = read-first bytes stop e ((bytes_eq-Decides (take 4 bytes) magic).0 mark) stands in
+        record { some = ap has_first (sym is); format = ap first_format_fault (sym is) }
 
--- of the mode and selection that are: by the shape
-pub refused-by : (mode : Mode) (bytes : List ℕ) (sel : Selection) (shape : Bool) → (is_flashback mode && is_all sel) ≡ true → is_accepted_insert bytes ≡ shape
-    → (is_flashback mode && (is_all sel && is_accepted_insert bytes)) ≡ shape
-refused-by mode bytes sel shape both is = by_tests (is_flashback mode) (is_all sel) both
+-- ---- lists of checks
+
+-- a fault among the first four of checks, the third and fourth of which are said in another way, decides
+front-fails : (a b c d p q : Option Fault) (more : List (Option Fault)) (f : Fault) → (b ≡ None → (c ≡ p) × (d ≡ q)) → first_failing (a ∷ b ∷ c ∷ d ∷ []) ≡ Some f
+    → first_failing (a ∷ b ∷ p ∷ q ∷ more) ≡ Some f
+front-fails (Some x) b c d p q more f same e = e
+front-fails None (Some x) c d p q more f same e = e
+front-fails None None c d p q more f same e =
+    let are = same refl in ap₂ (λ third fourth. first_failing (third ∷ fourth ∷ more)) (sym are.0) (sym are.1) ∙ two c d e
   where
-    by_tests : (a b : Bool) → (a && b) ≡ true → (a && (b && is_accepted_insert bytes)) ≡ shape
-    by_tests true true h = is
-    by_tests true false h = absurd (cc)
-    by_tests false b h = absurd (cc)
+    two : (c d : Option Fault) → first_failing (c ∷ d ∷ []) ≡ Some f → first_failing (c ∷ d ∷ more) ≡ Some f
+    two (Some x) d e = e
+    two None (Some x) e = e
+    two None None e = absurd (none-some f e)
 
--- the mode and selection that are answered
-pub is-flashback : (mode : Mode) (sel : Selection) → (is_flashback mode && is_all sel) ≡ true → mode ≡ Flashback
-is-flashback Flashback sel h = refl
-is-flashback Forward sel h = absurd (cc)
-is-flashback FlashbackSql sel h = absurd (cc)
-is-flashback ForwardSql sel h = absurd (cc)
-is-flashback Summary sel h = absurd (cc)
-
-pub is-everything : (mode : Mode) (sel : Selection) → (is_flashback mode && is_all sel) ≡ true → sel ≡ all
-is-everything mode sel h = by_mode (is_flashback mode) h
-  where
-    no_stop : (o : Option ℕ) → is_none o ≡ true → o ≡ None
-    no_stop None h = refl
-    no_stop (Some x) h = absurd (cc)
-
-    no_name : (o : Option (List ℕ)) → is_none o ≡ true → o ≡ None
-    no_name None h = refl
-    no_name (Some x) h = absurd (cc)
-
-    second : (a b : Bool) → (a && b) ≡ true → (a ≡ true) × (b ≡ true)
-    second true b h = (refl, h)
-    second false b h = absurd (cc)
-
-    by_mode : (a : Bool) → (a && is_all sel) ≡ true → sel ≡ all
-    by_mode false h = absurd (cc)
-    by_mode true h =
-        let start = second (eqb sel.start 4) _ h in
-        let stop = second (is_none sel.stop) _ start.1 in
-        let database = second (is_none sel.database) (is_none sel.table) stop.1 in
-        let start_is : sel.start ≡ 4 = eqb-true sel.start 4 start.0 in
-        λ i. record { start = start_is i; stop = no_stop sel.stop stop.0 i; database = no_name sel.database database.0 i; table = no_name sel.table database.1 i }
-
--- equal the one way round, equal the other
-pub mark-turned : (bytes : List ℕ) → bytes_eq magic (take 4 bytes) ≡ bytes_eq (take 4 bytes) magic
-mark-turned bytes = by_both (bytes_eq magic (take 4 bytes)) (bytes_eq (take 4 bytes) magic) there back
-  where
-    there : bytes_eq magic (take 4 bytes) ≡ true → bytes_eq (take 4 bytes) magic ≡ true
-    there e = (bytes_eq-Decides (take 4 bytes) magic).1 (sym ((bytes_eq-Decides magic (take 4 bytes)).0 e))
-
-    back : bytes_eq (take 4 bytes) magic ≡ true → bytes_eq magic (take 4 bytes) ≡ true
-    back e = (bytes_eq-Decides magic (take 4 bytes)).1 (sym ((bytes_eq-Decides (take 4 bytes) magic).0 e))
-
-    by_both : (a b : Bool) → (a ≡ true → b ≡ true) → (b ≡ true → a ≡ true) → a ≡ b
-    by_both true true h k = refl
-    by_both true false h k = sym (h refl)
-    by_both false true h k = k refl
-    by_both false false h k = refl
+-- what opening refuses is the fault of the log
+pub opening-refused : (bytes : List ℕ) (sel : Selection) (f : Fault) → opening_fault bytes ≡ Some f → fault bytes sel ≡ Some f
+unfolding opening_fault fault
+opening-refused bytes sel f e =
+    front-fails _ _ _ _ _ _ _ f (λ none.
+    let mark = needed (bytes_eq (take 4 bytes) magic) NotABinlog (no_fault_at 0 _ none) in
+    let first = first-read bytes sel.stop mark in
+    (ap (λ b. fault_at 4 (needs b CutEvent)) first.some, ap (fault_at 4) first.format)) e

@@ -36,7 +36,7 @@ use Rattle.blog_flash.proofs.Sound.{all-found, all-given, IsSound, IsSoundSpan, 
 -- ---- tests
 
 -- where a test chooses a value, it holds
-chosen-value : {A : Type 0} (b : Bool) (o : Option A) (x : A) → (if b then o else None) ≡ Some x → (b ≡ true) × (o ≡ Some x)
+pub chosen-value : {A : Type 0} (b : Bool) (o : Option A) (x : A) → (if b then o else None) ≡ Some x → (b ≡ true) × (o ≡ Some x)
 chosen-value true o x e = (refl, e)
 chosen-value false o x e = absurd (none-some x e)
 
@@ -76,12 +76,12 @@ pub record IsKept (Member : Placed → Type 0) (sel : Selection) (events : List 
   pub fields : IsRowsBody r.kind layout r.event.event.body r.body
 
 -- a body that is read under a layout
-under-found : (k : RowsKind) (l : Result Layout RowFault) (body : List ℕ) (b : RowsBody) → rows_under k l body ≡ Ok b → (c : Layout) × (l ≡ Ok c) × (rows_of k c body ≡ Ok b)
+pub under-found : (k : RowsKind) (l : Result Layout RowFault) (body : List ℕ) (b : RowsBody) → rows_under k l body ≡ Ok b → (c : Layout) × (l ≡ Ok c) × (rows_of k c body ≡ Ok b)
 under-found k (Ok c) body b e = (c, refl, e)
 under-found k (Err fault) body b e = absurd (cc)
 
 -- a body that is read has its fields
-fields-found : (k : RowsKind) (c : Layout) (body : List ℕ) (b : RowsBody) → 0 < length c → rows_of k c body ≡ Ok b → IsRowsBody k c body b
+pub fields-found : (k : RowsKind) (c : Layout) (body : List ℕ) (b : RowsBody) → 0 < length c → rows_of k c body ≡ Ok b → IsRowsBody k c body b
 fields-found k c body b some e = rows_found k c body b (λ bytes images. (images_found c bytes images, λ are. images_again c bytes images some are.0 are.1)) e
 
 -- where a rows event is kept, its body is read
@@ -91,7 +91,7 @@ body-kept p m k (Ok b) r e = (b, refl, same_Some _ _ e)
 body-kept p m k (Err fault) r e = absurd (none-some r e)
 
 -- by its kind
-kind-kept : (p m : Placed) (k : EventKind) (r : PlacedRows) → rows_by_kind p m k ≡ Some r
+pub kind-kept : (p m : Placed) (k : EventKind) (r : PlacedRows) → rows_by_kind p m k ≡ Some r
     → (rows : RowsKind) × (b : RowsBody) × (rows_by_map rows m.event.body p.event.body ≡ Ok b) × (record { event = p; map = m; kind = rows; body = b } ≡ r)
 kind-kept p m (kind.Rows rows) r e = let kept = body-kept p m rows (rows_by_map rows m.event.body p.event.body) r e in (rows, kept.0, kept.1, kept.2)
 kind-kept p m _ r e = absurd (none-some r e)
@@ -117,7 +117,7 @@ kept-id : (Member : Placed → Type 0) (sel : Selection) (events : List Placed) 
 kept-id Member sel events r h = ap table_id h.fields.text ∙ take_at r.body.id _ 6 h.fields.id_len
 
 -- the table ids of rows events
-abbrev ids_of : List PlacedRows → List (List ℕ)
+abbrev pub ids_of : List PlacedRows → List (List ℕ)
 ids_of rows = map (λ x. table_id x.event.event.body) rows
 
 -- a rows event of a table id
@@ -131,7 +131,7 @@ row-of P (r ∷ rows) id e all = by_case (bytes_eq id (id_at r.event)) refl (λ 
     by_case false differs more h = more h
 
 -- a rows event has its own table id
-rows-asked : (rows : List PlacedRows) → AllByRecursion (λ (r : PlacedRows). is_id_among (ids_of rows) (id_at r.event) ≡ true) rows
+pub rows-asked : (rows : List PlacedRows) → AllByRecursion (λ (r : PlacedRows). is_id_among (ids_of rows) (id_at r.event) ≡ true) rows
 rows-asked [] = tt
 rows-asked (r ∷ rows) = (
   or_left (bytes_eq (id_at r.event) (id_at r.event)) (is_id_among (ids_of rows) (id_at r.event)) (bytes-own (id_at r.event)),

@@ -2,13 +2,12 @@ pub mod States
 pub mod Texts
 pub mod Reversal
 pub mod Printed
+pub mod LaidOut
+pub mod PrintedRows
 pub mod Theorems
-pub mod OneInsert
-pub mod LongColumn
-pub mod FiveEvents
-pub mod OneUndone
+pub mod Shown
+pub mod Agreement
 pub mod Outputs
-pub mod Refusal
 pub mod Answers
 pub mod Watched
 pub mod Runs

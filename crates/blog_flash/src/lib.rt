@@ -2,11 +2,13 @@
 #![tactic(auto)]
 
 mod devices;
-mod five_events;
-mod long_column;
+mod laid_out;
+mod lengths;
 mod modes;
-mod one_insert;
-mod one_undone;
+mod order;
+mod printed;
+mod put_sql;
+mod put_summary;
 mod runs;
 #[cfg(test)]
 mod tests;
@@ -16,12 +18,13 @@ mod worked_logs;
 pub use blog_event::Fault;
 pub use blog_trans::Selection;
 pub use devices::Watched;
-pub use modes::{Mode, answer, flashback};
+pub use modes::{Mode, answer, flashback, forward, sql, summary};
 pub use runs::{RunFault, prepare, put, run};
 pub use theorems::{
-    every_stop_stands, flashback_undoes, forward_is_normal, written_logs_are_no_longer,
+    every_stop_stands, flashback_undoes, forward_is_normal, groups_show_each_event_once,
+    maps_agree_on_layouts, written_changes_are_inverse, written_logs_are_no_longer,
 };
 pub use worked_logs::{
-    worked_event_faults, worked_file_faults, worked_normal_forms, worked_outputs, worked_printed,
-    worked_selections,
+    worked_event_faults, worked_faults, worked_file_faults, worked_first_faults, worked_groups,
+    worked_inverses, worked_normal_forms, worked_outputs, worked_printed, worked_selections,
 };

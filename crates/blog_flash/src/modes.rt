@@ -1,14 +1,23 @@
 //! What is answered to a log.
 
-ghost use Rattle.std.specs.Prelude.{◌≡◌, ◌&&◌, take, bytes_eq};
-ghost use Rattle.blog_event.specs.File.{magic};
+ghost use Rattle.std.specs.Prelude.{◌≡◌, IfOk, IfErr, IsTrue, IsFalse};
+ghost use Rattle.blog_event.specs.File.{read};
 ghost use Rattle.blog_trans.specs.Selection.{selection_of};
+ghost use Rattle.blog_trans.specs.Acceptance.{IsAccepted, fault};
+ghost use Rattle.blog_trans.specs.Groups.{groups};
+ghost use Rattle.blog_trans.specs.IndexView.{index_bytes, index_selection};
+ghost use Rattle.blog_trans.specs.Refusals.{IsRefusal};
 ghost use Rattle.blog_flash.specs.Answers.{Answers};
-ghost use Rattle.blog_flash.specs.Refusal.{is_all, is_flashback};
+ghost use Rattle.blog_flash.specs.LaidOut.{groups_in};
+ghost use Rattle.blog_flash.specs.Printed.{sql_text, summary_text};
+ghost use Rattle.blog_flash.specs.Texts.{laid_out_after};
 
-use crate::one_insert::undone;
-use blog_event::Fault;
-use blog_trans::Selection;
+use crate::laid_out::lay_out;
+use crate::order::Order;
+use crate::put_sql::put_sql;
+use crate::put_summary::put_summary;
+use blog_event::{Fault, Log};
+use blog_trans::{Index, Selection, index};
 use std::alloc::Allocator;
 
 /// What is to be made of a log.
@@ -26,34 +35,97 @@ pub enum Mode {
     Summary,
 }
 
-/// FE 62 69 6E, with which a binary log begins.
-const MAGIC: &[u8] = b"\xfebin";
-
-/// Whether bytes begin as a binary log.
-fn has_magic(bytes: &[u8]) -> bool
-    ensures { result ≡ bytes_eq (take 4 bytes.now) magic }
+/// The selected groups of a log.
+fn selected<'a, 's, A: Allocator + Copy>(
+    alloc: A,
+    bytes: &'a [u8],
+    sel: &Selection<'s>,
+) -> Result<Index<'a, 's, A>, Fault>
+    ensures accepted { IfOk result (λ groups. IsAccepted bytes.now (selection_of sel.now)) }
+    ensures bytes { IfOk result (λ groups. index_bytes groups ≡ bytes.now) }
+    ensures selection { IfOk result (λ groups. index_selection groups ≡ selection_of sel.now) }
+    ensures refused { IfErr result (IsRefusal (fault bytes.now (selection_of sel.now))) }
 {
-    bytes.starts_with(MAGIC)
+    let log = Log::open(bytes)?;
+    index(alloc, &log, sel)
 }
 
-/// Whether the mode and the selection are answered today: undoing, of the whole log.
-fn is_answered(mode: Mode, sel: &Selection<'_>) -> bool
-    ensures { result ≡ (is_flashback mode && is_all (selection_of sel.now)) }
+/// The selected groups of a log as a log, in an order.
+fn laid_out<A: Allocator + Copy>(
+    alloc: A,
+    bytes: &[u8],
+    sel: &Selection<'_>,
+    order: Order,
+) -> Result<Vec<u8, A>, Fault>
+    ensures accepted { IfOk result (λ text. IsAccepted bytes.now (selection_of sel.now)) }
+    ensures text { IfOk result (λ text. text.items ≡ laid_out_after (read bytes.now (selection_of sel.now).stop) (groups_in order (groups bytes.now (selection_of sel.now)))) }
+    ensures refused { IfErr result (IsRefusal (fault bytes.now (selection_of sel.now))) }
 {
-    matches!(mode, Mode::Flashback)
-        && sel.start == 4
-        && sel.stop.is_none()
-        && sel.database.is_none()
-        && sel.table.is_none()
+    let groups = selected(alloc, bytes, sel)?;
+    lay_out(alloc, bytes, &groups, order)
+}
+
+/// The selected groups of a log as pseudo-SQL.
+fn printed<A: Allocator + Copy>(
+    alloc: A,
+    bytes: &[u8],
+    sel: &Selection<'_>,
+) -> Result<Vec<u8, A>, Fault>
+    ensures accepted { IfOk result (λ text. IsAccepted bytes.now (selection_of sel.now)) }
+    ensures text { IfOk result (λ text. text.items ≡ sql_text (groups bytes.now (selection_of sel.now))) }
+    ensures refused { IfErr result (IsRefusal (fault bytes.now (selection_of sel.now))) }
+{
+    let groups = selected(alloc, bytes, sel)?;
+    match put_sql(alloc, &groups) {
+        Ok(text) => Ok(text),
+        Err(_) => Err(Fault::OutOfMemory),
+    }
+}
+
+/// The changes that undo the selected ones, as pseudo-SQL: the log that undoes them, printed.
+fn flashback_sql<A: Allocator + Copy>(
+    alloc: A,
+    bytes: &[u8],
+    sel: &Selection<'_>,
+) -> Result<Vec<u8, A>, Fault>
+    ensures { Answers bytes.now Mode.FlashbackSql (selection_of sel.now) result }
+{
+    let written = laid_out(alloc, bytes, sel, Order::Backward)?;
+    printed(alloc, &written, &Selection::all())
+}
+
+/// The selected changes as pseudo-SQL.
+fn forward_sql<A: Allocator + Copy>(
+    alloc: A,
+    bytes: &[u8],
+    sel: &Selection<'_>,
+) -> Result<Vec<u8, A>, Fault>
+    ensures { Answers bytes.now Mode.ForwardSql (selection_of sel.now) result }
+{
+    printed(alloc, bytes, sel)
+}
+
+/// The selected groups of a log in numbers.
+fn counted<A: Allocator + Copy>(
+    alloc: A,
+    bytes: &[u8],
+    sel: &Selection<'_>,
+) -> Result<Vec<u8, A>, Fault>
+    ensures accepted { IfOk result (λ text. IsAccepted bytes.now (selection_of sel.now)) }
+    ensures text { IfOk result (λ text. text.items ≡ summary_text (groups bytes.now (selection_of sel.now))) }
+    ensures refused { IfErr result (IsRefusal (fault bytes.now (selection_of sel.now))) }
+{
+    let groups = selected(alloc, bytes, sel)?;
+    match put_summary(alloc, &groups) {
+        Ok(text) => Ok(text),
+        Err(_) => Err(Fault::OutOfMemory),
+    }
 }
 
 /// What the mode makes of a log under a selection.
 ///
-/// `TooLong` at 0 where the log has more than 4,294,967,295 bytes; else `NotABinlog` at 0 where it
-/// doesn't begin with FE 62 69 6E. Today only `Mode::Flashback` of a whole log is answered, and only
-/// where the log is accepted and its events are one inserting transaction of a table of one LONG
-/// column; any other is answered with `UnknownEvent` at 4. `OutOfMemory` where a growth was refused.
-pub fn answer<A: Allocator + Clone>(
+/// A log that is refused is answered with its first fault, in every mode. `OutOfMemory` where a growth was refused.
+pub fn answer<A: Allocator + Copy>(
     alloc: A,
     bytes: &[u8],
     mode: Mode,
@@ -61,30 +133,64 @@ pub fn answer<A: Allocator + Clone>(
 ) -> Result<Vec<u8, A>, Fault>
     ensures { Answers bytes.now mode (selection_of sel.now) result }
 {
-    if bytes.len() > u32::MAX as usize {
-        return Err(Fault::TooLong { pos: 0 });
-    }
-    if !has_magic(bytes) {
-        return Err(Fault::NotABinlog { pos: 0 });
-    }
-    if !is_answered(mode, sel) {
-        return Err(Fault::UnknownEvent { pos: 4 });
-    }
-    match undone(alloc, bytes) {
-        Ok(Some(text)) => Ok(text),
-        Ok(None) => Err(Fault::UnknownEvent { pos: 4 }),
-        Err(_) => Err(Fault::OutOfMemory),
+    match mode {
+        Mode::Flashback => flashback(alloc, bytes, sel),
+        Mode::Forward => forward(alloc, bytes, sel),
+        Mode::FlashbackSql => flashback_sql(alloc, bytes, sel),
+        Mode::ForwardSql => forward_sql(alloc, bytes, sel),
+        Mode::Summary => summary(alloc, bytes, sel),
     }
 }
 
 /// The log that undoes the selected changes of a log (MariaDB Knowledge Base, "Flashback"): `answer` for
 /// `Mode::Flashback`, with its errors.
-pub fn flashback<A: Allocator + Clone>(
+pub fn flashback<A: Allocator + Copy>(
     alloc: A,
     bytes: &[u8],
     sel: &Selection<'_>,
 ) -> Result<Vec<u8, A>, Fault>
     ensures { Answers bytes.now Mode.Flashback (selection_of sel.now) result }
 {
-    answer(alloc, bytes, Mode::Flashback, sel)
+    laid_out(alloc, bytes, sel, Order::Backward)
+}
+
+/// The selected changes of a log in normal form, as a log: `answer` for `Mode::Forward`, with its errors.
+pub fn forward<A: Allocator + Copy>(
+    alloc: A,
+    bytes: &[u8],
+    sel: &Selection<'_>,
+) -> Result<Vec<u8, A>, Fault>
+    ensures { Answers bytes.now Mode.Forward (selection_of sel.now) result }
+{
+    laid_out(alloc, bytes, sel, Order::Forward)
+}
+
+/// The selected changes of a log as pseudo-SQL, or backwards those that undo them: `answer` for `Mode::ForwardSql` or
+/// `Mode::FlashbackSql`, with its errors.
+pub fn sql<A: Allocator + Copy>(
+    alloc: A,
+    bytes: &[u8],
+    sel: &Selection<'_>,
+    backwards: bool,
+) -> Result<Vec<u8, A>, Fault>
+    ensures backward { IsTrue backwards → Answers bytes.now Mode.FlashbackSql (selection_of sel.now) result }
+    ensures forward { IsFalse backwards → Answers bytes.now Mode.ForwardSql (selection_of sel.now) result }
+{
+    if backwards {
+        flashback_sql(alloc, bytes, sel)
+    } else {
+        forward_sql(alloc, bytes, sel)
+    }
+}
+
+/// How many rows of each table the selected changes of a log insert, update and delete: `answer` for `Mode::Summary`,
+/// with its errors.
+pub fn summary<A: Allocator + Copy>(
+    alloc: A,
+    bytes: &[u8],
+    sel: &Selection<'_>,
+) -> Result<Vec<u8, A>, Fault>
+    ensures { Answers bytes.now Mode.Summary (selection_of sel.now) result }
+{
+    counted(alloc, bytes, sel)
 }

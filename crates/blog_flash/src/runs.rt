@@ -49,7 +49,7 @@ const STEP: usize = 65_536;
 /// `Log` of the log's fault where it is refused; `Log(TooLong)` at 0 where it has more than
 /// 4,294,967,295 bytes, of which one more than that is then read; `Log(OutOfMemory)` where a growth
 /// was refused; `Read` where a read failed. Never `Write`.
-pub fn prepare<A: Allocator + Clone, R: Read>(
+pub fn prepare<A: Allocator + Copy, R: Read>(
     alloc: A,
     reader: &mut Watched<R>,
     mode: Mode,
@@ -59,7 +59,7 @@ pub fn prepare<A: Allocator + Clone, R: Read>(
         mode (selection_of sel.now) result }
     ensures mark { has_failed reader.new ≡ (has_failed reader.old || is_read_fault result) }
 {
-    let bytes = read_up_to(alloc.clone()?, reader, GREATEST_LENGTH)?;
+    let bytes = read_up_to(alloc, reader, GREATEST_LENGTH)?;
     answer(alloc, &bytes, mode, sel).map_err(RunFault::Log)
 }
 
@@ -81,7 +81,7 @@ pub fn put<W: Write>(writer: &mut Watched<W>, bytes: &[u8]) -> Result<(), RunFau
 
 /// Reads a log to the reader's end and writes what it is answered with in this mode: `prepare`,
 /// then `put`, with their faults. After `Log` or `Read` the writer was not called.
-pub fn run<A: Allocator + Clone, R: Read, W: Write>(
+pub fn run<A: Allocator + Copy, R: Read, W: Write>(
     alloc: A,
     reader: &mut Watched<R>,
     mode: Mode,

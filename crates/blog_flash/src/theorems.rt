@@ -1,10 +1,15 @@
 //! What is promised of the logs that are written.
 
-ghost use Rattle.std.specs.Prelude.{ℕ, List};
+ghost use Rattle.std.specs.Prelude.{◌≡◌, ℕ, List};
 ghost use Rattle.blog_event.specs.File.{AreBytes};
-ghost use Rattle.blog_trans.specs.Selection.{Selection};
+ghost use Rattle.blog_trans.specs.Selection.{Selection, all};
 ghost use Rattle.blog_trans.specs.Acceptance.{IsAccepted};
+ghost use Rattle.blog_trans.specs.Groups.{placed_groups};
+ghost use Rattle.blog_trans.specs.Changes.{changes};
+ghost use Rattle.blog_flash.specs.States.{inverse_all};
 ghost use Rattle.blog_flash.specs.Texts.{normal_text, flashback_text};
+ghost use Rattle.blog_flash.specs.Shown.{ShowsEachOnce, GoByOwnMaps};
+ghost use Rattle.blog_flash.specs.Agreement.{MapsAgree};
 ghost use Rattle.blog_flash.specs.Theorems.{Undoes, IsNormal, StopsAnywhere, IsNoLonger};
 
 /// Of each accepted log and selection the log that is written to undo it gives the state back: from every state on
@@ -34,4 +39,24 @@ pub fn every_stop_stands()
 /// the log, so written positions fit where the log's do. The call does nothing.
 pub fn written_logs_are_no_longer()
     ensures { (bytes : List ℕ) (sel : Selection) → AreBytes bytes → IsAccepted bytes sel → IsNoLonger bytes sel }
+{}
+
+/// Of each accepted log and selection the groups have events of the range, and none of them twice; their sizes and the
+/// position behind the event at 4 add up to at most the length of the log. Of every log each rows event of the groups
+/// goes by the map of its table id that its statement has. The call does nothing.
+pub fn groups_show_each_event_once()
+    ensures maps { (bytes : List ℕ) (sel : Selection) → GoByOwnMaps (placed_groups bytes sel) }
+    ensures once { (bytes : List ℕ) (sel : Selection) → AreBytes bytes → IsAccepted bytes sel → ShowsEachOnce bytes sel }
+{}
+
+/// Of each accepted log and selection each table map of the groups has names and a layout, and any two maps of the same
+/// table have the same layout, wherever they stand. The call does nothing.
+pub fn maps_agree_on_layouts()
+    ensures { (bytes : List ℕ) (sel : Selection) → AreBytes bytes → IsAccepted bytes sel → MapsAgree bytes sel }
+{}
+
+/// Of each accepted log and selection the changes of the log that is written to undo it are the inverse of the selected
+/// ones: the last first, a delete for an insert, an insert for a delete, and an update back. The call does nothing.
+pub fn written_changes_are_inverse()
+    ensures { (bytes : List ℕ) (sel : Selection) → AreBytes bytes → IsAccepted bytes sel → changes (flashback_text bytes sel) all ≡ inverse_all (changes bytes sel) }
 {}

@@ -1,11 +1,14 @@
 //! Small logs, spelled byte by byte, and the answers that the definitions give for them: each by computation.
-#![tactic(auto, unfolding(blog_event::specs::Event::event_text, blog_event::specs::Event::event_at, blog_event::specs::File::events_from, blog_event::specs::File::read, blog_event::specs::Format::version_of, blog_event::specs::Format::format_fault, blog_row::specs::Packed::packed_front, blog_row::specs::Column::metadata_len_of, blog_row::specs::Column::plain_storage, blog_row::specs::Column::value_front, blog_row::specs::Image::values_front, blog_row::specs::Image::image_front, blog_row::specs::Image::images_up_to, blog_row::specs::TableMap::name_front, blog_row::specs::TableMap::names_of, blog_row::specs::TableMap::layout_fields, blog_row::specs::TableMap::layout_of, blog_row::specs::RowsEvent::rows_of, blog_trans::specs::Kinds::query_text, blog_trans::specs::Kinds::query_kind, blog_trans::specs::Kinds::kind_of, blog_trans::specs::Acceptance::fault, blog_trans::specs::Groups::placed_groups, blog_trans::specs::Groups::groups, crate::specs::Texts::rows_event, crate::specs::Texts::laid_out, crate::specs::Texts::normal_text, crate::specs::Texts::flashback_text))]
+#![tactic(auto, unfolding(blog_event::specs::Event::event_text, blog_event::specs::Event::event_at, blog_event::specs::File::events_from, blog_event::specs::File::read, blog_event::specs::Format::version_of, blog_event::specs::Format::format_fault, blog_row::specs::Packed::packed_front, blog_row::specs::Column::metadata_len_of, blog_row::specs::Column::plain_storage, blog_row::specs::Column::value_front, blog_row::specs::Image::values_front, blog_row::specs::Image::image_front, blog_row::specs::Image::images_up_to, blog_row::specs::TableMap::name_front, blog_row::specs::TableMap::names_of, blog_row::specs::TableMap::layout_fields, blog_row::specs::TableMap::layout_of, blog_row::specs::RowsEvent::rows_of, blog_trans::specs::Kinds::query_text, blog_trans::specs::Kinds::query_kind, blog_trans::specs::Kinds::kind_of, blog_trans::specs::Acceptance::fault, blog_trans::specs::Groups::placed_groups, blog_trans::specs::Groups::groups, crate::specs::Shown::shown, crate::specs::Texts::rows_event, crate::specs::Texts::laid_out, crate::specs::Texts::normal_text, crate::specs::Texts::flashback_text))]
 
-ghost use Rattle.std.specs.Prelude.{◌≡◌, Some, None, [], ◌∷◌, ◌++◌, take, drop, slice_set, codes};
-ghost use Rattle.blog_event.specs.declared.fault.Fault.TheVariants.{NotABinlog, CutEvent, BadFormat, OldServer, Checksums, NoEventAt, Statement, RolledBack, OutOfPlace, Unended, NoMap, MapClash, PartialImage, UnknownType, BadBody, UnknownEvent};
-ghost use Rattle.blog_trans.specs.Selection.{all};
+ghost use Rattle.std.specs.Prelude.{◌≡◌, ℕ, ◌≤◌, ◌^◌, Some, None, List, [], ◌∷◌, ◌++◌, length, take, drop, slice_set, codes};
+ghost use Rattle.blog_event.specs.declared.fault.Fault.TheVariants.{NotABinlog, CutEvent, BadFormat, OldServer, Checksums, NoEventAt, Statement, RolledBack, OutOfPlace, Unended, NoMap, MapClash, PartialImage, UnknownType, BadBody, UnknownEvent, TooLong};
+ghost use Rattle.blog_trans.specs.Selection.{Selection, all};
 ghost use Rattle.blog_trans.specs.Acceptance.{fault};
 ghost use Rattle.blog_trans.specs.Groups.{groups};
+ghost use Rattle.blog_trans.specs.Changes.{changes};
+ghost use Rattle.blog_flash.specs.States.{inverse_all};
+ghost use Rattle.blog_flash.specs.Shown.{shown_positions, map_positions};
 ghost use Rattle.blog_flash.specs.Reversal.{reversed};
 ghost use Rattle.blog_flash.specs.Texts.{normal_text, flashback_text};
 ghost use Rattle.blog_flash.specs.Printed.{sql_text, summary_text};
@@ -32,6 +35,11 @@ pub fn worked_outputs()
     ensures bitmaps_undone { flashback_text (slice_set two_updates 227 1) all ≡ slice_set two_updates_undone 226 1 }
     ensures free_bits_accepted { fault (slice_set one_insert 226 1) all ≡ None }
     ensures free_bits_undone { flashback_text (slice_set one_insert 226 1) all ≡ slice_set (slice_set one_insert 226 1) 200 32 }
+    ensures timestamps_undone { flashback_text (slice_set (slice_set (slice_set (slice_set one_insert 120 1) 159 2) 196 3) 232 4) all ≡ slice_set (slice_set (slice_set (slice_set (slice_set one_insert 120 1) 159 2) 196 3) 232 4) 200 32 }
+    ensures server_ids_undone { flashback_text (slice_set (slice_set (slice_set (slice_set one_insert 125 2) 164 3) 201 4) 237 5) all ≡ slice_set (slice_set (slice_set (slice_set (slice_set one_insert 125 2) 164 3) 201 4) 237 5) 200 32 }
+    ensures header_flags_undone { flashback_text (slice_set (slice_set (slice_set (slice_set one_insert 137 8) 176 4) 213 2) 249 1) all ≡ slice_set (slice_set (slice_set (slice_set (slice_set one_insert 137 8) 176 4) 213 2) 249 1) 200 32 }
+    ensures format_undone { flashback_text (slice_set (slice_set one_insert 4 6) 17 9) all ≡ slice_set (slice_set (slice_set one_insert 4 6) 17 9) 200 32 }
+    ensures rows_flags_undone { flashback_text (slice_set one_insert 221 7) all ≡ slice_set (slice_set one_insert 221 7) 200 32 }
     ensures two_transactions_accepted { fault two_transactions all ≡ None }
     ensures two_transactions_undone { flashback_text two_transactions all ≡ two_transactions_undone }
     ensures backtick_accepted { fault backtick_in_name all ≡ None }
@@ -40,6 +48,9 @@ pub fn worked_outputs()
     ensures two_tables_undone { flashback_text two_tables all ≡ two_tables_undone }
     ensures map_twice_accepted { fault map_twice all ≡ None }
     ensures map_twice_undone { flashback_text map_twice all ≡ slice_set one_insert 200 32 }
+    ensures rows_query_outside_accepted { fault (no_changes ++ slice_set (drop 232 one_insert) 4 29) all ≡ None }
+    ensures name_in_another_schema_accepted { fault (slice_set (slice_set two_transactions 427 101) 433 7) all ≡ None }
+    ensures id_of_another_table_accepted { fault (slice_set two_transactions 430 117) all ≡ None }
     ensures two_statements_accepted { fault two_statements all ≡ None }
     ensures two_statements_undone { flashback_text two_statements all ≡ two_statements_undone }
     ensures two_columns_accepted { fault two_columns all ≡ None }
@@ -84,7 +95,27 @@ pub fn worked_selections()
     ensures from_zero_accepted { fault one_insert (record all { start = 0 }) ≡ None }
     ensures from_zero_undone { flashback_text one_insert (record all { start = 0 }) ≡ slice_set one_insert 200 32 }
     ensures start_past_stop_accepted { fault one_insert (record all { start = 160; stop = Some 100 }) ≡ None }
+    ensures start_inside_past_stop_accepted { fault one_insert (record all { start = 110; stop = Some 100 }) ≡ None }
+    ensures start_past_end_past_stop_accepted { fault one_insert (record all { start = 300; stop = Some 100 }) ≡ None }
     ensures start_past_stop_undone { flashback_text one_insert (record all { start = 160; stop = Some 100 }) ≡ no_changes }
+{}
+
+/// By the definitions the groups of these small logs have the events at these positions, and their rows events go by the
+/// maps at these. Of two maps of one table id in a statement it is the first.
+pub fn worked_groups()
+    ensures two_tables_shown { shown_positions two_tables all ≡ 120 ∷ 159 ∷ 197 ∷ 235 ∷ 271 ∷ 307 ∷ 343 ∷ [] }
+    ensures two_tables_maps { map_positions two_tables all ≡ 159 ∷ 197 ∷ 159 ∷ [] }
+    ensures one_table_shown { shown_positions two_tables (record all { table = Some (codes "t2") }) ≡ 120 ∷ 197 ∷ 271 ∷ 343 ∷ [] }
+    ensures map_twice_shown { shown_positions map_twice all ≡ 120 ∷ 159 ∷ 233 ∷ 269 ∷ [] }
+    ensures map_twice_maps { map_positions map_twice all ≡ 159 ∷ [] }
+    ensures map_alone_shown { shown_positions map_alone all ≡ [] }
+{}
+
+/// By the definitions the changes of what undoes these small logs are the inverses of theirs, the last first.
+pub fn worked_inverses()
+    ensures two_updates_inverse { changes (flashback_text two_updates all) all ≡ inverse_all (changes two_updates all) }
+    ensures two_tables_inverse { changes (flashback_text two_tables all) all ≡ inverse_all (changes two_tables all) }
+    ensures nine_columns_inverse { changes (flashback_text nine_columns all) all ≡ inverse_all (changes nine_columns all) }
 {}
 
 /// By the definitions these small logs have these normal forms. Undoing twice gives the normal form.
@@ -99,43 +130,73 @@ pub fn worked_normal_forms()
     ensures first_written { normal_text two_transactions_undone (record all { stop = Some 259 }) ≡ second_transaction_undone }
 {}
 
-/// By the definitions these small logs are refused, with these faults at these positions: for the framing, the format
-/// description, the start or the stop.
+/// By the definitions each fault but `OutOfMemory` is that of a log, at its position: `TooLong` of every file of 4 GiB
+/// and more, and each other one of a small log.
+pub fn worked_faults()
+    ensures not_a_binlog { fault (take 3 no_changes) all ≡ Some (NotABinlog 0) }
+    ensures cut_event { fault (take 258 one_insert) all ≡ Some (CutEvent 232) }
+    ensures bad_format { fault (slice_set one_insert 98 6) all ≡ Some (BadFormat 4) }
+    ensures old_server { fault (take 25 one_insert ++ codes "5.6.0" ++ 0 ∷ drop 31 one_insert) all ≡ Some (OldServer 4) }
+    ensures checksums { fault (slice_set one_insert 115 1) all ≡ Some (Checksums 4) }
+    ensures no_event_at { fault one_insert (record all { start = 160 }) ≡ Some (NoEventAt 160) }
+    ensures statement { fault drop_after all ≡ Some (Statement 259) }
+    ensures rolled_back { fault rollback_inside all ≡ Some (RolledBack 232) }
+    ensures out_of_place { fault no_begin all ≡ Some (OutOfPlace 120) }
+    ensures unended { fault (slice_set one_insert 221 0) all ≡ Some (Unended 232) }
+    ensures no_map { fault (slice_set one_insert 215 2) all ≡ Some (NoMap 196) }
+    ensures map_clash { fault (slice_set two_transactions 433 2) all ≡ Some (MapClash 399) }
+    ensures partial_image { fault (slice_set one_insert 226 254) all ≡ Some (PartialImage 196) }
+    ensures unknown_type { fault (slice_set one_insert 193 6) all ≡ Some (UnknownType 159) }
+    ensures bad_body { fault (slice_set one_insert 225 2) all ≡ Some (BadBody 196) }
+    ensures unknown_event { fault (slice_set ignorable_after 263 162) all ≡ Some (UnknownEvent 259) }
+    ensures too_long { (bytes : List ℕ) (sel : Selection) → 2 ^ 32 ≤ length bytes → fault bytes sel ≡ Some (TooLong 0) }
+{}
+
+/// By the definitions the first of several faults is the one of a log: that of the format description, then those of the
+/// events, then that of a cut rest, then that of the start. Of one event it is the first in the order of its checks.
+pub fn worked_first_faults()
+    ensures format_before_event { fault (slice_set drop_after 115 1) all ≡ Some (Checksums 4) }
+    ensures event_before_rest { fault (take 258 (slice_set one_insert 215 2)) all ≡ Some (NoMap 196) }
+    ensures rest_before_start { fault (take 258 one_insert) (record all { start = 300 }) ≡ Some (CutEvent 232) }
+    ensures xid_body_before_place { fault (no_changes ++ drop 232 short_xid) all ≡ Some (BadBody 120) }
+    ensures map_place_before_names { fault (slice_set no_begin 147 200) all ≡ Some (OutOfPlace 120) }
+    ensures map_names_before_id { fault (slice_set map_twice 223 200) all ≡ Some (BadBody 196) }
+    ensures map_id_before_layout { fault (slice_set map_twice 230 6) all ≡ Some (MapClash 196) }
+    ensures map_layout_before_table { fault (slice_set two_transactions 433 6) all ≡ Some (UnknownType 399) }
+    ensures rows_place_before_length { fault (no_changes ++ slice_set (take 28 (drop 196 one_insert)) 9 28) all ≡ Some (OutOfPlace 120) }
+    ensures rows_length_before_map { fault (take 159 one_insert ++ slice_set (take 28 (drop 196 one_insert)) 9 28 ++ drop 232 one_insert) all ≡ Some (BadBody 159) }
+    ensures earlier_event { fault (slice_set drop_after 215 2) all ≡ Some (NoMap 196) }
+{}
+
+/// By the definitions these small logs are refused too, with these faults at these positions: for the framing, the
+/// format description, the start or the stop.
 pub fn worked_file_faults()
     ensures no_bytes { fault [] all ≡ Some (NotABinlog 0) }
-    ensures three_bytes { fault (take 3 no_changes) all ≡ Some (NotABinlog 0) }
     ensures magic_alone { fault (take 4 no_changes) all ≡ Some (CutEvent 4) }
-    ensures last_byte_missing { fault (take 258 one_insert) all ≡ Some (CutEvent 232) }
-    ensures checksums { fault (slice_set one_insert 115 1) all ≡ Some (Checksums 4) }
-    ensures map_length { fault (slice_set one_insert 98 6) all ≡ Some (BadFormat 4) }
-    ensures version_5_6_0 { fault (take 25 one_insert ++ codes "5.6.0" ++ 0 ∷ drop 31 one_insert) all ≡ Some (OldServer 4) }
     ensures version_5_5_62 { fault (take 25 one_insert ++ codes "5.5.62" ++ drop 31 one_insert) all ≡ Some (OldServer 4) }
     ensures version_abc { fault (take 25 one_insert ++ codes "abc" ++ 0 ∷ 0 ∷ 0 ∷ drop 31 one_insert) all ≡ Some (OldServer 4) }
     ensures from_map { fault one_insert (record all { start = 159 }) ≡ Some (OutOfPlace 159) }
     ensures from_second_map { fault two_transactions (record all { start = 203 }) ≡ Some (OutOfPlace 203) }
-    ensures from_inside_event { fault one_insert (record all { start = 160 }) ≡ Some (NoEventAt 160) }
     ensures from_past_end { fault one_insert (record all { start = 300 }) ≡ Some (NoEventAt 300) }
     ensures up_to_end_event { fault one_insert (record all { stop = Some 232 }) ≡ Some (Unended 232) }
     ensures up_to_announced { fault two_transactions (record all { stop = Some 360 }) ≡ Some (Unended 360) }
 {}
 
-/// By the definitions these small logs are refused for one of their events, with these faults at its position.
+/// By the definitions these small logs are refused too, for one of their events, with these faults at its position.
 pub fn worked_event_faults()
     ensures clash_of_names { fault (slice_set map_twice 227 117) all ≡ Some (MapClash 196) }
-    ensures clash_of_layouts { fault (slice_set two_transactions 433 2) all ≡ Some (MapClash 399) }
-    ensures dropped_table { fault drop_after all ≡ Some (Statement 259) }
-    ensures column_type { fault (slice_set one_insert 193 6) all ≡ Some (UnknownType 159) }
-    ensures column_absent { fault (slice_set one_insert 226 254) all ≡ Some (PartialImage 196) }
     ensures partial_rows { fault (slice_set one_insert 200 39) all ≡ Some (PartialImage 196) }
-    ensures rolled_back { fault rollback_inside all ≡ Some (RolledBack 232) }
-    ensures no_end_flag { fault (slice_set one_insert 221 0) all ≡ Some (Unended 232) }
-    ensures other_id { fault (slice_set one_insert 215 2) all ≡ Some (NoMap 196) }
+    ensures no_map_since_begin { fault (map_alone ++ take 39 (drop 120 one_insert) ++ drop 196 one_insert) all ≡ Some (NoMap 275) }
     ensures no_second_map { fault one_map_for_two all ≡ Some (NoMap 232) }
-    ensures other_count { fault (slice_set one_insert 225 2) all ≡ Some (BadBody 196) }
     ensures xid_length { fault short_xid all ≡ Some (BadBody 232) }
     ensures not_ignorable { fault (slice_set ignorable_after 276 0) all ≡ Some (UnknownEvent 259) }
-    ensures own_type { fault (slice_set ignorable_after 263 162) all ≡ Some (UnknownEvent 259) }
-    ensures map_outside { fault no_begin all ≡ Some (OutOfPlace 120) }
+    ensures query_layout { fault (slice_set one_insert 147 200) all ≡ Some (BadBody 120) }
+    ensures variable_of_a_statement { fault (one_insert ++ slice_set (drop 232 one_insert) 4 5) all ≡ Some (Statement 259) }
+    ensures map_names { fault (slice_set one_insert 186 200) all ≡ Some (BadBody 159) }
+    ensures rows_length { fault (take 196 one_insert ++ slice_set (take 28 (drop 196 one_insert)) 9 28 ++ drop 232 one_insert) all ≡ Some (BadBody 196) }
+    ensures rows_outside { fault (no_changes ++ drop 196 one_insert) all ≡ Some (OutOfPlace 120) }
+    ensures savepoint_outside { fault (no_changes ++ take 47 (drop 232 savepoint_inside)) all ≡ Some (OutOfPlace 120) }
+    ensures second_begin { fault (take 159 one_insert ++ drop 120 one_insert) all ≡ Some (OutOfPlace 159) }
     ensures second_announcement { fault announced_twice all ≡ Some (OutOfPlace 164) }
     ensures rotate_behind_announcement { fault rotate_announced all ≡ Some (OutOfPlace 164) }
     ensures commit_behind_announcement { fault commit_announced all ≡ Some (OutOfPlace 164) }

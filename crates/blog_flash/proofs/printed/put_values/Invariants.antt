@@ -1,0 +1,15 @@
+use Rattle.std.proofs.Common.{◌≡◌, ◌≤◌, ◌+◌, ◌++◌, length}
+use Rattle.blog_row.specs.Image.{row_of}
+use Rattle.blog_row.specs.LayoutView.{layout_columns}
+use Rattle.blog_row.specs.ValuesView.{values_left}
+use Rattle.blog_flash.specs.Printed.{value_lines}
+use Rattle.blog_flash.proofs.printed.put_values.Given as goal
+
+-- the values are left from column n on
+abbrev pub invariant-loop-value : goal.invariant-loop-value
+invariant-loop-value g l = record {
+  next : (goal.iterator-loop-value g).can_next l.value-iterator;
+  finite : (goal.iterator-loop-value g).is_finite l.value-iterator;
+  text : l.out.items ++ value_lines l.n (values_left l.value-iterator) ≡ l.fn.out.items ++ value_lines 1 (row_of (layout_columns l.layout) l.image);
+  few : l.n + length (values_left l.value-iterator) ≤ 4097;
+}

@@ -1,0 +1,260 @@
+//! Laying out the groups of an index as a log: in normal form, or as the log that undoes them.
+
+ghost use Rattle.std.specs.Prelude.{◌≡◌, ◌+◌, ◌-◌, ◌<◌, ◌≤◌, [], ◌∷◌, ◌++◌, length, take, reverse, IsSome, IfOk, IfErr, vec_len, vec_capacity};
+ghost use Rattle.std.specs.List.{flat_map, concat};
+ghost use Rattle.byteorder.specs.Endian.{little_bytes};
+ghost use Rattle.blog_event.specs.Event.{event_of, unplaced};
+ghost use Rattle.blog_event.specs.File.{end_of, read};
+ghost use Rattle.blog_event.specs.declared.fault.Fault.TheVariants.{OutOfMemory};
+ghost use Rattle.blog_row.specs.RowsEvent.{rows_text};
+ghost use Rattle.blog_row.specs.RowsEventView.{rows_body};
+ghost use Rattle.blog_trans.specs.Groups.{groups};
+ghost use Rattle.blog_trans.specs.IndexView.{index_bytes, index_selection, index_groups, statement_at};
+ghost use Rattle.blog_flash.specs.LaidOut.{text_from, rows_in, rows_seen, rows_unturned, flags_by, groups_in, maps_of, rows_of, statement_of, statements_of, transaction_of, transactions_of};
+ghost use Rattle.blog_flash.specs.Texts.{rows_event, rows_events, statement_events, group_events, laid_out_after};
+
+use crate::lengths::text_len;
+use crate::order::Order;
+use blog_event::{Event, Fault, Header, put_event};
+use blog_row::RowsEvent;
+use blog_trans::Index;
+use byteorder::{ByteOrder, LittleEndian};
+use std::alloc::Allocator;
+
+/// The length of the magic number.
+const MAGIC_LEN: usize = 4;
+
+/// The length of the extra bytes of a rows event that has none: its own two bytes.
+const NO_EXTRA: [u8; 2] = [2, 0];
+
+/// Appends an event as it is, with the log_pos that it has there.
+fn put_same<A: Allocator>(out: &mut Vec<u8, A>, event: &Event<'_>)
+    requires room { end_of (vec_len out.old) (event_of event.now ∷ []) ≤ vec_capacity out.old }
+    requires short { end_of (vec_len out.old) (event_of event.now ∷ []) ≤ 4294967295 }
+    ensures items { out.new.items ≡ out.old.items ++ text_from (vec_len out.old) (unplaced (event_of event.now) ∷ []) }
+    ensures len { vec_len out.new ≡ end_of (vec_len out.old) (event_of event.now ∷ []) }
+    ensures capacity { vec_capacity out.old ≤ vec_capacity out.new }
+{
+    put_event(out, event.header, &[event.body]).unwrap();
+}
+
+/// The two bytes of a rows event's flags: the end flag is set on the last of its statement, and clear on the others.
+fn flag_bytes(event: &Event<'_>, rows: &RowsEvent<'_>, last: bool) -> [u8; 2]
+    ensures { result ≡ little_bytes 2 (flags_by last (rows_seen event.now rows.now)) }
+{
+    let flags = rows.flags() - rows.flags() % 2;
+    let mut bytes = [0u8; 2];
+    LittleEndian::write_u16(&mut bytes, if last { flags + 1 } else { flags });
+    bytes
+}
+
+/// Appends a rows event with its images as they were read.
+fn put_unturned<A: Allocator>(
+    out: &mut Vec<u8, A>,
+    order: Order,
+    event: &Event<'_>,
+    rows: &RowsEvent<'_>,
+    last: bool,
+)
+    requires body { event.now.body.now ≡ rows_text (rows_body rows.now) }
+    requires room { end_of (vec_len out.old) (rows_event last (rows_unturned order (rows_seen event.now rows.now)) ∷ []) ≤ vec_capacity out.old }
+    requires short { end_of (vec_len out.old) (rows_event last (rows_unturned order (rows_seen event.now rows.now)) ∷ []) ≤ 4294967295 }
+    ensures items { out.new.items ≡ out.old.items ++ text_from (vec_len out.old) (rows_event last (rows_unturned order (rows_seen event.now rows.now)) ∷ []) }
+    ensures len { vec_len out.new ≡ end_of (vec_len out.old) (rows_event last (rows_unturned order (rows_seen event.now rows.now)) ∷ []) }
+    ensures capacity { vec_capacity out.old ≤ vec_capacity out.new }
+{
+    let kind = order.kind(rows.kind()).number();
+    let header = Header {
+        kind,
+        ..event.header
+    };
+    let id = &event.body[..6];
+    let flags = flag_bytes(event, rows, last);
+    let (first, second) = order.bitmaps(rows);
+    let parts = [
+        id,
+        &flags,
+        &NO_EXTRA,
+        rows.count(),
+        first,
+        second,
+        rows.images(),
+    ];
+    put_event(out, header, &parts).unwrap();
+}
+
+/// Puts the images of a rows event, which stand last, in reverse order.
+fn reverse_last<A: Allocator>(out: &mut Vec<u8, A>, rows: &RowsEvent<'_>)
+    requires within { length (concat (rows_body rows.now).images) ≤ vec_len out.old }
+    ensures items { out.new.items ≡ take (vec_len out.old - length (concat (rows_body rows.now).images)) out.old.items ++ concat (reverse (rows_body rows.now).images) }
+    ensures len { vec_len out.new ≡ vec_len out.old }
+    ensures capacity { vec_capacity out.old ≤ vec_capacity out.new }
+{
+    let start = out.len() - rows.rows_len();
+    rows.put_reversed(&mut out[start..]);
+}
+
+/// Appends a rows event, with the log_pos that it has there and without extra bytes; backward it undoes its rows, the
+/// last one first.
+fn put_rows_event<A: Allocator>(
+    out: &mut Vec<u8, A>,
+    order: Order,
+    event: &Event<'_>,
+    rows: &RowsEvent<'_>,
+    last: bool,
+)
+    requires body { event.now.body.now ≡ rows_text (rows_body rows.now) }
+    requires room { end_of (vec_len out.old) (rows_event last (rows_in order (rows_seen event.now rows.now)) ∷ []) ≤ vec_capacity out.old }
+    requires short { end_of (vec_len out.old) (rows_event last (rows_in order (rows_seen event.now rows.now)) ∷ []) ≤ 4294967295 }
+    ensures items { out.new.items ≡ out.old.items ++ text_from (vec_len out.old) (rows_event last (rows_in order (rows_seen event.now rows.now)) ∷ []) }
+    ensures len { vec_len out.new ≡ end_of (vec_len out.old) (rows_event last (rows_in order (rows_seen event.now rows.now)) ∷ []) }
+    ensures capacity { vec_capacity out.old ≤ vec_capacity out.new }
+{
+    put_unturned(out, order, event, rows, last);
+    match order {
+        Order::Forward => {}
+        Order::Backward => reverse_last(out, rows),
+    }
+}
+
+/// Appends the maps of statement `s` of transaction `t`, in order.
+fn put_maps<A: Allocator, B: Allocator>(
+    out: &mut Vec<u8, A>,
+    index: &Index<'_, '_, B>,
+    t: usize,
+    s: usize,
+)
+    requires found { IsSome (statement_at (index_groups index.now) t s) }
+    requires room { end_of (vec_len out.old) (maps_of (index_groups index.now) t s) ≤ vec_capacity out.old }
+    requires short { end_of (vec_len out.old) (maps_of (index_groups index.now) t s) ≤ 4294967295 }
+    ensures items { out.new.items ≡ out.old.items ++ text_from (vec_len out.old) (maps_of (index_groups index.now) t s) }
+    ensures len { vec_len out.new ≡ end_of (vec_len out.old) (maps_of (index_groups index.now) t s) }
+    ensures capacity { vec_capacity out.old ≤ vec_capacity out.new }
+{
+    for m in 0..index.maps(t, s) {
+        let (event, _) = index.map(t, s, m);
+        put_same(out, &event);
+    }
+}
+
+/// Appends the rows events of statement `s` of transaction `t`.
+fn put_rows<A: Allocator, B: Allocator>(
+    out: &mut Vec<u8, A>,
+    index: &Index<'_, '_, B>,
+    order: Order,
+    t: usize,
+    s: usize,
+)
+    requires found { IsSome (statement_at (index_groups index.now) t s) }
+    requires room { end_of (vec_len out.old) (rows_events (rows_of order (index_groups index.now) t s)) ≤ vec_capacity out.old }
+    requires short { end_of (vec_len out.old) (rows_events (rows_of order (index_groups index.now) t s)) ≤ 4294967295 }
+    ensures items { out.new.items ≡ out.old.items ++ text_from (vec_len out.old) (rows_events (rows_of order (index_groups index.now) t s)) }
+    ensures len { vec_len out.new ≡ end_of (vec_len out.old) (rows_events (rows_of order (index_groups index.now) t s)) }
+    ensures capacity { vec_capacity out.old ≤ vec_capacity out.new }
+{
+    let len = index.rows(t, s);
+    for i in 0..len {
+        let (event, _, rows) = index.rows_event(t, s, order.number(len, i));
+        put_rows_event(out, order, &event, &rows, i + 1 == len);
+    }
+}
+
+/// Appends statement `s` of transaction `t`.
+fn put_statement<A: Allocator, B: Allocator>(
+    out: &mut Vec<u8, A>,
+    index: &Index<'_, '_, B>,
+    order: Order,
+    t: usize,
+    s: usize,
+)
+    requires found { IsSome (statement_at (index_groups index.now) t s) }
+    requires room { end_of (vec_len out.old) (statement_of order (index_groups index.now) t s) ≤ vec_capacity out.old }
+    requires short { end_of (vec_len out.old) (statement_of order (index_groups index.now) t s) ≤ 4294967295 }
+    ensures items { out.new.items ≡ out.old.items ++ text_from (vec_len out.old) (statement_of order (index_groups index.now) t s) }
+    ensures len { vec_len out.new ≡ end_of (vec_len out.old) (statement_of order (index_groups index.now) t s) }
+    ensures capacity { vec_capacity out.old ≤ vec_capacity out.new }
+{
+    put_maps(out, index, t, s);
+    put_rows(out, index, order, t, s);
+}
+
+/// Appends the statements of transaction `t`.
+fn put_statements<A: Allocator, B: Allocator>(
+    out: &mut Vec<u8, A>,
+    index: &Index<'_, '_, B>,
+    order: Order,
+    t: usize,
+)
+    requires found { t < length (index_groups index.now) }
+    requires room { end_of (vec_len out.old) (flat_map statement_events (statements_of order (index_groups index.now) t)) ≤ vec_capacity out.old }
+    requires short { end_of (vec_len out.old) (flat_map statement_events (statements_of order (index_groups index.now) t)) ≤ 4294967295 }
+    ensures items { out.new.items ≡ out.old.items ++ text_from (vec_len out.old) (flat_map statement_events (statements_of order (index_groups index.now) t)) }
+    ensures len { vec_len out.new ≡ end_of (vec_len out.old) (flat_map statement_events (statements_of order (index_groups index.now) t)) }
+    ensures capacity { vec_capacity out.old ≤ vec_capacity out.new }
+{
+    let len = index.statements(t);
+    for i in 0..len {
+        put_statement(out, index, order, t, order.number(len, i));
+    }
+}
+
+/// Appends transaction `t`.
+fn put_transaction<A: Allocator, B: Allocator>(
+    out: &mut Vec<u8, A>,
+    index: &Index<'_, '_, B>,
+    order: Order,
+    t: usize,
+)
+    requires found { t < length (index_groups index.now) }
+    requires room { end_of (vec_len out.old) (transaction_of order (index_groups index.now) t) ≤ vec_capacity out.old }
+    requires short { end_of (vec_len out.old) (transaction_of order (index_groups index.now) t) ≤ 4294967295 }
+    ensures items { out.new.items ≡ out.old.items ++ text_from (vec_len out.old) (transaction_of order (index_groups index.now) t) }
+    ensures len { vec_len out.new ≡ end_of (vec_len out.old) (transaction_of order (index_groups index.now) t) }
+    ensures capacity { vec_capacity out.old ≤ vec_capacity out.new }
+{
+    let (first, last) = (index.begin(t), index.end(t));
+    put_same(out, &first);
+    put_statements(out, index, order, t);
+    put_same(out, &last);
+}
+
+/// Appends all transactions.
+fn put_transactions<A: Allocator, B: Allocator>(
+    out: &mut Vec<u8, A>,
+    index: &Index<'_, '_, B>,
+    order: Order,
+)
+    requires room { end_of (vec_len out.old) (group_events (transactions_of order (index_groups index.now))) ≤ vec_capacity out.old }
+    requires short { end_of (vec_len out.old) (group_events (transactions_of order (index_groups index.now))) ≤ 4294967295 }
+    ensures items { out.new.items ≡ out.old.items ++ text_from (vec_len out.old) (group_events (transactions_of order (index_groups index.now))) }
+    ensures len { vec_len out.new ≡ end_of (vec_len out.old) (group_events (transactions_of order (index_groups index.now))) }
+    ensures capacity { vec_capacity out.old ≤ vec_capacity out.new }
+{
+    let len = index.transactions();
+    for i in 0..len {
+        put_transaction(out, index, order, order.number(len, i));
+    }
+}
+
+/// The groups of an index as a log: the magic number and the format description as they are, and behind them the groups
+/// in an order, each event with its own size and log_pos. `bytes` are those of the index. `OutOfMemory` where the room
+/// for the whole log, which is taken at once, was refused.
+pub fn lay_out<A: Allocator, B: Allocator>(
+    alloc: A,
+    bytes: &[u8],
+    index: &Index<'_, '_, B>,
+    order: Order,
+) -> Result<Vec<u8, A>, Fault>
+    requires { bytes.now ≡ index_bytes index.now }
+    ensures ok { IfOk result (λ text. text.items ≡ laid_out_after (read (index_bytes index.now) (index_selection index.now).stop) (groups_in order (groups (index_bytes index.now) (index_selection index.now)))) }
+    ensures refused { IfErr result (λ fault. fault ≡ OutOfMemory) }
+{
+    let format = index.log().format();
+    let front = MAGIC_LEN + format.header.size as usize;
+    let Ok(mut out) = Vec::with_capacity(alloc, text_len(index)) else {
+        return Err(Fault::OutOfMemory);
+    };
+    out.extend_from_slice(&bytes[..front]).unwrap();
+    put_transactions(&mut out, index, order);
+    Ok(out)
+}

@@ -1,0 +1,204 @@
+//! Names, values and rows as text.
+
+ghost use Rattle.std.specs.Prelude.{◌≡◌, ◌+◌, ◌≤◌, ◌∷◌, ◌++◌, OnOk, codes, option_map};
+ghost use Rattle.std.specs.Fmt.{decimal};
+ghost use Rattle.blog_row.specs.Image.{row_of};
+ghost use Rattle.blog_row.specs.LayoutView.{layout_columns};
+ghost use Rattle.blog_row.specs.TableMapView.{map_names};
+ghost use Rattle.blog_flash.specs.Printed.{line, quoted, quoted_table, value_text, value_lines, row_lines, change_lines};
+ghost use Rattle.blog_flash.specs.PrintedRows.{value_line, table_line, image_lines};
+ghost use Rattle.blog_trans.specs.Changes.{Inserted, Deleted, Updated};
+
+use blog_row::{Layout, RowChange, TableMap};
+use itoa::Buffer;
+use std::alloc::{AllocError, Allocator};
+
+/// Appends a text.
+pub(crate) fn put_text<A: Allocator>(out: &mut Vec<u8, A>, text: &[u8]) -> Result<(), AllocError>
+    ensures { OnOk result (out.new.items ≡ out.old.items ++ text.now) }
+{
+    out.extend_from_slice(text)
+}
+
+/// Appends a text and the end of its line.
+pub(crate) fn put_line<A: Allocator>(out: &mut Vec<u8, A>, text: &[u8]) -> Result<(), AllocError>
+    ensures { OnOk result (out.new.items ≡ out.old.items ++ line text.now) }
+{
+    put_text(out, text)?;
+    put_text(out, b"\n")
+}
+
+/// Appends a number in decimal digits.
+pub(crate) fn put_number<A: Allocator>(out: &mut Vec<u8, A>, n: u64) -> Result<(), AllocError>
+    ensures { OnOk result (out.new.items ≡ out.old.items ++ decimal n) }
+{
+    let mut buffer = Buffer::new();
+    put_text(out, buffer.format(n).as_bytes())
+}
+
+/// Appends a name between backticks, with each backtick in it doubled.
+fn put_quoted<A: Allocator>(out: &mut Vec<u8, A>, name: &[u8]) -> Result<(), AllocError>
+    ensures { OnOk result (out.new.items ≡ out.old.items ++ quoted name.now) }
+{
+    put_text(out, b"`")?;
+    for byte in name {
+        if *byte == b'`' {
+            put_text(out, b"``")?;
+        } else {
+            put_text(out, &[*byte])?;
+        }
+    }
+    put_text(out, b"`")
+}
+
+/// Appends the names of a schema and of a table in it.
+pub(crate) fn put_table<A: Allocator>(
+    out: &mut Vec<u8, A>,
+    schema: &[u8],
+    table: &[u8],
+) -> Result<(), AllocError>
+    ensures { OnOk result (out.new.items ≡ out.old.items ++ quoted_table (record { schema = schema.now; name = table.now })) }
+{
+    put_quoted(out, schema)?;
+    put_text(out, b".")?;
+    put_quoted(out, table)
+}
+
+/// Appends a value: its bytes in hexadecimal digits, or NULL.
+fn put_value<A: Allocator + Copy>(
+    alloc: A,
+    out: &mut Vec<u8, A>,
+    value: Option<&[u8]>,
+) -> Result<(), AllocError>
+    ensures { OnOk result (out.new.items ≡ out.old.items ++ value_text (option_map (λ bytes. bytes.now) value.entry)) }
+{
+    let Some(bytes) = value else {
+        return put_text(out, b"NULL");
+    };
+    let digits = hex::encode_upper(alloc, bytes)?;
+    put_text(out, b"X'")?;
+    put_text(out, digits.as_bytes())?;
+    put_text(out, b"'")
+}
+
+/// Appends the line of the value of the column with a number, from 1.
+fn put_value_line<A: Allocator + Copy>(
+    alloc: A,
+    out: &mut Vec<u8, A>,
+    n: u64,
+    value: Option<&[u8]>,
+) -> Result<(), AllocError>
+    ensures { OnOk result (out.new.items ≡ out.old.items ++ value_line n (option_map (λ bytes. bytes.now) value.entry)) }
+{
+    put_text(out, b"###   @")?;
+    put_number(out, n)?;
+    put_text(out, b"=")?;
+    put_value(alloc, out, value)?;
+    put_text(out, b"\n")
+}
+
+/// Appends a line for each value of an image.
+fn put_values<A: Allocator + Copy>(
+    alloc: A,
+    out: &mut Vec<u8, A>,
+    layout: &Layout<'_>,
+    image: &[u8],
+) -> Result<(), AllocError>
+    ensures { OnOk result (out.new.items ≡ out.old.items ++ value_lines 1 (row_of (layout_columns layout.now) image.now)) }
+{
+    let mut n = 1;
+    for value in layout.values(image) {
+        put_value_line(alloc, out, n, value)?;
+        n += 1;
+    }
+    Ok(())
+}
+
+/// Appends a heading and the values of an image.
+fn put_row<A: Allocator + Copy>(
+    alloc: A,
+    out: &mut Vec<u8, A>,
+    heading: &[u8],
+    layout: &Layout<'_>,
+    image: &[u8],
+) -> Result<(), AllocError>
+    ensures { OnOk result (out.new.items ≡ out.old.items ++ row_lines heading.now (row_of (layout_columns layout.now) image.now)) }
+{
+    put_line(out, heading)?;
+    put_values(alloc, out, layout, image)
+}
+
+/// Appends the line that says what is done to a table's row.
+fn put_table_line<A: Allocator>(
+    out: &mut Vec<u8, A>,
+    words: &[u8],
+    map: &TableMap<'_>,
+) -> Result<(), AllocError>
+    ensures { OnOk result (out.new.items ≡ out.old.items ++ table_line words.now (map_names map.now).table) }
+{
+    put_text(out, words)?;
+    put_table(out, map.schema(), map.table())?;
+    put_text(out, b"\n")
+}
+
+/// Appends a row that is inserted.
+fn put_insert<A: Allocator + Copy>(
+    alloc: A,
+    out: &mut Vec<u8, A>,
+    map: &TableMap<'_>,
+    layout: &Layout<'_>,
+    after: &[u8],
+) -> Result<(), AllocError>
+    ensures { OnOk result (out.new.items ≡ out.old.items ++ change_lines (Inserted (map_names map.now).table (row_of (layout_columns layout.now) after.now))) }
+{
+    put_table_line(out, b"### INSERT INTO ", map)?;
+    put_row(alloc, out, b"### SET", layout, after)
+}
+
+/// Appends a row that is deleted.
+fn put_delete<A: Allocator + Copy>(
+    alloc: A,
+    out: &mut Vec<u8, A>,
+    map: &TableMap<'_>,
+    layout: &Layout<'_>,
+    before: &[u8],
+) -> Result<(), AllocError>
+    ensures { OnOk result (out.new.items ≡ out.old.items ++ change_lines (Deleted (map_names map.now).table (row_of (layout_columns layout.now) before.now))) }
+{
+    put_table_line(out, b"### DELETE FROM ", map)?;
+    put_row(alloc, out, b"### WHERE", layout, before)
+}
+
+/// Appends a row that is updated.
+fn put_update<A: Allocator + Copy>(
+    alloc: A,
+    out: &mut Vec<u8, A>,
+    map: &TableMap<'_>,
+    layout: &Layout<'_>,
+    before: &[u8],
+    after: &[u8],
+) -> Result<(), AllocError>
+    ensures { OnOk result (out.new.items ≡ out.old.items ++ change_lines (Updated (map_names map.now).table (row_of (layout_columns layout.now) before.now) (row_of (layout_columns layout.now) after.now))) }
+{
+    put_table_line(out, b"### UPDATE ", map)?;
+    put_row(alloc, out, b"### WHERE", layout, before)?;
+    put_row(alloc, out, b"### SET", layout, after)
+}
+
+/// Appends what is done to a row, by its images.
+pub(crate) fn put_change<A: Allocator + Copy>(
+    alloc: A,
+    out: &mut Vec<u8, A>,
+    map: &TableMap<'_>,
+    layout: &Layout<'_>,
+    row: &RowChange<'_>,
+) -> Result<(), AllocError>
+    ensures { OnOk result (out.new.items ≡ out.old.items ++ image_lines (map_names map.now).table (layout_columns layout.now) (option_map (λ image. image.now) row.now.before) (option_map (λ image. image.now) row.now.after)) }
+{
+    match (row.before, row.after) {
+        (None, None) => Ok(()),
+        (None, Some(after)) => put_insert(alloc, out, map, layout, after),
+        (Some(before), None) => put_delete(alloc, out, map, layout, before),
+        (Some(before), Some(after)) => put_update(alloc, out, map, layout, before, after),
+    }
+}
