@@ -1,14 +1,16 @@
 -- The exit status of a run that failed.
 use Rattle.std.specs.Prelude.{ℕ}
 use Rattle.flashback.specs.declared.commands.Failure.{Failure}
-use Rattle.flashback.specs.declared.commands.Failure.TheVariants.{Words, NoLog, Run}
-use Rattle.flashback.specs.declared.words.WordsFault.TheVariants.{Wrong, NotOneMode, NotText, OutOfMemory}
+use Rattle.flashback.specs.declared.commands.Failure.TheVariants.{Words, NoLog, NoResultFile, Run}
+use Rattle.flashback.specs.declared.words.WordsFault.TheVariants.{Wrong, NotOneMode, SqlOfSummary, NotText, OutOfMemory}
 
 -- 2 where the words are wrong, else 1
 abbrev pub status_of : Failure → ℕ
 status_of (Words (Wrong text)) = 2
 status_of (Words NotOneMode) = 2
+status_of (Words SqlOfSummary) = 2
 status_of (Words NotText) = 2
 status_of (Words OutOfMemory) = 1
 status_of NoLog = 1
+status_of NoResultFile = 1
 status_of (Run fault) = 1

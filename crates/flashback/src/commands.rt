@@ -1,61 +1,39 @@
 //! One run of the program, from its words to its exit status.
 
-ghost use Rattle.std.specs.Prelude.{◌≡◌, ◌≤◌, IfErr, IsErr, OnErr, false};
+ghost use Rattle.std.specs.Prelude.{◌≡◌, ◌≤◌, IfErr, IsErr, IsSome, OnErr, false};
 ghost use Rattle.blog_flash.specs.Watched.{has_failed};
 ghost use Rattle.flashback.specs.Status.{status_of};
 ghost use Rattle.flashback.specs.declared.commands.Failure.TheVariants.{Words, Run};
 
 use crate::words::{Asked, Task, WordsFault, read_words};
-use blog_flash::{Fault, RunFault, Watched, put, run};
+use blog_flash::{RunFault, Watched, prepare, put, run};
 use std::fs::File;
-use std::io::{Cursor, Write};
+use std::io;
+use std::io::{Read, Write};
 use std::rt::Files;
-use std::{fmt, io};
 
 /// Why the program didn't do what its words ask for.
 #[derive(Debug, Drop)]
-enum Failure {
+pub enum Failure {
     /// The words ask for nothing.
     Words(WordsFault),
     /// The log can't be opened.
     NoLog,
+    /// The result file can't be created.
+    NoResultFile,
     /// The log is refused, or a device failed.
     Run(RunFault),
 }
 
 impl Failure {
     /// The exit status: 2 where the words are wrong, else 1.
-    fn status(&self) -> u8
+    pub fn status(&self) -> u8
         ensures { result ≡ status_of self.now }
     {
         match self {
-            Failure::Words(WordsFault::OutOfMemory) | Failure::NoLog | Failure::Run(_) => 1,
+            Failure::Words(WordsFault::OutOfMemory) => 1,
             Failure::Words(_) => 2,
-        }
-    }
-
-    /// Prints the failure. What can't be printed is dropped.
-    fn print<E: Write>(&self, errors: &mut Watched<E>) {
-        let _ = match self {
-            Failure::Words(WordsFault::Wrong(text)) => put(errors, text.as_bytes()),
-            _ => put_line(errors, self),
-        };
-    }
-}
-
-impl fmt::Display for Failure {
-    fn fmt<W: fmt::Write>(&self, f: &mut fmt::Formatter<W>) -> fmt::Result {
-        match self {
-            Failure::Words(WordsFault::Wrong(text)) => write!(f, "{text}"),
-            Failure::Words(WordsFault::NotOneMode) => {
-                f.write_str("choose one of -B, --forward, --summary")
-            }
-            Failure::Words(WordsFault::NotText) => f.write_str("the words are not UTF-8"),
-            Failure::Words(WordsFault::OutOfMemory) => write!(f, "{}", Fault::OutOfMemory),
-            Failure::NoLog => f.write_str("cannot open the log"),
-            Failure::Run(RunFault::Log(fault)) => write!(f, "{fault}"),
-            Failure::Run(RunFault::Read) => f.write_str("read failed"),
-            Failure::Run(RunFault::Write) => f.write_str("write failed"),
+            Failure::NoLog | Failure::NoResultFile | Failure::Run(_) => 1,
         }
     }
 }
@@ -129,28 +107,32 @@ fn run_task<R: Files + AllocGlobal, O: Write>(
 ) -> Result<(), Failure>
     ensures status { IfErr result (λ f. status_of f ≡ 1) }
     ensures refused { OnErr result (has_failed output.new ≡ false → output.new ≡ output.old) }
+    ensures aside { IsSome task.now.result_file → output.new ≡ output.old }
 {
     let Ok(log) = File::open(rt, task.log) else {
         return Err(Failure::NoLog);
     };
     let mut reader = Watched::new(log);
-    run(rt.alloc(), &mut reader, task.mode, &task.selection, output)?;
+    match task.result_file {
+        None => run(rt.alloc(), &mut reader, task.mode, &task.selection, output)?,
+        Some(path) => run_to_file(rt, &mut reader, task, path)?,
+    }
     Ok(())
 }
 
-/// More bytes than the longest line has, with its end.
-const LINE_ROOM: usize = 64;
-
-/// Writes the failure's line at once, and without memory.
-fn put_line<E: Write>(errors: &mut Watched<E>, failure: &Failure) -> Result<(), RunFault> {
-    let mut line = Cursor::new([0u8; LINE_ROOM]);
-    if writeln!(line, "flashback: {failure}").is_err() {
-        return Ok(());
-    }
-    let end = line.position() as usize;
-    let room = line.get_ref().as_slice();
-    put(errors, room.get(..end).unwrap_or(room))
+/// The same, to the file of this path. It is created or emptied once the log is accepted.
+fn run_to_file<R: Files + AllocGlobal, D: Read>(
+    rt: &R,
+    reader: &mut Watched<D>,
+    task: &Task<'_>,
+    path: &str,
+) -> Result<(), Failure>
+    ensures status { IfErr result (λ f. status_of f ≡ 1) }
+{
+    let text = prepare(rt.alloc(), reader, task.mode, &task.selection)?;
+    let Ok(file) = File::create(rt, path) else {
+        return Err(Failure::NoResultFile);
+    };
+    put(&mut Watched::new(file), text.as_slice())?;
+    Ok(())
 }
-
-#[cfg(test)]
-mod tests;

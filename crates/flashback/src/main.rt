@@ -2,6 +2,8 @@
 #![tactic(auto)]
 
 mod commands;
+mod lines;
+mod options;
 #[cfg(test)]
 mod tests;
 mod words;

@@ -1,14 +1,16 @@
 //! Runs of the program, over files in the folder for temporary files and writers in memory.
 
 mod logs;
+mod result_files;
+mod selections;
 mod writers;
+mod wrong_words;
 
 use crate::commands::command;
 use blog_flash::Watched;
 use logs::{INSERT_ONE_ROW, with_byte};
 use std::alloc::AllocError;
 use std::path::PathBuf;
-use std::process::Abort;
 use std::test::Fail;
 use std::{env, fs, io, process};
 use writers::Broken;
@@ -71,25 +73,20 @@ fn path_of(rt: &HostRuntime, name: &str) -> io::Result<PathBuf> {
     Ok(env::temp_dir(rt)?.join(rt.alloc(), file.as_str())?)
 }
 
-/// Runs the program with `-B` over a file of these bytes.
-fn undo(rt: &HostRuntime, name: &str, log: &[u8]) -> Result<Outcome, Fail> {
+/// Runs the program with these words over a file of these bytes.
+fn run_log(rt: &HostRuntime, name: &str, log: &[u8], words: &[&str]) -> Result<Outcome, Fail> {
     let path = path_of(rt, name)?;
     fs::write(rt, path.as_path(), log)?;
-    let outcome = run_words(rt, &["-B", path.as_str()])?;
+    let mut all = words_of(rt, words)?;
+    all.push(String::from_str(rt.alloc(), path.as_str())?)?;
+    let outcome = run_given(rt, Ok(all));
     fs::remove_file(rt, path.as_path())?;
     Ok(outcome)
 }
 
-/// Nothing but the words was wrong: some text was printed, and nothing was written.
-fn assert_wrong_words(rt: &impl Abort, outcome: &Outcome) {
-    assert_eq!(rt; outcome.status, 2);
-    assert!(rt; outcome.output().is_empty());
-    assert!(rt; !outcome.errors().is_empty());
-}
-
 #[test]
 fn undoes_an_insert(rt: HostRuntime) -> Result<(), Fail> {
-    let outcome = undo(&rt, "insert", INSERT_ONE_ROW.as_slice())?;
+    let outcome = run_log(&rt, "insert", INSERT_ONE_ROW.as_slice(), &["-B"])?;
     let wanted = with_byte(rt.alloc(), ROWS_TYPE, 0x20)?;
     assert_eq!(rt; outcome.status, 0);
     assert_eq!(rt; outcome.output(), wanted.as_slice());
@@ -99,14 +96,15 @@ fn undoes_an_insert(rt: HostRuntime) -> Result<(), Fail> {
 
 #[test]
 fn refuses_logs(rt: HostRuntime) -> Result<(), Fail> {
-    let delete = with_byte(rt.alloc(), ROWS_TYPE, 0x20)?;
     let cases = [
         (&[] as &[u8], "flashback: NotABinlog at 0\n"),
         (&[0xFE, 0x62, 0x69], "flashback: NotABinlog at 0\n"),
-        (delete.as_slice(), "flashback: UnknownEvent at 4\n"),
     ];
     for (log, line) in cases {
-        assert!(rt; undo(&rt, "refused", log)?.is_refusal(1, line), "{line}");
+        assert!(rt;
+            run_log(&rt, "refused", log, &["-B"])?.is_refusal(1, line),
+            "{line}"
+        );
     }
     Ok(())
 }
@@ -124,42 +122,40 @@ fn names_a_log_that_cannot_be_read(rt: HostRuntime) -> Result<(), Fail> {
 }
 
 #[test]
-fn wants_a_mode(rt: HostRuntime) -> Result<(), Fail> {
-    let outcome = run_words(&rt, &["a.binlog"])?;
-    assert!(rt; outcome.is_refusal(2, "flashback: choose one of -B, --forward, --summary\n"));
-    Ok(())
-}
-
-#[test]
-fn refuses_wrong_words(rt: HostRuntime) -> Result<(), Fail> {
-    assert_wrong_words(&rt, &run_words(&rt, &[])?);
-    assert_wrong_words(&rt, &run_words(&rt, &["-B"])?);
-    assert_wrong_words(&rt, &run_words(&rt, &["-B", "--no-such-word", "a.binlog"])?);
-    assert_wrong_words(&rt, &run_words(&rt, &["-B", "a.binlog", "b.binlog"])?);
-    assert_wrong_words(&rt, &run_words(&rt, &["-B", "-B", "a.binlog"])?);
-    // what a word may hold comes before the count of modes
-    let outcome = run_words(&rt, &["--no-such-word"])?;
-    assert!(rt; !outcome.is_refusal(2, "flashback: choose one of -B, --forward, --summary\n"));
-    Ok(())
-}
-
-#[test]
-fn refuses_words_that_the_system_does_not_give(rt: HostRuntime) {
-    let outcome = run_given(&rt, Err(io::Error::from(io::ErrorKind::InvalidData)));
-    assert!(rt; outcome.is_refusal(2, "flashback: the words are not UTF-8\n"));
-    let outcome = run_given(&rt, Err(io::Error::from(io::ErrorKind::OutOfMemory)));
-    assert!(rt; outcome.is_refusal(1, "flashback: OutOfMemory\n"));
-}
-
-#[test]
 fn helps(rt: HostRuntime) -> Result<(), Fail> {
     let outcome = run_words(&rt, &["--help"])?;
     assert_eq!(rt; outcome.status, 0);
     assert!(rt; outcome.errors().is_empty());
     let text = str::from_utf8(outcome.output())?;
-    assert!(rt; text.contains("Usage: flashback"));
-    assert!(rt; text.contains("-B, --flashback"));
-    assert!(rt; text.contains("Example:"));
+    assert!(rt; text.contains("Usage: flashback (-B | --forward | --summary) [--sql] [-j POS]"));
+    let words = [
+        "-B, --flashback",
+        "--forward",
+        "--summary",
+        "--sql",
+        "-j, --start-position <POS>",
+        "--stop-position <POS>",
+        "-d, --database <NAME>",
+        "-T, --table <NAME>",
+        "-r, --result-file <FILE>",
+    ];
+    for word in words {
+        assert!(rt; text.contains(word), "{word}");
+    }
+    let examples = text.split_once("Examples:").map_or("", |(_, rest)| rest);
+    for word in [
+        "-B ",
+        "--forward ",
+        "--summary ",
+        "-B --sql ",
+        "-j ",
+        "--stop-position ",
+        "-d ",
+        "-T ",
+        "-r ",
+    ] {
+        assert!(rt; examples.contains(word), "{word}");
+    }
     Ok(())
 }
 

@@ -1,6 +1,6 @@
 //! What is printed for each failure.
 
-use super::Failure;
+use crate::commands::Failure;
 use crate::words::WordsFault;
 use blog_flash::{Fault, RunFault, Watched};
 use std::test::Fail;

@@ -1,0 +1,57 @@
+//! The lines on standard error.
+
+use crate::commands::Failure;
+use crate::words::WordsFault;
+use blog_flash::{Fault, RunFault, Watched, put};
+use std::fmt;
+use std::io::{Cursor, Write};
+
+/// What is told where no mode is chosen, or several are.
+const CHOOSE_ONE_MODE: &str = "choose one of -B, --forward, --summary";
+
+/// What is told where a summary is asked for as pseudo-SQL.
+const SQL_OF_SUMMARY: &str = "--sql goes with -B or --forward";
+
+/// More bytes than the longest line has, with its end.
+const LINE_ROOM: usize = 64;
+
+impl Failure {
+    /// Prints the failure. What can't be printed is dropped.
+    pub fn print<E: Write>(&self, errors: &mut Watched<E>) {
+        let _ = match self {
+            Failure::Words(WordsFault::Wrong(text)) => put(errors, text.as_bytes()),
+            _ => put_line(errors, self),
+        };
+    }
+}
+
+impl fmt::Display for Failure {
+    fn fmt<W: fmt::Write>(&self, f: &mut fmt::Formatter<W>) -> fmt::Result {
+        match self {
+            Failure::Words(WordsFault::Wrong(text)) => write!(f, "{text}"),
+            Failure::Words(WordsFault::NotOneMode) => f.write_str(CHOOSE_ONE_MODE),
+            Failure::Words(WordsFault::SqlOfSummary) => f.write_str(SQL_OF_SUMMARY),
+            Failure::Words(WordsFault::NotText) => f.write_str("the words are not UTF-8"),
+            Failure::Words(WordsFault::OutOfMemory) => write!(f, "{}", Fault::OutOfMemory),
+            Failure::NoLog => f.write_str("cannot open the log"),
+            Failure::NoResultFile => f.write_str("cannot create the result file"),
+            Failure::Run(RunFault::Log(fault)) => write!(f, "{fault}"),
+            Failure::Run(RunFault::Read) => f.write_str("read failed"),
+            Failure::Run(RunFault::Write) => f.write_str("write failed"),
+        }
+    }
+}
+
+/// Writes the failure's line at once, and without memory.
+fn put_line<E: Write>(errors: &mut Watched<E>, failure: &Failure) -> Result<(), RunFault> {
+    let mut line = Cursor::new([0u8; LINE_ROOM]);
+    if writeln!(line, "flashback: {failure}").is_err() {
+        return Ok(());
+    }
+    let end = line.position() as usize;
+    let room = line.get_ref().as_slice();
+    put(errors, room.get(..end).unwrap_or(room))
+}
+
+#[cfg(test)]
+mod tests;

@@ -1,0 +1,121 @@
+//! Every word that the program knows, and the help.
+
+use clap::{Arg, ArgAction, Command};
+use std::alloc::{AllocError, Global};
+
+/// The name of `-B`.
+pub const FLASHBACK: &str = "flashback";
+/// The name of `--forward`.
+pub const FORWARD: &str = "forward";
+/// The name of `--summary`.
+pub const SUMMARY: &str = "summary";
+/// The name of `--sql`.
+pub const SQL: &str = "sql";
+/// The name of `-j`.
+pub const START: &str = "start-position";
+/// The name of `--stop-position`.
+pub const STOP: &str = "stop-position";
+/// The name of `-d`.
+pub const DATABASE: &str = "database";
+/// The name of `-T`.
+pub const TABLE: &str = "table";
+/// The name of `-r`.
+pub const RESULT_FILE: &str = "result-file";
+/// The name of the word without an option.
+pub const LOG: &str = "LOG";
+
+const ABOUT: &str = "\
+Undoes the changes of a MySQL binary log: writes another binary log,
+which takes the changes of LOG back, the last one first.
+LOG has rows with full images and no checksums. A log that can't be undone whole is refused,
+and then nothing is written.";
+
+const USAGE: &str = "\
+flashback (-B | --forward | --summary) [--sql] [-j POS] [--stop-position POS] \
+[-d NAME] [-T NAME] [-r FILE] LOG";
+
+const AFTER_HELP: &str = "\
+Positions are bytes from the start of the file, decimal, 0 to 4294967295.
+Names are compared byte by byte.
+
+Examples:
+  flashback -B binlog.000042 > undo.binlog
+      undo all changes; -B is the same as --flashback
+  flashback --forward binlog.000042 > same.binlog
+      write the changes as they were made, and no other events
+  flashback -B --sql binlog.000042
+      show what would be undone, as pseudo-SQL; --sql goes with --forward too
+  flashback --summary binlog.000042
+      count rows by table
+  flashback -B -j 4021 binlog.000042 > undo.binlog
+      undo what begins at 4021 or later; -j is the same as --start-position
+  flashback -B --stop-position 9144 binlog.000042 > undo.binlog
+      undo what begins before 9144
+  flashback -B -d shop -T orders binlog.000042 > undo.binlog
+      undo the changes of one table; -d is the same as --database, -T the same as --table
+  flashback -B -r undo.binlog binlog.000042
+      write to a file; -r is the same as --result-file
+
+Exit status: 0 done, 1 the log is refused or something failed, 2 the words are wrong.";
+
+/// Every word that the program knows.
+pub fn all_words<'w>(alloc: Global) -> Result<Command<'w>, AllocError> {
+    let command = Command::new(alloc, "flashback")
+        .about(ABOUT)
+        .override_usage(USAGE)
+        .after_help(AFTER_HELP);
+    let log = Arg::new(alloc, LOG).help(
+        "The binary log, a file; it is read whole before anything is written",
+    );
+    let file = option(alloc, RESULT_FILE, "FILE").help(
+        "Create or empty FILE once LOG is accepted, and write to it",
+    );
+    selecting_words(alloc, mode_words(alloc, command)?)?
+        .arg(file.short('r'))?
+        .arg(log.required(true))
+}
+
+/// Adds the words that choose a mode and its form.
+fn mode_words<'w>(alloc: Global, command: Command<'w>) -> Result<Command<'w>, AllocError> {
+    let undo = flag(alloc, FLASHBACK).help("Write the log that undoes the changes of LOG");
+    let forward = flag(alloc, FORWARD).help("Write a log of the changes as LOG makes them");
+    let summary = flag(alloc, SUMMARY).help("Count the changed rows of each table");
+    let sql = flag(alloc, SQL).help("With -B or --forward: write pseudo-SQL in place of a log");
+    command
+        .arg(undo.short('B'))?
+        .arg(forward)?
+        .arg(summary)?
+        .arg(sql)
+}
+
+/// Adds the words that select changes.
+fn selecting_words<'w>(alloc: Global, command: Command<'w>) -> Result<Command<'w>, AllocError> {
+    let start = option(alloc, START, "POS").help(
+        "Begin at POS, an event's start or the end of LOG [default: 4]",
+    );
+    let stop = option(alloc, STOP, "POS").help(
+        "Leave out the events that start at POS or behind it",
+    );
+    let database = option(alloc, DATABASE, "NAME").help(
+        "Take only the changes of tables of this database",
+    );
+    let table = option(alloc, TABLE, "NAME").help("Take only the changes of tables of this name");
+    command
+        .arg(start.short('j'))?
+        .arg(stop)?
+        .arg(database.short('d'))?
+        .arg(table.short('T'))
+}
+
+/// A word `--name` that takes no value.
+fn flag<'w>(alloc: Global, name: &'w str) -> Arg<'w> {
+    Arg::new(alloc, name).long(name).action(ArgAction::SetTrue)
+}
+
+/// A word `--name` that takes a value, whatever that begins with, as `mysqlbinlog` does.
+fn option<'w>(alloc: Global, name: &'w str, value: &'w str) -> Arg<'w> {
+    Arg::new(alloc, name)
+        .long(name)
+        .value_name(value)
+        .allow_hyphen_values(true)
+}

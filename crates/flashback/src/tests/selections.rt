@@ -1,0 +1,126 @@
+//! Parts of a log, and other logs than one inserting transaction.
+
+use super::logs::{DROP_TABLE, INSERT_ONE_ROW, with_byte};
+use super::{ROWS_TYPE, path_of, run_log};
+use std::fs;
+use std::test::Fail;
+
+/// Where the events of the log begin.
+const FIRST: usize = 120;
+
+/// Where the table map has the type of its column.
+const COLUMN_TYPE: usize = 193;
+
+/// The log without its last byte.
+fn cut() -> &'static [u8] {
+    INSERT_ONE_ROW.split_last().map_or(&[], |(_, front)| front)
+}
+
+#[test]
+fn each_selection_has_its_output(rt: HostRuntime) -> Result<(), Fail> {
+    let undone = with_byte(rt.alloc(), ROWS_TYPE, 0x20)?;
+    let nothing = INSERT_ONE_ROW.get(..FIRST).unwrap_or(&[]);
+    let cases = [
+        (["--forward"].as_slice(), INSERT_ONE_ROW.as_slice()),
+        (&["-B", "-j", "0"], undone.as_slice()),
+        (&["-B", "-j", "4"], undone.as_slice()),
+        (&["-B", "-j", "120"], undone.as_slice()),
+        (&["-B", "--stop-position", "259"], undone.as_slice()),
+        (&["-B", "-d", "d"], undone.as_slice()),
+        (&["-B", "-T", "t"], undone.as_slice()),
+        (
+            &["--forward", "-d", "d", "-T", "t"],
+            INSERT_ONE_ROW.as_slice(),
+        ),
+        (&["-B", "-j", "259"], nothing),
+        (&["-B", "-d", "e"], nothing),
+        (&["-B", "-d", "D"], nothing),
+        (&["-B", "-d", ""], nothing),
+        (&["-B", "-T", "d"], nothing),
+        (&["-B", "-j", "160", "--stop-position", "100"], nothing),
+    ];
+    for (words, wanted) in cases {
+        let outcome = run_log(&rt, "selected", INSERT_ONE_ROW.as_slice(), words)?;
+        assert_eq!(rt; outcome.status, 0, "{words:?}");
+        assert_eq!(rt; outcome.output(), wanted, "{words:?}");
+        assert!(rt; outcome.errors().is_empty(), "{words:?}");
+    }
+    Ok(())
+}
+
+#[test]
+fn each_selection_has_its_fault(rt: HostRuntime) -> Result<(), Fail> {
+    let cases = [
+        (["-B", "-j", "159"], "flashback: OutOfPlace at 159\n"),
+        (["-B", "-j", "160"], "flashback: NoEventAt at 160\n"),
+        (["-B", "-j", "300"], "flashback: NoEventAt at 300\n"),
+        (
+            ["-B", "--stop-position", "232"],
+            "flashback: Unended at 232\n",
+        ),
+        (
+            ["--forward", "--stop-position", "232"],
+            "flashback: Unended at 232\n",
+        ),
+    ];
+    for (words, line) in cases {
+        let outcome = run_log(
+            &rt,
+            "unselected",
+            INSERT_ONE_ROW.as_slice(),
+            words.as_slice(),
+        )?;
+        assert!(rt; outcome.is_refusal(1, line), "{words:?}");
+    }
+    Ok(())
+}
+
+#[test]
+fn a_cut_log_leaves_the_file_alone(rt: HostRuntime) -> Result<(), Fail> {
+    let result = path_of(&rt, "uncut")?;
+    let words = ["-B", "-r", result.as_str()];
+    let line = "flashback: CutEvent at 232\n";
+    assert!(rt; run_log(&rt, "cut", cut(), &["-B"])?.is_refusal(1, line));
+    assert!(rt; run_log(&rt, "cut", cut(), words.as_slice())?.is_refusal(1, line));
+    assert!(rt; !fs::exists(&rt, result.as_path())?);
+    fs::write(&rt, result.as_path(), b"kept")?;
+    assert!(rt; run_log(&rt, "cut", cut(), words.as_slice())?.is_refusal(1, line));
+    let kept = fs::read(&rt, result.as_path())?;
+    fs::remove_file(&rt, result.as_path())?;
+    assert_eq!(rt; kept.as_slice(), b"kept".as_slice());
+    Ok(())
+}
+
+#[test]
+fn a_stop_leaves_out_what_cannot_be_undone(rt: HostRuntime) -> Result<(), Fail> {
+    let mut log = INSERT_ONE_ROW.as_slice().to_vec(rt.alloc())?;
+    log.extend_from_slice(DROP_TABLE.as_slice())?;
+    let outcome = run_log(&rt, "drop", log.as_slice(), &["-B"])?;
+    assert!(rt; outcome.is_refusal(1, "flashback: Statement at 259\n"));
+    let outcome = run_log(
+        &rt,
+        "drop",
+        log.as_slice(),
+        &["-B", "--stop-position", "259"],
+    )?;
+    assert_eq!(rt; outcome.status, 0);
+    assert_eq!(rt;
+        outcome.output(),
+        with_byte(rt.alloc(), ROWS_TYPE, 0x20)?.as_slice()
+    );
+    Ok(())
+}
+
+#[test]
+fn other_tables_are_not_judged(rt: HostRuntime) -> Result<(), Fail> {
+    let log = with_byte(rt.alloc(), COLUMN_TYPE, 0x06)?;
+    let outcome = run_log(&rt, "type", log.as_slice(), &["-B"])?;
+    assert!(rt; outcome.is_refusal(1, "flashback: UnknownType at 159\n"));
+    let outcome = run_log(&rt, "type", log.as_slice(), &["-B", "-d", "e"])?;
+    assert_eq!(rt; outcome.status, 0);
+    assert_eq!(rt;
+        outcome.output(),
+        log.as_slice().get(..FIRST).unwrap_or(&[])
+    );
+    Ok(())
+}
