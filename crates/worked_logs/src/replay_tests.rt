@@ -1,0 +1,81 @@
+//! Applying a log's changes, and then those of the log that undoes them.
+
+use crate::calls::flashback;
+use crate::logs::{two_statements, two_tables, two_transactions, two_updates};
+use crate::replay::{ReplayFault, Tables, changes_of};
+use blog_trans::Selection;
+use std::process::Abort;
+use std::test::Fail;
+
+/// After each written transaction the tables are as they were before as many of the log's last ones.
+fn check_stops<'b, R: AllocGlobal + Abort>(
+    rt: &R,
+    log: &'b [u8],
+    written: &'b [u8],
+) -> Result<(), Fail> {
+    let source = changes_of(rt.alloc(), log, &Selection::all())?;
+    let undoing = changes_of(rt.alloc(), written, &Selection::all())?;
+    assert_eq!(rt; undoing.len(), source.len());
+    for count in 0..=source.len() {
+        let mut tables = Tables::least(rt.alloc(), &source)?;
+        tables.apply(&source)?;
+        tables.apply(&undoing[..count])?;
+        let mut earlier = Tables::least(rt.alloc(), &source)?;
+        earlier.apply(&source[..source.len() - count])?;
+        assert!(rt; tables == earlier, "behind {count}");
+    }
+    Ok(())
+}
+
+#[test]
+fn after_each_written_transaction_as_many_are_undone(rt: HostRuntime) -> Result<(), Fail> {
+    for log in [
+        two_updates(&rt)?,
+        two_transactions(&rt)?,
+        two_tables(&rt)?,
+        two_statements(&rt)?,
+    ] {
+        let written = flashback(rt.alloc(), &log, &Selection::all())?;
+        check_stops(&rt, &log, &written)?;
+    }
+    Ok(())
+}
+
+/// The rows of two transactions, and of what undoes them, one after the other.
+fn check_in_turn<'b, R: AllocGlobal + Abort>(
+    rt: &R,
+    log: &'b [u8],
+    written: &'b [u8],
+) -> Result<(), Fail> {
+    let source = changes_of(rt.alloc(), log, &Selection::all())?;
+    let undoing = changes_of(rt.alloc(), written, &Selection::all())?;
+    assert_eq!(rt; undoing.len(), 2);
+    let mut tables = Tables::least(rt.alloc(), &source)?;
+    assert_eq!(rt; tables.counts(rt.alloc())?.as_slice(), [(8, 1)].as_slice());
+    tables.apply(&source)?;
+    assert_eq!(rt; tables.counts(rt.alloc())?.as_slice(), [(7, 1)].as_slice());
+    tables.apply(&undoing[..1])?;
+    assert_eq!(rt;
+        tables.counts(rt.alloc())?.as_slice(),
+        [(7, 1), (8, 1)].as_slice()
+    );
+    tables.apply(&undoing[1..])?;
+    assert_eq!(rt; tables.counts(rt.alloc())?.as_slice(), [(8, 1)].as_slice());
+    Ok(())
+}
+
+#[test]
+fn two_transactions_are_undone_in_turn(rt: HostRuntime) -> Result<(), Fail> {
+    let log = two_transactions(&rt)?;
+    let written = flashback(rt.alloc(), &log, &Selection::all())?;
+    check_in_turn(&rt, &log, &written)
+}
+
+#[test]
+fn a_delete_of_a_row_that_is_not_there_fails(rt: HostRuntime) -> Result<(), Fail> {
+    let log = two_transactions(&rt)?;
+    let changes = changes_of(rt.alloc(), &log, &Selection::all())?;
+    let applied = Tables::new(rt.alloc()).apply(&changes);
+    assert_eq!(rt; applied, Err(ReplayFault::MissingRow));
+    Ok(())
+}

@@ -1,0 +1,123 @@
+//! Logs that a server wrote: their groups, the numbers of their rows, and the range that is refused.
+
+use crate::index_view::Shown::{Begin, End, Map, Rows, Statement};
+use crate::index_view::{fault_of, groups_of, tables_of};
+use crate::samples::{ALTER_BETWEEN, INSERT, MULTI_TABLE, SAVEPOINT_KEPT, UPDATE};
+use blog_event::Fault;
+use blog_row::RowsKind::{Update, Write};
+use blog_trans::{Selection, TableCount};
+use std::test::Fail;
+
+/// The transaction before the table is altered, and the one behind.
+pub const BEFORE: Selection<'static> = Selection {
+    start: 127,
+    stop: Some(500),
+    database: None,
+    table: None,
+};
+
+pub const BEHIND: Selection<'static> = Selection {
+    start: 682,
+    stop: Some(984),
+    database: None,
+    table: None,
+};
+
+/// Rows of a table of the schema `d` that are inserted or updated.
+fn changes(table: &[u8], inserts: u64, updates: u64) -> TableCount<'_> {
+    TableCount {
+        schema: b"d",
+        table,
+        inserts,
+        updates,
+        deletes: 0,
+    }
+}
+
+#[test]
+fn samples_have_their_groups(rt: HostRuntime) -> Result<(), Fail> {
+    let all = Selection::all();
+    let in_insert = [
+        Begin(227),
+        Statement,
+        Map(294, 106),
+        Rows(334, 106, Write, 1),
+        End(370),
+    ];
+    let in_update = [
+        Begin(229),
+        Statement,
+        Map(305, 108),
+        Rows(354, 108, Update, 3),
+        End(452),
+    ];
+    let in_multi_table = [
+        Begin(229),
+        Statement,
+        Map(305, 108),
+        Map(354, 106),
+        Rows(394, 108, Update, 2),
+        Rows(470, 106, Update, 3),
+        End(532),
+    ];
+    let in_savepoint_kept = [
+        Begin(229),
+        Statement,
+        Map(296, 106),
+        Rows(336, 106, Write, 1),
+        Statement,
+        Map(447, 106),
+        Rows(487, 106, Write, 1),
+        End(598),
+    ];
+    let before = [
+        Begin(315),
+        Statement,
+        Map(382, 108),
+        Rows(431, 108, Write, 1),
+        End(473),
+    ];
+    let behind = [
+        Begin(757),
+        Statement,
+        Map(824, 122),
+        Rows(874, 122, Write, 1),
+        End(920),
+    ];
+    for (log, sel, groups) in [
+        (INSERT.as_slice(), all, in_insert.as_slice()),
+        (&UPDATE, all, &in_update),
+        (&MULTI_TABLE, all, &in_multi_table),
+        (&SAVEPOINT_KEPT, all, &in_savepoint_kept),
+        (&ALTER_BETWEEN, BEFORE, &before),
+        (&ALTER_BETWEEN, BEHIND, &behind),
+    ] {
+        assert_eq!(rt; groups_of(&rt, log, &sel)?.as_slice(), groups);
+    }
+    Ok(())
+}
+
+#[test]
+fn samples_have_their_numbers_of_rows(rt: HostRuntime) -> Result<(), Fail> {
+    let all = Selection::all();
+    for (log, sel, count) in [
+        (INSERT.as_slice(), all, changes(b"t", 1, 0)),
+        (&UPDATE, all, changes(b"k", 0, 3)),
+        (&SAVEPOINT_KEPT, all, changes(b"t", 2, 0)),
+        (&ALTER_BETWEEN, BEFORE, changes(b"k", 1, 0)),
+        (&ALTER_BETWEEN, BEHIND, changes(b"k", 1, 0)),
+    ] {
+        let tables = tables_of(&rt, log, &sel)?;
+        assert_eq!(rt; tables.as_slice(), [count].as_slice());
+    }
+    let tables = tables_of(&rt, &MULTI_TABLE, &all)?;
+    let counts = [changes(b"k", 0, 2), changes(b"t", 0, 3)];
+    assert_eq!(rt; tables.as_slice(), counts.as_slice());
+    Ok(())
+}
+
+#[test]
+fn an_altered_table_is_refused(rt: HostRuntime) {
+    let fault = fault_of(&rt, &ALTER_BETWEEN, &Selection::all());
+    assert_eq!(rt; fault, Some(Fault::Statement { pos: 573 }));
+}
