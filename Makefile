@@ -4,14 +4,16 @@ RT = rt
 PREFIX = /usr/local
 DESTDIR =
 PROGRAM = bin/flashback
-LOG = examples/insert_one_row.binlog
-UNDO = bin/insert_one_row.undo
+LOG = examples/mysql/multi_table.binlog
+UNDO = bin/multi_table.undo
+# shapes and sizes in MB of the logs to measure with; bench/README.md has the shapes
+BENCH =
 
 # what the program is built from
 SOURCES := $(shell find crates -path '*/out' -prune -o -type f \
 	\( -name '*.rt' -o -name '*.antt' \) -print) crates.txt HANDLES
 
-.PHONY: all demo test install clean
+.PHONY: all demo test bench install clean
 
 all: $(PROGRAM)
 
@@ -29,9 +31,13 @@ demo: $(PROGRAM)
 test:
 	@$(RT) ci
 
+# measures bin/flashback if it is there
+bench:
+	@FLASHBACK=$(PROGRAM) sh bench/run.sh $(BENCH)
+
 install: $(PROGRAM)
 	install -d $(DESTDIR)$(PREFIX)/bin
 	install -m 755 $(PROGRAM) $(DESTDIR)$(PREFIX)/bin/flashback
 
 clean:
-	rm -rf bin
+	rm -rf bin bench/out bench/plain/target

@@ -1,0 +1,41 @@
+#!/bin/sh
+# Measures flashback beside cat, a plain program and mariadb-binlog. See README.md beside this file.
+#
+#     sh bench/run.sh [SHAPE MB]..
+#
+# Variables: FLASHBACK, the program that is measured; RUNS, how often each program runs; LIMIT, the seconds after which
+# a run is stopped; OUT, the folder for logs and outputs.
+set -eu
+cd "$(dirname "$0")/.."
+FLASHBACK=${FLASHBACK:-bin/flashback} RUNS=${RUNS:-3} LIMIT=${LIMIT:-600} OUT=${OUT:-bench/out}
+PLAIN=bench/plain/target/release/plain
+[ $# -gt 0 ] || set -- mixed 1000 one_row 250 wide 250 many_maps 50 many_tables 100 many_statements 250
+[ $(($# % 2)) -eq 0 ] || { echo "run.sh: a size in MB for each shape is wanted" >&2; exit 2; }
+mkdir -p "$OUT"
+
+cargo build --quiet --release --offline --manifest-path bench/plain/Cargo.toml
+# the plain program has to be right before anything is compared with it: this log's rows event, whose type is the byte
+# at 200, is to become a delete (32, octal 40), and nothing else is to change
+WORKED=examples/insert_one_row.binlog
+{ head -c 200 $WORKED; printf '\040'; tail -c +202 $WORKED; } > "$OUT/worked"
+$PLAIN -B $WORKED | cmp - "$OUT/worked"
+
+# each two words become one log
+left=$#
+while [ "$left" -gt 0 ]; do
+    log=$OUT/$1-$2.binlog
+    if [ ! -s "$log.counts" ] || [ bench/make_log.py -nt "$log.counts" ]; then
+        echo "making $log" >&2
+        python3 bench/make_log.py "$1" "$2" "$log" > "$OUT/counts"
+        mv "$OUT/counts" "$log.counts"
+    fi
+    shift 2
+    set -- "$@" "$log"
+    left=$((left - 2))
+done
+
+[ -x "$FLASHBACK" ] || { echo "run.sh: $FLASHBACK isn't there, so it isn't measured; make builds it" >&2; FLASHBACK=; }
+MARIADB=$(command -v mariadb-binlog) || echo "run.sh: mariadb-binlog isn't installed, so it isn't measured" >&2
+echo "$(nproc) processors, $(sed -n 's/^model name[^:]*: //p' /proc/cpuinfo | head -n 1); best of $RUNS runs"
+echo
+exec python3 bench/measure.py "$PLAIN" "$MARIADB" "$FLASHBACK" "$RUNS" "$LIMIT" "$OUT" "$@"
