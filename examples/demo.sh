@@ -1,19 +1,35 @@
 #!/bin/sh
-# Undoes a small log, and shows how the log that undoes it differs.
+# Undoes a log that a MySQL server wrote, shows its events before and after, and undoes the undoing.
 # Words: the program, the log, and the file for the new log.
 set -eu
 program=$1 log=$2 undo=$3
+here=$(dirname "$0")
 
-echo "The log $log has one transaction: it inserts one row."
+events() {
+    od -An -v -tu1 "$1" | awk -f "$here/events.awk"
+}
+
+echo "A MySQL server wrote $log for:"
+echo "    update d.k join d.t on k.c=t.a set k.b=\"z\", t.a=t.a+1"
+echo "Its events, each with its position, its size and, of rows, the bytes of bitmaps and images:"
+events "$log"
+echo
 echo "\$ $program -B $log > $undo"
 "$program" -B "$log" > "$undo"
-echo "Bytes that differ, by cmp -l (place from 1, old and new value in octal):"
-differs=$(cmp -l "$log" "$undo" || true)
-echo "$differs"
-# byte 201 is the type of the rows event: octal 36 is 30, rows written; octal 40 is 32, rows deleted
-if [ "$(echo "$differs" | tr -s ' ' | sed 's/^ //')" != "201 36 40" ]; then
-    echo "The demo failed: only byte 201 should differ, 36 becoming 40." >&2
+echo "The log that undoes it: rows events and rows from the last to the first, before and after exchanged:"
+events "$undo"
+echo
+echo "\$ $program -B $undo     (undoing the undoing)"
+echo "\$ $program --forward $log     (the changes themselves, in normal form)"
+"$program" -B "$undo" > "$undo.twice"
+"$program" --forward "$log" > "$undo.normal"
+if ! cmp "$undo.twice" "$undo.normal"; then
+    echo "The demo failed: undoing twice should give the normal form." >&2
     exit 1
 fi
-echo "One byte differs, the type of the rows event: 'rows written' (30) became 'rows deleted' (32)."
-echo "So the new log deletes the row that the log inserted."
+if cmp -s "$undo" "$undo.normal"; then
+    echo "The demo failed: the log that undoes should differ from the normal form." >&2
+    exit 1
+fi
+echo "Both are the same, byte for byte."
+rm -f "$undo.twice" "$undo.normal"
