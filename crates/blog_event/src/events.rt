@@ -37,11 +37,10 @@ impl<'a> Log<'a> {
 impl<'a> Iterator for Events<'a> {
     type Item = Result<Event<'a>, Fault>;
 
-    ghost use Rattle.std.specs.Iterator.{YieldsFirstBy, at_most};
-    ghost use Rattle.blog_event.specs.Items.{item_of};
-    ghost use Rattle.blog_event.specs.EventsView.{items_left, most_left};
+    ghost use Rattle.std.specs.Iterator.{at_most};
+    ghost use Rattle.blog_event.specs.EventsView.{GivesItem, most_left};
 
-    ghost next_gives = { YieldsFirstBy item_of items_left };
+    ghost next_gives = { GivesItem };
 
     ghost remaining = { λ events. at_most (most_left events) };
 
