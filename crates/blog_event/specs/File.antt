@@ -38,6 +38,10 @@ is_below pos (Some stop) = nat_lt pos stop
 abbrev pub BeginsWith : List ℕ → List ℕ → Type 0
 BeginsWith bytes front = (rest : List ℕ) × (bytes ≡ front ++ rest)
 
+-- an event stands at a position: its fields fit theirs, and the bytes from there on begin with its text
+abbrev pub StandsAt : List ℕ → ℕ → Event → Type 0
+StandsAt bytes at e = IsEvent e × BeginsWith (drop at bytes) (event_text e)
+
 -- each starts below the stop
 abbrev pub StartBelow : Option ℕ → List Placed → Type 0
 StartBelow stop ps = AllByRecursion (λ p. is_below p.pos stop ≡ true) ps
@@ -76,3 +80,8 @@ AreBytes bytes = (i : ℕ) → slice_index bytes i < 256
 pub record ReadsLongest (bytes : List ℕ) (stop : Option ℕ) : Type 0 where
   pub is : IsReadList bytes stop (read bytes stop)
   pub only : (es : List Event) → IsReadList bytes stop es → es ≡ read bytes stop
+
+-- what is computed at a position stands there, and no other event does
+pub record ReadsEvent (bytes : List ℕ) (at : ℕ) : Type 0 where
+  pub found : (e : Event) → event_at (drop at bytes) ≡ Some e → StandsAt bytes at e
+  pub only : (e : Event) → StandsAt bytes at e → event_at (drop at bytes) ≡ Some e

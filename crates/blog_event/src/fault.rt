@@ -89,7 +89,7 @@ impl Fault {
 
     /// The fault's number, from 1 to 18.
     pub fn number(&self) -> u8
-        ensures { result ≡ number_of self.now }
+        ensures number { result ≡ number_of self.now }
     {
         match self {
             Fault::NotABinlog { .. } => 1,
@@ -115,7 +115,7 @@ impl Fault {
 
     /// The byte position that the fault speaks of; none for `OutOfMemory`.
     pub fn at(&self) -> Option<u32>
-        ensures { result ≡ position_of self.now }
+        ensures position { result ≡ position_of self.now }
     {
         match *self {
             Fault::NotABinlog { pos }

@@ -152,7 +152,7 @@ fn is_version_four(event: &Event<'_>) -> bool
 /// The first check of a file's first event that fails, a fault at 4: it is a format description of this profile, of a server that is
 /// served, without checksums.
 pub fn check_format(event: &Event<'_>) -> Result<(), Fault>
-    ensures { result_err result ≡ fault_at 4 (format_fault (event_of event.now)) }
+    ensures exact { result_err result ≡ fault_at 4 (format_fault (event_of event.now)) }
 {
     if !is_version_four(event) {
         return Err(Fault::BadFormat { pos: 4 });

@@ -18,6 +18,7 @@ pub use format::check_format;
 pub use laws::{
     events_left_are_determined, fronts_grow_to_the_read_list, items_are_the_events_left,
     opened_log_is_read_on, opened_logs_have_their_parts, read_list_is_longest,
+    reading_an_event_is_exact,
 };
 pub use log::Log;
 pub use reading::{HEADER_LEN, event_at};

@@ -84,7 +84,7 @@ impl<'a> Log<'a> {
 
     /// How many bytes the log has: the byte position of its end.
     pub fn end(&self) -> u32
-        ensures { result ≡ length (log_bytes self.now) }
+        ensures len { result ≡ length (log_bytes self.now) }
     {
         self.bytes.len() as u32
     }

@@ -61,14 +61,29 @@ fn goes_from_event_to_event(rt: HostRuntime) -> Result<(), Fail> {
     }
     assert!(rt; events.next().is_none());
     assert!(rt; events.next().is_none());
-    assert!(rt; log.events(259).next().is_none());
+    Ok(())
+}
+
+#[test]
+fn starts_at_and_past_the_end(rt: HostRuntime) -> Result<(), Fail> {
+    let log = Log::open(&LOG)?;
+    let mut none = log.events(259);
+    assert!(rt; none.next().is_none());
+    assert!(rt; none.next().is_none());
+    for past in [260, 300, u32::MAX] {
+        let mut events = log.events(past);
+        let fault = events.next().expect(&rt, "a fault").err();
+        assert_eq!(rt; fault, Some(Fault::CutEvent { pos: past }));
+        assert!(rt; events.next().is_none(), "from {past}");
+        assert!(rt; events.next().is_none(), "from {past}");
+    }
     Ok(())
 }
 
 #[test]
 fn ends_with_one_fault(rt: HostRuntime) -> Result<(), Fail> {
     let log = Log::open(&LOG)?;
-    for from in [231, 241, 260, u32::MAX] {
+    for from in [231, 241] {
         let mut events = log.events(from);
         let fault = events.next().expect(&rt, "a fault").err();
         assert_eq!(rt; fault, Some(Fault::CutEvent { pos: from }));

@@ -3,4 +3,4 @@ use Rattle.blog_event.proofs.laws.events_left_are_determined.Goals as goal
 use Rattle.blog_event.proofs.Going.{is-left}
 
 pub returns : goal.returns
-returns c = is-left
+returns c = record { left = is-left }

@@ -3,4 +3,4 @@ use Rattle.blog_event.proofs.laws.opened_logs_have_their_parts.Goals as goal
 use Rattle.blog_event.proofs.Openings.{opens-logs}
 
 pub returns : goal.returns
-returns c = opens-logs
+returns c = record { parts = opens-logs }

@@ -3,4 +3,4 @@ use Rattle.blog_event.proofs.laws.read_list_is_longest.Goals as goal
 use Rattle.blog_event.proofs.Framing.{reads-longest}
 
 pub returns : goal.returns
-returns c = reads-longest
+returns c = record { longest = reads-longest }

@@ -22,7 +22,7 @@ returns-in-Some-clause-refused g c =
     let sel = selection_of c.args.sel.now in
     let through = c.in-Ok.ensures.through in
     inr (end-refused bytes sel (log-opened c.args.log.now) through.0
-    ∙ last-is bytes sel c.end.result c.in-Ok.at c.place.result c.end.ensures through.1 (c.place.ensures ∙ through.2.judge.place_is)
+    ∙ last-is bytes sel c.end.result c.in-Ok.at c.place.result c.end.ensures.len through.1 (c.place.ensures ∙ through.2.judge.place_is)
     ∙ sym c.end_fault.ensures ∙ c.in-Some.is)
 
 pub new-requires-clause-accepted : goal.new-requires-clause-accepted
@@ -31,7 +31,7 @@ new-requires-clause-accepted g c =
     let sel = selection_of c.args.sel.now in
     let through = c.in-Ok.ensures.through in
     end-refused bytes sel (log-opened c.args.log.now) through.0
-    ∙ last-is bytes sel c.end.result c.in-Ok.at c.place.result c.end.ensures through.1 (c.place.ensures ∙ through.2.judge.place_is)
+    ∙ last-is bytes sel c.end.result c.in-Ok.at c.place.result c.end.ensures.len through.1 (c.place.ensures ∙ through.2.judge.place_is)
     ∙ sym c.end_fault.ensures ∙ c.in_default.is
 
 pub new-requires-clause-kept : goal.new-requires-clause-kept
@@ -40,7 +40,7 @@ new-requires-clause-kept g c =
     let sel = selection_of c.args.sel.now in
     let through = c.in-Ok.ensures.through in
     let accepted = end-refused bytes sel (log-opened c.args.log.now) through.0
-    ∙ last-is bytes sel c.end.result c.in-Ok.at c.place.result c.end.ensures through.1 (c.place.ensures ∙ through.2.judge.place_is)
+    ∙ last-is bytes sel c.end.result c.in-Ok.at c.place.result c.end.ensures.len through.1 (c.place.ensures ∙ through.2.judge.place_is)
     ∙ sym c.end_fault.ensures ∙ c.in_default.is in
     let keeper = c.walk.new.walker.keeper in
     subst (Shows keeper.entries.items keeper.transactions keeper.statements) (progress-is bytes sel accepted through.2.passed) through.2.keeps.keeper.shows
@@ -51,6 +51,6 @@ new-requires-clause-counted g c =
     let sel = selection_of c.args.sel.now in
     let through = c.in-Ok.ensures.through in
     let accepted = end-refused bytes sel (log-opened c.args.log.now) through.0
-    ∙ last-is bytes sel c.end.result c.in-Ok.at c.place.result c.end.ensures through.1 (c.place.ensures ∙ through.2.judge.place_is)
+    ∙ last-is bytes sel c.end.result c.in-Ok.at c.place.result c.end.ensures.len through.1 (c.place.ensures ∙ through.2.judge.place_is)
     ∙ sym c.end_fault.ensures ∙ c.in_default.is in
     subst (λ (k : Progress). AreCounts (progress_changes k) (progress_tables k) c.walk.new.walker.counts) (progress-is bytes sel accepted through.2.passed) through.2.keeps.counts

@@ -35,7 +35,7 @@ pub returns-in_default : goal.returns-in_default
 returns-in_default g c =
     let sel = selection_of c.args.sel.now in
     let below : is_below c.events.at sel.stop ≡ true = sym c.is_below.ensures ∙ c.events-test.true in
-    record { through = inr (left-cut (log_bytes c.args.log.now) sel c.events.at c.events.walker c.events.invariant.left (inr (sym c.in_default.ensures.event)) (below-the-end _ _ below (λ e. omega (arith, e, c.if-at-end.true, c.end.ensures)))) }
+    record { through = inr (left-cut (log_bytes c.args.log.now) sel c.events.at c.events.walker c.events.invariant.left (inr (sym c.in_default.ensures.event)) (below-the-end _ _ below (λ e. omega (arith, e, c.if-at-end.true, c.end.ensures.len)))) }
 
 pub returns-in-Err : goal.returns-in-Err
 returns-in-Err g c =
@@ -72,7 +72,7 @@ pub returns-else-at-end : goal.returns-else-at-end
 returns-else-at-end g c =
     let sel = selection_of c.args.sel.now in
     let bytes = log_bytes c.args.log.now in
-    let here : c.events.at ≡ length bytes = omega (arith, c.if-at-end.false, c.end.ensures) in
+    let here : c.events.at ≡ length bytes = omega (arith, c.if-at-end.false, c.end.ensures.len) in
     let none : event_at (drop c.events.at bytes) ≡ None = none-at-end bytes c.events.at here in
     record { through = left-over bytes sel c.events.at c.events.walker c.events.invariant.left (inr none) (at-the-end _ _ _ here) }
 

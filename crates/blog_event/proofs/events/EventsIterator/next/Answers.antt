@@ -11,10 +11,10 @@ use Rattle.blog_event.proofs.events.EventsIterator.next.Goals.{in-Ok, in_default
 pub returns-then-at-end-clause-steps : goal.returns-then-at-end-clause-steps
 returns-then-at-end-clause-steps c = record {
   first = (
-      ap (λ at. option_map_or (items_from (log_bytes c.args.self.now.log)) at []) c.in_ok-at.was
-          ∙ items-end (log_bytes c.args.self.now.log) c.in_ok-at.at (omega arith),
-      refl,
-    );
+    ap (λ at. option_map_or (items_from (log_bytes c.args.self.now.log)) at []) c.in_ok-at.was
+        ∙ items-end (log_bytes c.args.self.now.log) c.in_ok-at.at (omega arith),
+    refl,
+  );
   size = tt;
 }
 

@@ -16,9 +16,9 @@ returns-in_default-clause-exact c = sym (opening-cut c.args.bytes.now (omega ari
 pub returns-in_err-check_format-clause-exact : goal.returns-in_err-check_format-clause-exact
 returns-in_err-check_format-clause-exact c =
     let fault = opening-format c.args.bytes.now (event_of c.in-Some.format) (omega arith) (sym c.if-not-has_magic.ensures) (sym c.in-Some.ensures.event) in
-    err-said _ _ c.from_residual.ensures.1 ∙ c.in_err-check_format.ensures ∙ sym fault
+    err-said _ _ c.from_residual.ensures.1 ∙ c.in_err-check_format.ensures.exact ∙ sym fault
 
 pub returns-clause-exact : goal.returns-clause-exact
 returns-clause-exact c =
     let fault = opening-format c.args.bytes.now (event_of c.in-Some.format) (omega arith) (sym c.if-not-has_magic.ensures) (sym c.in-Some.ensures.event) in
-    c.in_ok-check_format.ensures ∙ sym fault
+    c.in_ok-check_format.ensures.exact ∙ sym fault
