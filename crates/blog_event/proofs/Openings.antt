@@ -55,7 +55,7 @@ none-failing None checks none = (refl, none)
 none-failing (Some failure) checks none = absurd (none-some failure (sym none))
 
 -- a check that finds no fault
-none-at : (pos : ℕ) (test : Bool) (cause : Cause) → fault_at pos (needs test cause) ≡ None → test ≡ true
+pub none-at : (pos : ℕ) (test : Bool) (cause : Cause) → fault_at pos (needs test cause) ≡ None → test ≡ true
 none-at pos true cause none = refl
 none-at pos false cause none = absurd (none-some (cause pos) (sym none))
 

@@ -27,7 +27,6 @@ pub mod RowsText
 pub mod LayingOut
 pub mod Headline
 pub mod Stops
-pub mod Refusing
 pub mod Printing
 pub mod PrintedParts
 pub mod Answering

@@ -1,3 +1,4 @@
+pub mod Opening
 pub mod KindCode
 pub mod Tables
 mod CountsCode

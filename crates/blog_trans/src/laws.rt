@@ -1,17 +1,27 @@
-//! What is promised of the transactions that are kept while a log is walked.
+//! What is promised of the opening of a log, and of the transactions that are kept while it is walked.
 
-ghost use Rattle.std.specs.Prelude.{◌≡◌, ℕ, List, [], ◌∷◌, reverse, map, filter, Some, false};
+ghost use Rattle.std.specs.Prelude.{◌≡◌, ℕ, List, [], ◌∷◌, take, reverse, map, filter, Some, false};
 ghost use Rattle.std.specs.List.{AllByRecursion, Contains};
+ghost use Rattle.blog_event.specs.declared.fault.Fault.{Fault};
+ghost use Rattle.blog_event.specs.Fault.{first_failing};
 ghost use Rattle.blog_event.specs.File.{Placed, placed_from, read};
+ghost use Rattle.blog_event.specs.Opening.{opening_fault};
 ghost use Rattle.blog_row.specs.RowsEvent.{table_id};
 ghost use Rattle.blog_trans.specs.Selection.{Selection};
 ghost use Rattle.blog_trans.specs.Places.{place, is_inside, since};
-ghost use Rattle.blog_trans.specs.Acceptance.{range, IsAccepted};
+ghost use Rattle.blog_trans.specs.Acceptance.{range, lines, fault, IsAccepted};
 ghost use Rattle.blog_trans.specs.Passing.{HavePassed, Passes};
 ghost use Rattle.blog_trans.specs.Groups.{kept_rows, first_maps, placed_groups_in, placed_groups};
 ghost use Rattle.blog_trans.specs.Progress.{Open, with_rows, progress};
 ghost use Rattle.blog_trans.specs.StatementMaps.{first_of_ids, is_used};
 ghost use Rattle.blog_trans.specs.PlacedFacts.{IsPlacedTransaction};
+
+/// Under every selection, what opening a log refuses is what the first four lines of the log's fault refuse, and so it is
+/// the fault of the log. The call does nothing.
+pub fn opening_asks_the_first_lines()
+    ensures lines { (bytes : List ℕ) (sel : Selection) → opening_fault bytes ≡ first_failing (take 4 (lines bytes sel (read bytes sel.stop))) }
+    ensures refused { (bytes : List ℕ) (sel : Selection) (f : Fault) → opening_fault bytes ≡ Some f → fault bytes sel ≡ Some f }
+{}
 
 /// Of events that pass their checks and end outside of a transaction, the transactions that the progress has kept are
 /// the groups of the events. The call does nothing.

@@ -21,8 +21,8 @@ pub use entry::Entry;
 pub use groups::{Index, TableCount};
 pub use kind::{EventKind, event_kind};
 pub use laws::{
-    accepted_logs_have_groups, groups_are_of_events, progress_gives_groups,
-    statements_have_used_maps,
+    accepted_logs_have_groups, groups_are_of_events, opening_asks_the_first_lines,
+    progress_gives_groups, statements_have_used_maps,
 };
 pub use place::Place;
 pub use selection::Selection;

@@ -1,7 +1,7 @@
 use Rattle.std.proofs.Common.{sym, inr}
 use Rattle.std.proofs.lemmas.Result.{err_from_is_err_and}
 use Rattle.blog_trans.specs.Selection.{selection_of}
-use Rattle.blog_flash.proofs.Refusing.{opening-refused}
+use Rattle.blog_trans.proofs.Opening.{opening-refused}
 use Rattle.blog_flash.proofs.modes.selected.Goals as goal
 
 pub returns-in_err-log-clause-refused : goal.returns-in_err-log-clause-refused

@@ -1,5 +1,5 @@
--- What opening a log refuses is refused.
-use Rattle.std.proofs.Common.{◌≡◌, ℕ, true, List, [], ◌∷◌, take, drop, bytes_eq, Option, Some, None, is_some, refl, sym, ap, ap₂, ◌∙◌}
+-- Opening a log asks the first four lines of its fault.
+use Rattle.std.proofs.Common.{◌≡◌, ℕ, zero, suc, true, List, [], ◌∷◌, take, drop, bytes_eq, Option, Some, None, is_some, refl, sym, ap, ap₂, ◌∙◌}
 use Rattle.std.specs.Option.{option_map_or}
 use Rattle.std.proofs.lemmas.Option.{none-some}
 use Rattle.std.proofs.lemmas.Slice.Eq.{bytes_eq-Decides}
@@ -11,10 +11,9 @@ use Rattle.blog_event.specs.File.{magic, read}
 use Rattle.blog_event.specs.Format.{format_fault}
 use Rattle.blog_event.specs.Opening.{opening_fault}
 use Rattle.blog_event.proofs.Framing.{read-first}
+use Rattle.blog_event.proofs.Openings.{none-at}
 use Rattle.blog_trans.specs.Selection.{Selection}
-use Rattle.blog_trans.specs.Acceptance.{has_first, first_format_fault, fault}
-use Rattle.blog_flash.proofs.Agreeing.{needed}
-use Rattle.blog_flash.proofs.Passed.{no_fault_at}
+use Rattle.blog_trans.specs.Acceptance.{has_first, first_format_fault, lines, fault}
 
 -- ---- the first event
 
@@ -39,24 +38,31 @@ first-read bytes stop mark = by_event (event_at (drop 4 bytes)) refl
 
 -- ---- lists of checks
 
--- a fault among the first four of checks, the third and fourth of which are said in another way, decides
-front-fails : (a b c d p q : Option Fault) (more : List (Option Fault)) (f : Fault) → (b ≡ None → (c ≡ p) × (d ≡ q)) → first_failing (a ∷ b ∷ c ∷ d ∷ []) ≡ Some f
-    → first_failing (a ∷ b ∷ p ∷ q ∷ more) ≡ Some f
-front-fails (Some x) b c d p q more f same e = e
-front-fails None (Some x) c d p q more f same e = e
-front-fails None None c d p q more f same e =
-    let are = same refl in ap₂ (λ third fourth. first_failing (third ∷ fourth ∷ more)) (sym are.0) (sym are.1) ∙ two c d e
-  where
-    two : (c d : Option Fault) → first_failing (c ∷ d ∷ []) ≡ Some f → first_failing (c ∷ d ∷ more) ≡ Some f
-    two (Some x) d e = e
-    two None (Some x) e = e
-    two None None e = absurd (none-some f e)
+-- four checks, the last two of which are asked only where the second finds no fault, and may be said in another way there
+same-front : (a b c d p q : Option Fault) → (b ≡ None → (c ≡ p) × (d ≡ q)) → first_failing (a ∷ b ∷ c ∷ d ∷ []) ≡ first_failing (a ∷ b ∷ p ∷ q ∷ [])
+same-front (Some f) b c d p q same = refl
+same-front None (Some f) c d p q same = refl
+same-front None None c d p q same = let are = same refl in ap₂ (λ third fourth. first_failing (third ∷ fourth ∷ [])) are.0 are.1
+
+-- a fault among the first checks decides
+front-decides : (n : ℕ) (checks : List (Option Fault)) (f : Fault) → first_failing (take n checks) ≡ Some f → first_failing checks ≡ Some f
+front-decides zero checks f said = absurd (none-some f said)
+front-decides (suc n) [] f said = said
+front-decides (suc n) (None ∷ checks) f said = front-decides n checks f said
+front-decides (suc n) (Some x ∷ checks) f said = said
+
+-- ---- opening
+
+-- the fault of opening is the first of the first four lines
+pub opening-lines : (bytes : List ℕ) (sel : Selection) → opening_fault bytes ≡ first_failing (take 4 (lines bytes sel (read bytes sel.stop)))
+unfolding opening_fault
+opening-lines bytes sel =
+    same-front _ _ _ _ _ _ (λ none.
+    let mark = none-at 0 (bytes_eq (take 4 bytes) magic) NotABinlog none in
+    let first = first-read bytes sel.stop mark in
+    (ap (λ b. fault_at 4 (needs b CutEvent)) first.some, ap (fault_at 4) first.format))
 
 -- what opening refuses is the fault of the log
 pub opening-refused : (bytes : List ℕ) (sel : Selection) (f : Fault) → opening_fault bytes ≡ Some f → fault bytes sel ≡ Some f
-unfolding opening_fault fault
-opening-refused bytes sel f e =
-    front-fails _ _ _ _ _ _ _ f (λ none.
-    let mark = needed (bytes_eq (take 4 bytes) magic) NotABinlog (no_fault_at 0 _ none) in
-    let first = first-read bytes sel.stop mark in
-    (ap (λ b. fault_at 4 (needs b CutEvent)) first.some, ap (fault_at 4) first.format)) e
+unfolding fault
+opening-refused bytes sel f refused = front-decides 4 (lines bytes sel (read bytes sel.stop)) f (sym (opening-lines bytes sel) ∙ refused)
