@@ -1,18 +1,17 @@
--- What is written for a rows event, before and after its images are put in order.
-use Rattle.std.proofs.Common.{◌≡◌, ℕ, ◌+◌, ◌-◌, ◌≤◌, Bool, List, [], ◌∷◌, ◌++◌, length, take, reverse, refl, sym, ap, ap₂, ◌∙◌, arith, append-nil, append_assoc, length-append, take_at}
-use Rattle.std.specs.Prelude.{if◌then◌else◌}
+-- What is written for a rows event: in one piece, or its front first and then its images in reverse order.
+use Rattle.std.proofs.Common.{◌≡◌, ℕ, ◌+◌, ◌-◌, Bool, true, List, [], ◌∷◌, ◌++◌, length, take, drop, reverse, sym, ap, ap₂, ◌∙◌, arith, append-nil, append_assoc, length-append, length-drop, take_at}
 use Rattle.std.specs.List.{concat}
 use Rattle.byteorder.specs.Endian.{little_bytes}
+use Rattle.byteorder.specs.Numbers.{length-bytes_low_first}
 use Rattle.blog_event.specs.declared.event.Event as told
-use Rattle.blog_event.specs.Event.{event_size, event_text}
+use Rattle.blog_event.specs.Event.{Event, event_size, event_text}
 use Rattle.blog_row.specs.declared.rows_event.RowsEvent as seen
 use Rattle.blog_row.specs.RowsKind.{number_of_kind}
 use Rattle.blog_row.specs.RowsEvent.{rows_text}
 use Rattle.blog_row.specs.RowsEventView.{rows_body}
 use Rattle.blog_trans.specs.Groups.{RowsEvent}
-use Rattle.blog_flash.specs.declared.order.Order.{Order}
-use Rattle.blog_flash.specs.declared.order.Order.TheVariants.{Forward, Backward}
-use Rattle.blog_flash.specs.LaidOut.{text_from, in_order, kind_in, rows_in, rows_seen, rows_unturned, flags_by}
+use Rattle.blog_flash.specs.LaidOut.{text_from, rows_seen, flags_by}
+use Rattle.blog_flash.specs.Reversal.{reversed_rows}
 use Rattle.blog_flash.specs.Texts as texts
 use Rattle.blog_flash.specs.Texts.{rows_event}
 use Rattle.blog_flash.proofs.Forming.{rows_event-body}
@@ -24,95 +23,136 @@ use Rattle.blog_flash.proofs.Sizes.{length-concat-reverse, rows_event-size}
 pub id-front : (body : List ℕ) (r : seen.RowsEvent) → body ≡ rows_text (rows_body r) → take 6 body ≡ (rows_body r).id
 id-front body r text = ap (take 6) text ∙ take_at (rows_body r).id _ 6 r.id_len
 
--- joined, they are the body
-pub unturned-body : (order : Order) (last : Bool) (e : told.Event) (r : seen.RowsEvent) (id flags count first second images : List ℕ) → id ≡ (rows_body r).id
-    → flags ≡ little_bytes 2 (flags_by last (rows_seen e r)) → count ≡ (rows_body r).count → first ++ second ≡ concat (in_order order (rows_body r).bitmaps)
-    → images ≡ concat (rows_body r).images
-    → id ++ (flags ++ (2 ∷ 0 ∷ (count ++ (first ++ (second ++ (images ++ [])))))) ≡ texts.rows_body last (rows_unturned order (rows_seen e r))
-unturned-body order last e r id flags count first second images own flagged counted bitmaps joined = by_order order bitmaps
-  where
-    tail : (all : List ℕ) → first ++ second ≡ all → first ++ (second ++ (images ++ [])) ≡ all ++ concat (rows_body r).images
-    tail all bitmaps = ap (λ i. first ++ (second ++ i)) (append-nil images) ∙ sym (append_assoc first second images) ∙ ap₂ ◌++◌ bitmaps joined
+-- what stands in front of the images
+abbrev pub front_of : Bool → RowsEvent → List ℕ
+front_of last v = v.id ++ (little_bytes 2 (flags_by last v) ++ (2 ∷ 0 ∷ (v.count ++ concat v.bitmaps)))
 
-    by_order : (order : Order) → first ++ second ≡ concat (in_order order (rows_body r).bitmaps)
-        → id ++ (flags ++ (2 ∷ 0 ∷ (count ++ (first ++ (second ++ (images ++ [])))))) ≡ texts.rows_body last (rows_unturned order (rows_seen e r))
-    by_order Forward bitmaps = λ i. own i ++ (flagged i ++ (2 ∷ 0 ∷ (counted i ++ tail (concat (rows_body r).bitmaps) bitmaps i)))
-    by_order Backward bitmaps = λ i. own i ++ (flagged i ++ (2 ∷ 0 ∷ (counted i ++ tail (concat (reverse (rows_body r).bitmaps)) bitmaps i)))
+-- its parts, joined
+pub joined-front : (last : Bool) (v : RowsEvent) (id flags count first second : List ℕ) → id ≡ v.id → flags ≡ little_bytes 2 (flags_by last v) → count ≡ v.count
+    → first ++ second ≡ concat v.bitmaps → id ++ (flags ++ (2 ∷ 0 ∷ (count ++ (first ++ (second ++ []))))) ≡ front_of last v
+joined-front last v id flags count first second own flagged counted bitmaps =
+    let tail : first ++ (second ++ []) ≡ concat v.bitmaps = ap (λ (xs : List ℕ). first ++ xs) (append-nil second) ∙ bitmaps in
+    λ i. own i ++ (flagged i ++ (2 ∷ 0 ∷ (counted i ++ tail i)))
+
+-- those of a rows event that was read, turned
+pub turned-front : (last : Bool) (e : told.Event) (r : seen.RowsEvent) (body flags count first second : List ℕ) → body ≡ rows_text (rows_body r) → flags ≡ little_bytes 2 (flags_by last (rows_seen e r))
+    → count ≡ (rows_body r).count → first ++ second ≡ concat (reverse (rows_body r).bitmaps)
+    → take 6 body ++ (flags ++ (2 ∷ 0 ∷ (count ++ (first ++ (second ++ []))))) ≡ front_of last (reversed_rows (rows_seen e r))
+turned-front last e r body flags count first second text flagged counted bitmaps =
+    joined-front last (reversed_rows (rows_seen e r)) (take 6 body) flags count first second (id-front body r text) flagged counted bitmaps
+
+-- with the images behind, they are the body
+pub joined-body : (last : Bool) (v : RowsEvent) (id flags count first second images : List ℕ) → id ≡ v.id → flags ≡ little_bytes 2 (flags_by last v) → count ≡ v.count
+    → first ++ second ≡ concat v.bitmaps → images ≡ concat v.images
+    → id ++ (flags ++ (2 ∷ 0 ∷ (count ++ (first ++ (second ++ (images ++ [])))))) ≡ texts.rows_body last v
+joined-body last v id flags count first second images own flagged counted bitmaps joined =
+    let tail : first ++ (second ++ (images ++ [])) ≡ concat v.bitmaps ++ concat v.images =
+    ap (λ (xs : List ℕ). first ++ (second ++ xs)) (append-nil images) ∙ sym (append_assoc first second images) ∙ ap₂ ◌++◌ bitmaps joined in
+    λ i. own i ++ (flagged i ++ (2 ∷ 0 ∷ (counted i ++ tail i)))
+
+front-and-images : (last : Bool) (v : RowsEvent) → front_of last v ++ concat v.images ≡ texts.rows_body last v
+front-and-images last v =
+    let flags : List ℕ = little_bytes 2 (flags_by last v) in
+    append_assoc v.id (flags ++ (2 ∷ 0 ∷ (v.count ++ concat v.bitmaps))) (concat v.images)
+    ∙ ap (λ (xs : List ℕ). v.id ++ xs) (append_assoc flags (2 ∷ 0 ∷ (v.count ++ concat v.bitmaps)) (concat v.images)
+    ∙ ap (λ (xs : List ℕ). flags ++ (2 ∷ 0 ∷ xs)) (append_assoc v.count (concat v.bitmaps) (concat v.images)))
 
 -- how long the event is
 pub body-size : (last : Bool) (v : RowsEvent) (body : List ℕ) → body ≡ texts.rows_body last v → event_size (rows_event last v) ≡ 19 + length body
 body-size last v body is = ap (λ (bytes : List ℕ). 19 + length bytes) (rows_event-body last v ∙ sym is)
 
--- the text of the event that is appended
-abbrev text : told.Event → ℕ → ℕ → List ℕ → List ℕ
-text e pos kind body = event_text (record { timestamp = e.header.timestamp; kind = kind; server_id = e.header.server_id; log_pos = pos + (19 + length body); flags = e.header.flags; body = body })
+-- ---- in one piece
 
-pub unturned-text : (order : Order) (last : Bool) (e : told.Event) (r : seen.RowsEvent) (pos kind : ℕ) (body : List ℕ) → kind ≡ number_of_kind (kind_in order r.kind)
-    → body ≡ texts.rows_body last (rows_unturned order (rows_seen e r)) → text e pos kind body ≡ text_from pos (rows_event last (rows_unturned order (rows_seen e r)) ∷ [])
+-- an event with its header, where it is appended
+abbrev pub appended_as : RowsEvent → ℕ → ℕ → List ℕ → Event
+appended_as v pos kind body = record { timestamp = v.timestamp; kind = kind; server_id = v.server_id; log_pos = pos + (19 + length body); flags = v.header_flags; body = body }
+
+-- with its kind and its body it is that rows event
+pub written-text : (last : Bool) (v : RowsEvent) (pos kind : ℕ) (body : List ℕ) → kind ≡ number_of_kind v.kind → body ≡ texts.rows_body last v
+    → event_text (appended_as v pos kind body) ≡ text_from pos (rows_event last v ∷ [])
 unfolding rows_event
-unturned-text Forward last e r pos kind body numbered is =
-    ap₂ (text e pos) numbered is ∙ sym (append-nil (text e pos (number_of_kind (kind_in Forward r.kind)) (texts.rows_body last (rows_unturned Forward (rows_seen e r)))))
-unturned-text Backward last e r pos kind body numbered is =
-    ap₂ (text e pos) numbered is ∙ sym (append-nil (text e pos (number_of_kind (kind_in Backward r.kind)) (texts.rows_body last (rows_unturned Backward (rows_seen e r)))))
+written-text last v pos kind body numbered is =
+    ap₂ (λ (k : ℕ) (bytes : List ℕ). event_text (appended_as v pos k bytes)) numbered is ∙ sym (append-nil (event_text (appended_as v pos (number_of_kind v.kind) (texts.rows_body last v))))
 
--- ---- its images in order
+-- ---- its front first, and then its images
 
--- they are as long in either order
-pub turned-size : (order : Order) (last : Bool) (v : RowsEvent) → event_size (rows_event last (rows_unturned order v)) ≡ event_size (rows_event last (rows_in order v))
-turned-size Forward last v = refl
-turned-size Backward last v =
+-- reversed, it is as long, whether it is the last of its statement or not
+pub turned-size : (last : Bool) (v : RowsEvent) → event_size (rows_event last (reversed_rows v)) ≡ event_size (rows_event true v)
+turned-size last v =
+    let bitmaps = length-concat-reverse v.bitmaps in
     let images = length-concat-reverse v.images in
-    let one = rows_event-size last (rows_unturned Backward v) in
-    let other = rows_event-size last (rows_in Backward v) in
+    let one = rows_event-size last (reversed_rows v) in
+    let other = rows_event-size true v in
     omega arith
 
--- they are part of the event
-pub images-within : (order : Order) (last : Bool) (v : RowsEvent) → length (concat v.images) ≤ event_size (rows_event last (rows_unturned order v))
-images-within order last v = let size = rows_event-size last (rows_unturned order v) in omega arith
+-- front and images make up its body
+pub turned-parts : (last : Bool) (v : RowsEvent) (front : List ℕ) → front ≡ front_of last (reversed_rows v) → event_size (rows_event true v) ≡ 19 + (length front + length (concat v.images))
+turned-parts last v front fronted =
+    let w = reversed_rows v in
+    let size = turned-size last v in
+    let parts = body-size last w (front_of last w ++ concat w.images) (front-and-images last w) in
+    let both = length-append (front_of last w) (concat w.images) in
+    let own = ap length fronted in
+    let images = length-concat-reverse v.images in
+    omega arith
 
--- what stands in front of them
-abbrev front : ℕ → Bool → RowsEvent → ℕ → List ℕ
-front pos last v n =
-    little_bytes 4 v.timestamp ++ (number_of_kind v.kind ∷ (little_bytes 4 v.server_id ++ (little_bytes 4 n ++ (little_bytes 4 (pos + n) ++ (little_bytes 2 v.header_flags
-    ++ (v.id ++ (little_bytes 2 (if last then v.flags + 1 else v.flags) ++ (2 ∷ 0 ∷ (v.count ++ concat v.bitmaps)))))))))
+-- an event's header
+abbrev header_of : Event → List ℕ
+header_of e = little_bytes 4 e.timestamp ++ (e.kind ∷ (little_bytes 4 e.server_id ++ (little_bytes 4 (event_size e) ++ (little_bytes 4 e.log_pos ++ little_bytes 2 e.flags))))
 
--- lists that are joined from the right, with one more behind
-behind-nine : (a b c d e f g h i z : List ℕ) (k : ℕ) → a ++ (k ∷ (b ++ (c ++ (d ++ (e ++ (f ++ (g ++ (2 ∷ 0 ∷ (h ++ (i ++ z))))))))))
-    ≡ (a ++ (k ∷ (b ++ (c ++ (d ++ (e ++ (f ++ (g ++ (2 ∷ 0 ∷ (h ++ i)))))))))) ++ z
-behind-nine a b c d e f g h i z k =
-    sym (append_assoc a (k ∷ (b ++ (c ++ (d ++ (e ++ (f ++ (g ++ (2 ∷ 0 ∷ (h ++ i))))))))) z
-    ∙ ap (λ xs. a ++ (k ∷ xs)) (append_assoc b (c ++ (d ++ (e ++ (f ++ (g ++ (2 ∷ 0 ∷ (h ++ i))))))) z
-    ∙ ap (λ xs. b ++ xs) (append_assoc c (d ++ (e ++ (f ++ (g ++ (2 ∷ 0 ∷ (h ++ i)))))) z
-    ∙ ap (λ xs. c ++ xs) (append_assoc d (e ++ (f ++ (g ++ (2 ∷ 0 ∷ (h ++ i))))) z
-    ∙ ap (λ xs. d ++ xs) (append_assoc e (f ++ (g ++ (2 ∷ 0 ∷ (h ++ i)))) z
-    ∙ ap (λ xs. e ++ xs) (append_assoc f (g ++ (2 ∷ 0 ∷ (h ++ i))) z
-    ∙ ap (λ xs. f ++ xs) (append_assoc g (2 ∷ 0 ∷ (h ++ i)) z
-    ∙ ap (λ xs. g ++ (2 ∷ 0 ∷ xs)) (append_assoc h i z))))))))
+header-len : (e : Event) → length (header_of e) ≡ 19
+header-len e =
+    let timestamp = length-bytes_low_first 0 4 e.timestamp in
+    let server = length-bytes_low_first 0 4 e.server_id in
+    let size = length-bytes_low_first 0 4 (event_size e) in
+    let pos = length-bytes_low_first 0 4 e.log_pos in
+    let flags = length-bytes_low_first 0 2 e.flags in
+    let one = length-append (little_bytes 4 e.timestamp) (e.kind ∷ (little_bytes 4 e.server_id ++ (little_bytes 4 (event_size e) ++ (little_bytes 4 e.log_pos ++ little_bytes 2 e.flags)))) in
+    let two = length-append (little_bytes 4 e.server_id) (little_bytes 4 (event_size e) ++ (little_bytes 4 e.log_pos ++ little_bytes 2 e.flags)) in
+    let three = length-append (little_bytes 4 (event_size e)) (little_bytes 4 e.log_pos ++ little_bytes 2 e.flags) in
+    let four = length-append (little_bytes 4 e.log_pos) (little_bytes 2 e.flags) in
+    omega arith
 
-text-parts : (pos : ℕ) (last : Bool) (v : RowsEvent) → text_from pos (rows_event last v ∷ []) ≡ front pos last v (event_size (rows_event last v)) ++ concat v.images
-unfolding rows_event event_text
-text-parts pos last v =
-    let n = event_size (rows_event last v) in
-    append-nil _
-    ∙ behind-nine (little_bytes 4 v.timestamp) (little_bytes 4 v.server_id) (little_bytes 4 n) (little_bytes 4 (pos + n)) (little_bytes 2 v.header_flags) v.id
-    (little_bytes 2 (if last then v.flags + 1 else v.flags)) v.count (concat v.bitmaps) (concat v.images) (number_of_kind v.kind)
+header-and-body : (e : Event) → event_text e ≡ header_of e ++ e.body
+unfolding event_text
+header-and-body e =
+    let flags : List ℕ = little_bytes 2 e.flags in
+    let pos : List ℕ = little_bytes 4 e.log_pos in
+    let size : List ℕ = little_bytes 4 (event_size e) in
+    let server : List ℕ = little_bytes 4 e.server_id in
+    sym (append_assoc (little_bytes 4 e.timestamp) (e.kind ∷ (server ++ (size ++ (pos ++ flags)))) e.body
+    ∙ ap (λ (xs : List ℕ). little_bytes 4 e.timestamp ++ (e.kind ∷ xs)) (append_assoc server (size ++ (pos ++ flags)) e.body
+    ∙ ap (λ (xs : List ℕ). server ++ xs) (append_assoc size (pos ++ flags) e.body
+    ∙ ap (λ (xs : List ℕ). size ++ xs) (append_assoc pos flags e.body))))
 
--- the last of two lists is replaced
-last-replaced : (old head images turned items : List ℕ) (len : ℕ) → items ≡ old ++ (head ++ images) → len ≡ length items → take (len - length images) items ++ turned ≡ old ++ (head ++ turned)
-last-replaced old head images turned items len is long =
-    let joined : items ≡ (old ++ head) ++ images = is ∙ sym (append_assoc old head images) in
-    let lengths = ap length joined ∙ length-append (old ++ head) images in
-    let number : len - length images ≡ length (old ++ head) = omega arith in
-    ap₂ (λ (n : ℕ) (bytes : List ℕ). take n bytes ++ turned) number joined
-    ∙ ap (λ (bytes : List ℕ). bytes ++ turned) (take_at (old ++ head) images (length (old ++ head)) refl)
-    ∙ append_assoc old head turned
+-- a front is written over the body's front, and then the body's end is replaced
+body-replaced : (old opened written front turned : List ℕ) (e : Event) (at len n : ℕ) → at ≡ length old + 19 → opened ≡ old ++ event_text e
+    → written ≡ take at opened ++ (front ++ drop (at + length front) opened) → len ≡ length written → length front + n ≡ length e.body
+    → take (len - n) written ++ turned ≡ old ++ (header_of e ++ (front ++ turned))
+body-replaced old opened written front turned e at len n begins is over long sizes =
+    let header = header-len e in
+    let parts : opened ≡ (old ++ header_of e) ++ e.body = is ∙ ap (λ (xs : List ℕ). old ++ xs) (header-and-body e) ∙ sym (append_assoc old (header_of e) e.body) in
+    let ahead = length-append old (header_of e) in
+    let all = ap length parts ∙ length-append (old ++ header_of e) e.body in
+    let kept : take at opened ≡ old ++ header_of e = ap (take at) parts ∙ take_at (old ++ header_of e) e.body at (omega arith) in
+    let left = length-drop (at + length front) opened in
+    let joined : written ≡ ((old ++ header_of e) ++ front) ++ drop (at + length front) opened =
+    over ∙ ap (λ (xs : List ℕ). xs ++ (front ++ drop (at + length front) opened)) kept ∙ sym (append_assoc (old ++ header_of e) front (drop (at + length front) opened)) in
+    let lengths = ap length joined ∙ length-append ((old ++ header_of e) ++ front) (drop (at + length front) opened) in
+    let number : length ((old ++ header_of e) ++ front) ≡ len - n = omega arith in
+    ap (λ (xs : List ℕ). take (len - n) xs ++ turned) joined
+    ∙ ap (λ (xs : List ℕ). xs ++ turned) (take_at ((old ++ header_of e) ++ front) (drop (at + length front) opened) (len - n) number)
+    ∙ append_assoc (old ++ header_of e) front turned
+    ∙ append_assoc old (header_of e) (front ++ turned)
 
--- with its images in reverse order, it is the event that undoes it
-pub reversed-text : (old items : List ℕ) (pos len : ℕ) (last : Bool) (v : RowsEvent) → items ≡ old ++ text_from pos (rows_event last (rows_unturned Backward v) ∷ []) → len ≡ length items
-    → take (len - length (concat v.images)) items ++ concat (reverse v.images) ≡ old ++ text_from pos (rows_event last (rows_in Backward v) ∷ [])
-reversed-text old items pos len last v is long =
-    let n = event_size (rows_event last (rows_unturned Backward v)) in
-    let before : items ≡ old ++ (front pos last (rows_unturned Backward v) n ++ concat v.images) = is ∙ ap (λ (text : List ℕ). old ++ text) (text-parts pos last (rows_unturned Backward v)) in
-    last-replaced old (front pos last (rows_unturned Backward v) n) (concat v.images) (concat (reverse v.images)) items len before long
-    ∙ ap (λ (m : ℕ). old ++ (front pos last (rows_in Backward v) m ++ concat (reverse v.images))) (turned-size Backward last v)
-    ∙ ap (λ (text : List ℕ). old ++ text) (sym (text-parts pos last (rows_in Backward v)))
+-- so the event is there that has this front and these images
+pub turned-text : (old opened written : List ℕ) (last : Bool) (v : RowsEvent) (pos kind at len n : ℕ) (front turned zeros : List ℕ) → kind ≡ number_of_kind v.kind
+    → front ≡ front_of last v → turned ≡ concat v.images → pos ≡ length old → at ≡ pos + 19 → opened ≡ old ++ event_text (appended_as v pos kind zeros)
+    → written ≡ take at opened ++ (front ++ drop (at + length front) opened) → len ≡ length written → n ≡ length turned → length zeros ≡ length front + n
+    → take (len - n) written ++ turned ≡ old ++ text_from pos (rows_event last v ∷ [])
+turned-text old opened written last v pos kind at len n front turned zeros numbered fronted reversed begins behind is over long images sizes =
+    let body : front ++ turned ≡ texts.rows_body last v = ap₂ ◌++◌ fronted reversed ∙ front-and-images last v in
+    let size : length zeros ≡ length (front ++ turned) = sizes ∙ ap (λ (m : ℕ). length front + m) images ∙ sym (length-append front turned) in
+    body-replaced old opened written front turned (appended_as v pos kind zeros) at len n (omega arith) is over long (sym sizes)
+    ∙ ap (λ (m : ℕ). old ++ (little_bytes 4 v.timestamp ++ (kind ∷ (little_bytes 4 v.server_id ++ (little_bytes 4 (19 + m) ++ (little_bytes 4 (pos + (19 + m)) ++ little_bytes 2 v.header_flags)))) ++ (front ++ turned))) size
+    ∙ ap (λ (xs : List ℕ). old ++ xs) (sym (header-and-body (appended_as v pos kind (front ++ turned))) ∙ written-text last v pos kind (front ++ turned) numbered body)

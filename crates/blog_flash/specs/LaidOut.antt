@@ -67,10 +67,6 @@ rows_seen e r = let b = rows_body r in record {
   images = b.images;
 }
 
--- what is written before its images are put in order
-abbrev pub rows_unturned : Order → RowsEvent → RowsEvent
-rows_unturned order r = record (rows_in order r) { images = r.images }
-
 -- its flags, with the end flag set or clear
 abbrev pub flags_by : Bool → RowsEvent → ℕ
 flags_by last r = if last then r.flags + 1 else r.flags

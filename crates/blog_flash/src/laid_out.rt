@@ -1,21 +1,23 @@
 //! Laying out the groups of an index as a log: in normal form, or as the log that undoes them.
 
-ghost use Rattle.std.specs.Prelude.{◌≡◌, ◌+◌, ◌-◌, ◌<◌, ◌≤◌, [], ◌∷◌, ◌++◌, length, take, reverse, IsSome, IfOk, IfErr, vec_len, vec_capacity};
+ghost use Rattle.std.specs.Prelude.{◌≡◌, ◌+◌, ◌-◌, ◌<◌, ◌≤◌, [], ◌∷◌, ◌++◌, length, take, drop, reverse, IsSome, IfOk, IfErr, vec_len, vec_capacity};
 ghost use Rattle.std.specs.List.{flat_map, concat};
 ghost use Rattle.byteorder.specs.Endian.{little_bytes};
 ghost use Rattle.blog_event.specs.Event.{event_of, unplaced};
 ghost use Rattle.blog_event.specs.File.{end_of, read};
+ghost use Rattle.blog_event.specs.Writing.{joined};
 ghost use Rattle.blog_event.specs.declared.fault.Fault.TheVariants.{OutOfMemory};
 ghost use Rattle.blog_row.specs.RowsEvent.{rows_text};
 ghost use Rattle.blog_row.specs.RowsEventView.{rows_body};
 ghost use Rattle.blog_trans.specs.Groups.{groups};
 ghost use Rattle.blog_trans.specs.IndexView.{index_bytes, index_selection, index_groups, statement_at};
-ghost use Rattle.blog_flash.specs.LaidOut.{text_from, rows_in, rows_seen, rows_unturned, flags_by, groups_in, maps_of, rows_of, statement_of, statements_of, transaction_of, transactions_of};
+ghost use Rattle.blog_flash.specs.LaidOut.{text_from, rows_in, rows_seen, flags_by, groups_in, maps_of, rows_of, statement_of, statements_of, transaction_of, transactions_of};
+ghost use Rattle.blog_flash.specs.Reversal.{reversed_rows};
 ghost use Rattle.blog_flash.specs.Texts.{rows_event, rows_events, statement_events, group_events, laid_out_after};
 
-use crate::lengths::text_len;
+use crate::lengths::{rows_event_end, text_len};
 use crate::order::Order;
-use blog_event::{Event, Fault, Header, put_event};
+use blog_event::{Event, Fault, HEADER_LEN, Header, open_event, put_event};
 use blog_row::RowsEvent;
 use blog_trans::Index;
 use byteorder::{ByteOrder, LittleEndian};
@@ -48,29 +50,60 @@ fn flag_bytes(event: &Event<'_>, rows: &RowsEvent<'_>, last: bool) -> [u8; 2]
     bytes
 }
 
-/// Appends a rows event with its images as they were read.
-fn put_unturned<A: Allocator>(
+/// Writes slices over bytes, one after the other, from the front on.
+fn write_over(to: &mut [u8], parts: &[&[u8]])
+    requires { length (joined parts.now) ≤ length to.old }
+    ensures { to.new ≡ joined parts.now ++ drop (length (joined parts.now)) to.old }
+{
+    let mut at = 0;
+    for part in parts {
+        to[at..at + part.len()].copy_from_slice(part);
+        at += part.len();
+    }
+}
+
+/// Writes slices over the bytes of `out` from position `at` on.
+fn write_behind<A: Allocator>(out: &mut Vec<u8, A>, at: usize, parts: &[&[u8]])
+    requires within { at + length (joined parts.now) ≤ vec_len out.old }
+    ensures items { out.new.items ≡ take at out.old.items ++ (joined parts.now ++ drop (at + length (joined parts.now)) out.old.items) }
+    ensures len { vec_len out.new ≡ vec_len out.old }
+    ensures capacity { vec_capacity out.old ≤ vec_capacity out.new }
+{
+    write_over(&mut out[at..], parts);
+}
+
+/// Puts the images of a rows event, whose room stands last, in reverse order.
+fn reverse_last<A: Allocator>(out: &mut Vec<u8, A>, rows: &RowsEvent<'_>)
+    requires within { length (concat (rows_body rows.now).images) ≤ vec_len out.old }
+    ensures items { out.new.items ≡ take (vec_len out.old - length (concat (rows_body rows.now).images)) out.old.items ++ concat (reverse (rows_body rows.now).images) }
+    ensures len { vec_len out.new ≡ vec_len out.old }
+    ensures capacity { vec_capacity out.old ≤ vec_capacity out.new }
+{
+    let start = out.len() - rows.rows_len();
+    rows.put_reversed(&mut out[start..]);
+}
+
+/// Appends a rows event as it was read, but for its flags and extra bytes.
+fn put_copied<A: Allocator>(
     out: &mut Vec<u8, A>,
-    order: Order,
     event: &Event<'_>,
     rows: &RowsEvent<'_>,
     last: bool,
 )
     requires body { event.now.body.now ≡ rows_text (rows_body rows.now) }
-    requires room { end_of (vec_len out.old) (rows_event last (rows_unturned order (rows_seen event.now rows.now)) ∷ []) ≤ vec_capacity out.old }
-    requires short { end_of (vec_len out.old) (rows_event last (rows_unturned order (rows_seen event.now rows.now)) ∷ []) ≤ 4294967295 }
-    ensures items { out.new.items ≡ out.old.items ++ text_from (vec_len out.old) (rows_event last (rows_unturned order (rows_seen event.now rows.now)) ∷ []) }
-    ensures len { vec_len out.new ≡ end_of (vec_len out.old) (rows_event last (rows_unturned order (rows_seen event.now rows.now)) ∷ []) }
+    requires room { end_of (vec_len out.old) (rows_event last (rows_seen event.now rows.now) ∷ []) ≤ vec_capacity out.old }
+    requires short { end_of (vec_len out.old) (rows_event last (rows_seen event.now rows.now) ∷ []) ≤ 4294967295 }
+    ensures items { out.new.items ≡ out.old.items ++ text_from (vec_len out.old) (rows_event last (rows_seen event.now rows.now) ∷ []) }
+    ensures len { vec_len out.new ≡ end_of (vec_len out.old) (rows_event last (rows_seen event.now rows.now) ∷ []) }
     ensures capacity { vec_capacity out.old ≤ vec_capacity out.new }
 {
-    let kind = order.kind(rows.kind()).number();
     let header = Header {
-        kind,
+        kind: rows.kind().number(),
         ..event.header
     };
     let id = &event.body[..6];
     let flags = flag_bytes(event, rows, last);
-    let (first, second) = order.bitmaps(rows);
+    let (first, second) = Order::Forward.bitmaps(rows);
     let parts = [
         id,
         &flags,
@@ -83,15 +116,32 @@ fn put_unturned<A: Allocator>(
     put_event(out, header, &parts).unwrap();
 }
 
-/// Puts the images of a rows event, which stand last, in reverse order.
-fn reverse_last<A: Allocator>(out: &mut Vec<u8, A>, rows: &RowsEvent<'_>)
-    requires within { length (concat (rows_body rows.now).images) ≤ vec_len out.old }
-    ensures items { out.new.items ≡ take (vec_len out.old - length (concat (rows_body rows.now).images)) out.old.items ++ concat (reverse (rows_body rows.now).images) }
-    ensures len { vec_len out.new ≡ vec_len out.old }
+/// Appends the rows event that undoes one: its images are put in reverse order into the end of its body.
+fn put_turned<A: Allocator>(
+    out: &mut Vec<u8, A>,
+    event: &Event<'_>,
+    rows: &RowsEvent<'_>,
+    last: bool,
+)
+    requires body { event.now.body.now ≡ rows_text (rows_body rows.now) }
+    requires room { end_of (vec_len out.old) (rows_event last (reversed_rows (rows_seen event.now rows.now)) ∷ []) ≤ vec_capacity out.old }
+    requires short { end_of (vec_len out.old) (rows_event last (reversed_rows (rows_seen event.now rows.now)) ∷ []) ≤ 4294967295 }
+    ensures items { out.new.items ≡ out.old.items ++ text_from (vec_len out.old) (rows_event last (reversed_rows (rows_seen event.now rows.now)) ∷ []) }
+    ensures len { vec_len out.new ≡ end_of (vec_len out.old) (rows_event last (reversed_rows (rows_seen event.now rows.now)) ∷ []) }
     ensures capacity { vec_capacity out.old ≤ vec_capacity out.new }
 {
-    let start = out.len() - rows.rows_len();
-    rows.put_reversed(&mut out[start..]);
+    let header = Header {
+        kind: Order::Backward.kind(rows.kind()).number(),
+        ..event.header
+    };
+    let id = &event.body[..6];
+    let flags = flag_bytes(event, rows, last);
+    let (first, second) = Order::Backward.bitmaps(rows);
+    let body_len = rows_event_end(rows, event, 0) - HEADER_LEN;
+    let body = open_event(out, header, body_len).unwrap();
+    let front = [id, &flags, &NO_EXTRA, rows.count(), first, second];
+    write_behind(out, body, &front);
+    reverse_last(out, rows);
 }
 
 /// Appends a rows event, with the log_pos that it has there and without extra bytes; backward it undoes its rows, the
@@ -110,10 +160,9 @@ fn put_rows_event<A: Allocator>(
     ensures len { vec_len out.new ≡ end_of (vec_len out.old) (rows_event last (rows_in order (rows_seen event.now rows.now)) ∷ []) }
     ensures capacity { vec_capacity out.old ≤ vec_capacity out.new }
 {
-    put_unturned(out, order, event, rows, last);
     match order {
-        Order::Forward => {}
-        Order::Backward => reverse_last(out, rows),
+        Order::Forward => put_copied(out, event, rows, last),
+        Order::Backward => put_turned(out, event, rows, last),
     }
 }
 

@@ -14,13 +14,10 @@ ghost use Rattle.blog_flash.specs.Texts.{rows_event, rows_events, statement_even
 ghost use Rattle.blog_flash.specs.declared.order.Order.TheVariants.{Forward};
 
 use crate::order::Order;
-use blog_event::Event;
+use blog_event::{Event, HEADER_LEN};
 use blog_row::RowsEvent;
 use blog_trans::Index;
 use std::alloc::Allocator;
-
-/// The length of an event's header.
-const HEADER_LEN: usize = 19;
 
 /// The length of a rows event's table id, flags and extra length, where it has no extra bytes.
 const FIXED_LEN: usize = 10;
@@ -34,7 +31,7 @@ fn event_end(event: &Event<'_>, pos: usize) -> usize
 }
 
 /// Where the event ends that is written at a position for a rows event.
-fn rows_event_end(rows: &RowsEvent<'_>, event: &Event<'_>, pos: usize) -> usize
+pub(crate) fn rows_event_end(rows: &RowsEvent<'_>, event: &Event<'_>, pos: usize) -> usize
     requires short { end_of pos (rows_event true (rows_seen event.now rows.now) ∷ []) ≤ 4294967295 }
     ensures { result ≡ end_of pos (rows_event true (rows_seen event.now rows.now) ∷ []) }
 {
