@@ -1,6 +1,7 @@
 //! Layouts and table maps of the format's own bytes.
 
 use super::*;
+use std::process::Abort;
 use std::test::Fail;
 
 #[test]
@@ -27,6 +28,38 @@ fn reads_or_refuses_layouts(rt: HostRuntime) {
         let columns = Layout::at(bytes).map(|layout| layout.columns());
         assert_eq!(rt; columns, want, "at {bytes:?}");
     }
+}
+
+/// The types that a table map may have.
+static TYPES: [u8; 22] = [
+    1, 2, 3, 4, 5, 7, 8, 9, 10, 11, 12, 13, 15, 16, 17, 18, 19, 245, 246, 252, 254, 255,
+];
+
+/// Columns of which one has this type, where nothing that is checked before it is wrong.
+fn check_unknown(rt: &impl Abort, kind: u8) {
+    let alone: [u8; 4] = [1, kind, 0, 0];
+    let last: [u8; 6] = [3, 3, 1, kind, 0, 0];
+    let not_last: [u8; 5] = [2, kind, 3, 0, 0];
+    // What comes behind the types is wrong too: nothing is there, or a metadata length that is no number.
+    let cut: [u8; 2] = [1, kind];
+    let wrong: [u8; 4] = [1, kind, 0xFB, 0];
+    let cases: [&[u8]; 5] = [&alone, &last, &not_last, &cut, &wrong];
+    for bytes in cases {
+        let refused = Layout::at(bytes).err();
+        assert_eq!(rt; refused, Some(RowFault::UnknownType), "at {bytes:?}");
+    }
+}
+
+#[test]
+fn refuses_every_other_type(rt: HostRuntime) {
+    // Among them NEWDATE, 14, which a server has for its own tables and writes into no log.
+    for kind in 0..=255u8 {
+        if !TYPES.contains(&kind) {
+            check_unknown(&rt, kind);
+        }
+    }
+    // With fewer types than columns it is no body, whatever types are there.
+    assert_eq!(rt; Layout::at(&[2, 14]).err(), Some(RowFault::BadBody));
 }
 
 #[test]
