@@ -1,8 +1,8 @@
 -- The content of a rows event: the body that is written is read again, and reversed rows are content too.
-use Rattle.std.proofs.Common.{◌≡◌, ℕ, ◌+◌, ◌-◌, ◌%◌, ◌<◌, ◌^◌, Bool, true, false, eqb, List, [], ◌∷◌, ◌++◌, length, reverse, Ok, refl, sym, ap, ◌∙◌, subst, arith, length-append, take_at, drop_at, le-leb, eq-eqb}
+use Rattle.std.proofs.Common.{◌≡◌, ℕ, ◌+◌, ◌-◌, ◌%◌, ◌<◌, ◌^◌, Bool, true, false, eqb, List, [], ◌∷◌, ◌++◌, length, reverse, Ok, refl, sym, ap, ◌∙◌, arith, length-append, take_at, drop_at, le-leb, eq-eqb}
 use Rattle.std.specs.Prelude.{if◌then◌else◌, nat_le}
 use Rattle.std.specs.List.{AllByRecursion, concat}
-use Rattle.std.proofs.lemmas.List.{reverse-append, length-reverse}
+use Rattle.std.proofs.lemmas.List.{length-reverse}
 use Rattle.byteorder.specs.Endian.{little_bytes, little_number}
 use Rattle.byteorder.specs.Numbers.{length-bytes_low_first, little_number-reads_back}
 use Rattle.blog_row.specs.declared.kind.RowsKind.{RowsKind}
@@ -13,6 +13,7 @@ use Rattle.blog_row.specs.Image.{IsSomeImage}
 use Rattle.blog_row.specs.RowsEvent.{RowsBody, IsFullBitmap, IsRowsBody, rows_of, fixed_len, table_id, flags_of, has_end_flag}
 use Rattle.blog_row.proofs.Images.{images_found, images_again}
 use Rattle.blog_row.proofs.Bodies.{rows_again}
+use Rattle.blog_row.proofs.ReversedRows.{all-reverse, whole-reversed}
 use Rattle.blog_trans.specs.Groups.{RowsEvent}
 use Rattle.blog_flash.specs.Reversal.{opposite}
 use Rattle.blog_flash.specs.Texts.{rows_body}
@@ -20,17 +21,7 @@ use Rattle.blog_flash.proofs.Formed.{IsContent}
 
 -- ---- what holds of each element
 
--- of the elements of two lists, then of both lists joined
-pub all-append : {A : Type 0} (P : A → Type 0) (xs ys : List A) → AllByRecursion P xs → AllByRecursion P ys → AllByRecursion P (xs ++ ys)
-all-append P [] ys all others = others
-all-append P (x ∷ xs) ys all others = (all.0, all-append P xs ys all.1 others)
-
--- of the elements in reverse order
-pub all-reverse : {A : Type 0} (P : A → Type 0) (xs : List A) → AllByRecursion P xs → AllByRecursion P (reverse xs)
-all-reverse P [] all = tt
-all-reverse P (x ∷ xs) all = subst (AllByRecursion P) (sym (reverse-append (x ∷ []) xs)) (all-append P (reverse xs) (x ∷ []) (all-reverse P xs all.1) (all.0, tt))
-
--- and what follows from it
+-- what follows for each element, holds of each
 pub all-by : {A : Type 0} (P Q : A → Type 0) → ((x : A) → P x → Q x) → (xs : List A) → AllByRecursion P xs → AllByRecursion Q xs
 all-by P Q by [] all = tt
 all-by P Q by (x ∷ xs) all = (by x all.0, all-by P Q by xs all.1)
@@ -63,7 +54,7 @@ content-reversed c k count bitmaps images h = record {
   enough = length-reverse bitmaps ∙ h.enough ∙ sym (images-opposite k);
   full = all-reverse (IsFullBitmap (length c)) bitmaps h.full;
   each = all-reverse (IsSomeImage c) images h.each;
-  whole = ap (λ (n : ℕ). n % images_a_row (opposite k)) (length-reverse images) ∙ ap (λ (n : ℕ). length images % n) (images-opposite k) ∙ h.whole;
+  whole = whole-reversed k (opposite k) images (images-opposite k) h.whole;
 }
 
 -- an update's images stand in pairs

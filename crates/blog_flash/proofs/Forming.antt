@@ -10,6 +10,7 @@ use Rattle.blog_row.specs.declared.kind.RowsKind.TheVariants.{Write, Update, Del
 use Rattle.blog_row.specs.declared.fault.RowFault.{RowFault}
 use Rattle.blog_row.specs.RowsKind.{number_of_kind}
 use Rattle.blog_row.specs.Column.{Layout}
+use Rattle.blog_row.proofs.ReversedRows.{all-append, all-reverse}
 use Rattle.blog_trans.specs.declared.kind.EventKind.TheVariants as kind
 use Rattle.blog_trans.specs.Kinds.{kind_of}
 use Rattle.blog_trans.specs.Acceptance.{rows_under, rows_by_map}
@@ -17,7 +18,7 @@ use Rattle.blog_trans.specs.Groups.{RowsEvent, Statement, Transaction}
 use Rattle.blog_flash.specs.Reversal.{reversed_rows, reversed_statement, reversed_transaction, reversed}
 use Rattle.blog_flash.specs.Texts.{rows_body, rows_event, rows_events, statement_events, transaction_events, group_events}
 use Rattle.blog_flash.proofs.Formed.{Fits, IsMapEvent, IsRowsEvent, IsUsed, IsStatement, IsTransaction, AreGroups}
-use Rattle.blog_flash.proofs.Content.{all-append, all-reverse, all-by, content-reversed, body-fields, body-again}
+use Rattle.blog_flash.proofs.Content.{all-by, content-reversed, body-fields, body-again}
 
 -- ---- the events of groups
 

@@ -12,6 +12,7 @@ use Rattle.blog_row.specs.declared.kind.RowsKind.{RowsKind}
 use Rattle.blog_row.specs.declared.fault.RowFault.{RowFault}
 use Rattle.blog_row.specs.RowsEvent.{RowsBody, table_id}
 use Rattle.blog_row.proofs.Cutting.{and_then_found}
+use Rattle.blog_row.proofs.ReversedRows.{all-append}
 use Rattle.blog_trans.specs.declared.kind.EventKind.{EventKind}
 use Rattle.blog_trans.specs.declared.kind.EventKind.TheVariants as kind
 use Rattle.blog_trans.specs.Selection.{Selection}
@@ -24,7 +25,7 @@ use Rattle.blog_flash.proofs.Passed.{PassBy, accepted-passes}
 use Rattle.blog_flash.proofs.Sizes.{sum_of, sum-append, sum-map, sum-joined, sum-filter, sum-kept, total, end-total}
 use Rattle.blog_flash.proofs.Apart.{statements-fit, span_sum, spans-fit}
 use Rattle.blog_flash.proofs.Totals.{own_size, placed-same}
-use Rattle.blog_flash.proofs.Content.{all-by, all-append}
+use Rattle.blog_flash.proofs.Content.{all-by}
 use Rattle.blog_flash.proofs.Forming.{all-map, all-flat_map}
 use Rattle.blog_flash.proofs.Agreeing.{Among}
 use Rattle.blog_flash.proofs.Sound.{all-given, IsSound, IsSoundSpan, spans-sound, statements-all, range-sound}

@@ -5,6 +5,7 @@ use Rattle.blog_event.specs.Event.{Event, event_size}
 use Rattle.blog_event.specs.File.{Placed, end_of}
 use Rattle.blog_event.specs.Format.{front_while}
 use Rattle.blog_row.specs.RowsEvent.{has_end_flag}
+use Rattle.blog_row.proofs.ReversedRows.{all-append}
 use Rattle.blog_trans.specs.declared.kind.EventKind.{EventKind}
 use Rattle.blog_trans.specs.declared.kind.EventKind.TheVariants as kind
 use Rattle.blog_trans.specs.Kinds.{kind_of, is_begin_kind, is_end_kind, rows_of_kind}
@@ -13,7 +14,7 @@ use Rattle.blog_trans.specs.Groups.{Span, spans, onto_first, statements_of, Rows
 use Rattle.blog_flash.specs.Texts.{rows_event, rows_events, statement_events, transaction_events}
 use Rattle.blog_flash.proofs.Formed.{IsMapEvent, IsRowsEvent, IsStatement, IsEndEvent, IsTransaction}
 use Rattle.blog_flash.proofs.Standing.{stood, stood-append}
-use Rattle.blog_flash.proofs.Content.{all-append, all-by, body-ends}
+use Rattle.blog_flash.proofs.Content.{all-by, body-ends}
 use Rattle.blog_flash.proofs.Forming.{all-flat_map, kind-placed, rows_event-kind, rows_event-body}
 
 -- ---- kinds

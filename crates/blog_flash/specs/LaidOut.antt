@@ -7,7 +7,7 @@ use Rattle.blog_event.specs.declared.event.Event as told
 use Rattle.blog_event.specs.Event.{Event, event_text}
 use Rattle.blog_row.specs.declared.kind.RowsKind.{RowsKind}
 use Rattle.blog_row.specs.declared.rows_event.RowsEvent as seen
-use Rattle.blog_row.specs.RowsEventView.{rows_body}
+use Rattle.blog_row.specs.RowsEventView.{rows_kind, rows_body}
 use Rattle.blog_trans.specs.Groups.{PlacedTransaction, RowsEvent, Statement, Transaction, event_value, statement_value, transaction_value}
 use Rattle.blog_trans.specs.IndexView.{statement_at}
 use Rattle.blog_flash.specs.declared.order.Order.{Order}
@@ -59,7 +59,7 @@ rows_seen e r = let b = rows_body r in record {
   server_id = e.header.server_id;
   header_flags = e.header.flags;
   map = [];
-  kind = r.kind;
+  kind = rows_kind r;
   id = b.id;
   flags = little_number 2 b.flags - little_number 2 b.flags % 2;
   count = b.count;

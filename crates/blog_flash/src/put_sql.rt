@@ -3,7 +3,7 @@
 ghost use Rattle.std.specs.Prelude.{◌≡◌, ◌<◌, ◌++◌, length, IfOk, OnOk, IsSome};
 ghost use Rattle.blog_row.specs.LayoutView.{layout_columns};
 ghost use Rattle.blog_row.specs.RowsEvent.{rows_by};
-ghost use Rattle.blog_row.specs.RowsEventView.{rows_body};
+ghost use Rattle.blog_row.specs.RowsEventView.{rows_kind, rows_layout, rows_body};
 ghost use Rattle.blog_row.specs.TableMapView.{map_names};
 ghost use Rattle.blog_trans.specs.Groups.{groups};
 ghost use Rattle.blog_trans.specs.IndexView.{index_bytes, index_selection, index_groups, statement_at};
@@ -22,7 +22,7 @@ fn put_changes<A: Allocator + Copy>(
     map: &TableMap<'_>,
     rows: &RowsEvent<'_>,
 ) -> Result<(), AllocError>
-    ensures { OnOk result (out.new.items ≡ out.old.items ++ images_lines (map_names map.now).table (layout_columns rows.now.layout) (rows_by rows.now.kind (rows_body rows.now).images)) }
+    ensures { OnOk result (out.new.items ≡ out.old.items ++ images_lines (map_names map.now).table (layout_columns (rows_layout rows.now)) (rows_by (rows_kind rows.now) (rows_body rows.now).images)) }
 {
     let layout = rows.layout();
     for row in rows.rows() {

@@ -14,5 +14,6 @@ pub mod LayoutCode
 pub mod TableMapCode
 pub mod RowsCode
 pub mod Reversing
+pub mod ReversedRows
 pub mod KnownRows
 pub mod RowsWalking

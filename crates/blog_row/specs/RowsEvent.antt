@@ -1,5 +1,5 @@
 -- The body of a rows event, version 2 (MySQL Internals manual, "Rows_event").
-use Rattle.std.specs.Prelude.{◌≡◌, ◌+◌, ◌-◌, ◌%◌, ◌<◌, ℕ, zero, suc, ◌==◌, nat_le, Bool, true, ◌&&◌, List, [], ◌∷◌, ◌++◌, length, take, drop, map, Option, Some, None, Result, Ok}
+use Rattle.std.specs.Prelude.{◌≡◌, ◌+◌, ◌-◌, ◌%◌, ◌<◌, ℕ, zero, suc, ◌==◌, nat_le, Bool, true, ◌&&◌, List, [], ◌∷◌, ◌++◌, length, take, drop, map, reverse, Option, Some, None, Result, Ok}
 use Rattle.std.specs.List.{list_all, concat, AllByRecursion}
 use Rattle.byteorder.specs.Endian.{little_number}
 use Rattle.blog_row.specs.declared.kind.RowsKind.{RowsKind}
@@ -78,6 +78,20 @@ rows_of kind layout body = do
         check (length images % images_a_row kind == 0) BadBody
             (Ok (record { id = id; flags = flags; extra_len = extra_len; extra = extra; count = count; bitmaps = bitmaps; images = images })))))
 
+-- ---- bitmaps
+
+-- a second bitmap is that of an update
+abbrev pub bitmaps_by : RowsKind → List ℕ → List ℕ → List (List ℕ)
+bitmaps_by Write first second = first ∷ []
+bitmaps_by Update first second = first ∷ second ∷ []
+bitmaps_by Delete first second = first ∷ []
+
+-- the bitmaps as two, the second empty where there is none
+abbrev pub two_bitmaps : List (List ℕ) → List ℕ × List ℕ
+two_bitmaps [] = ([], [])
+two_bitmaps (first ∷ []) = (first, [])
+two_bitmaps (first ∷ second ∷ others) = (first, second)
+
 -- ---- the fixed part of any rows body
 
 -- the ten bytes of id, flags and extra length
@@ -112,3 +126,8 @@ abbrev pub rows_by : RowsKind → List (List ℕ) → List RowImages
 rows_by Write images = map (λ image. record { before = None; after = Some image }) images
 rows_by Update images = updated_rows images
 rows_by Delete images = map (λ image. record { before = Some image; after = None }) images
+
+-- the fields with the bitmaps and the images in reverse order: so the rows are, and of an update the two bitmaps and each
+-- row's two images are exchanged
+abbrev pub reversed_body : RowsBody → RowsBody
+reversed_body b = record b { bitmaps = reverse b.bitmaps; images = reverse b.images }

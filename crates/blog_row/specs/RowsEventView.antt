@@ -1,24 +1,31 @@
 -- What a contract sees of a rows event, and what the calls that read one give.
-use Rattle.std.specs.Prelude.{ℕ, ◌-◌, nat_le, if◌then◌else◌, List, [], ◌∷◌, length, Option, None, Result, Ok, Err, option_map, option_and_then, unwrap_or}
+use Rattle.std.specs.Prelude.{ℕ, ◌-◌, nat_le, if◌then◌else◌, List, [], length, Option, None, Result, Ok, Err, option_map, option_and_then, unwrap_or}
 use Rattle.byteorder.specs.Endian.{little_number}
 use Rattle.blog_row.specs.declared.fault.RowFault.{RowFault}
 use Rattle.blog_row.specs.declared.fault.RowFault.TheVariants.{BadBody}
 use Rattle.blog_row.specs.declared.kind.RowsKind.{RowsKind}
-use Rattle.blog_row.specs.declared.kind.RowsKind.TheVariants.{Write, Update, Delete}
 use Rattle.blog_row.specs.declared.rows_head.RowsHead as head
 use Rattle.blog_row.specs.declared.rows_parts.Front as front
 use Rattle.blog_row.specs.declared.rows_parts.Bitmaps as bits
 use Rattle.blog_row.specs.declared.rows_event.RowsEvent as told
+use Rattle.blog_row.specs.declared.layout.Layout as columns
 use Rattle.blog_row.specs.Checks.{cut}
 use Rattle.blog_row.specs.Image.{images_of}
 use Rattle.blog_row.specs.LayoutView.{layout_columns}
-use Rattle.blog_row.specs.RowsEvent.{RowsBody, fixed_len, table_id, flags_of}
+use Rattle.blog_row.specs.RowsEvent.{RowsBody, bitmaps_by, fixed_len, table_id, flags_of}
 
 -- ---- the fixed part
 
 -- the table id and the flags, where the body is as long as its fixed part
 abbrev pub head_of : List ℕ → Result head.RowsHead RowFault
 head_of body = if nat_le fixed_len (length body) then Ok (record { table = little_number 6 (table_id body); bits = flags_of body }) else Err BadBody
+
+-- the table id and the flags that were read
+abbrev pub head_table : head.RowsHead → ℕ
+head_table head = head.table
+
+abbrev pub head_flags : head.RowsHead → ℕ
+head_flags head = head.bits
 
 -- ---- the parts
 
@@ -40,17 +47,18 @@ unfoldable pub rows_front : List ℕ → Option FrontParts
 rows_front body =
     option_and_then (λ id. option_and_then (λ flags. option_and_then (λ extra_len. extra_front id flags extra_len) (cut 2 flags.1)) (cut 2 id.1)) (cut 6 body)
 
--- a second bitmap is that of an update
-abbrev pub bitmaps_by : RowsKind → List ℕ → List ℕ → List (List ℕ)
-bitmaps_by Write first second = first ∷ []
-bitmaps_by Update first second = first ∷ second ∷ []
-bitmaps_by Delete first second = first ∷ []
-
 -- the bitmaps, and the bytes behind them
 abbrev pub bitmaps_seen : RowsKind → bits.Bitmaps → List (List ℕ) × List ℕ
 bitmaps_seen kind b = (bitmaps_by kind b.first.now b.second.now, b.rest.now)
 
 -- ---- the event
+
+-- what it does to its rows, and the columns of its table
+abbrev pub rows_kind : told.RowsEvent → RowsKind
+rows_kind event = event.kind
+
+abbrev pub rows_layout : told.RowsEvent → columns.Layout
+rows_layout event = event.layout
 
 -- the fields of the body
 abbrev pub rows_body : told.RowsEvent → RowsBody

@@ -31,7 +31,7 @@ impl RowsKind {
 
     /// How many images a row has, and how many bitmaps an event: two in an update, else one.
     pub fn images_a_row(self) -> usize
-        ensures { result ≡ images_a_row self }
+        ensures images { result ≡ images_a_row self }
     {
         match self {
             RowsKind::Write | RowsKind::Delete => 1,

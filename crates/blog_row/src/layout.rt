@@ -40,7 +40,7 @@ impl Layout<'_> {
 
     /// Whether both have the same columns: equal types, and equal metadata.
     pub fn same(&self, other: &Layout<'_>) -> bool
-        ensures { result ≡ is_same_layout (layout_columns self.now) (layout_columns other.now) }
+        ensures same { result ≡ is_same_layout (layout_columns self.now) (layout_columns other.now) }
     {
         self.kinds == other.kinds && self.metadata == other.metadata
     }
@@ -59,7 +59,7 @@ impl Layout<'_> {
     /// The value of a column, counted from 0, in the image with which the bytes begin: its bytes without their
     /// length, or None in it where it is NULL. None where they begin with no image or it has no such column.
     pub fn value<'b>(&self, image: &'b [u8], column: usize) -> Option<Option<&'b [u8]>>
-        ensures { value_seen result ≡ value_of (layout_columns self.now) image.now column }
+        ensures value { value_seen result ≡ value_of (layout_columns self.now) image.now column }
     {
         image_at(self.kinds, self.metadata, image, column)?.value
     }

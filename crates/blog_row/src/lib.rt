@@ -22,7 +22,7 @@ mod values;
 
 pub use fault::RowFault;
 pub use kind::RowsKind;
-pub use laws::{images_stand_alone, reading_is_exact};
+pub use laws::{images_stand_alone, reading_is_exact, reversed_rows_are_read};
 pub use layout::Layout;
 pub use names::{Names, names_at};
 pub use packed::{Packed, packed_at};

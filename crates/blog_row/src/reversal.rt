@@ -10,8 +10,8 @@ impl<'a> RowsEvent<'a> {
     /// Writes the images from the last to the first into room of their size, `rows_len` bytes. That puts the rows in
     /// reverse order, each with its images before and after exchanged. It takes no memory.
     pub fn put_reversed(&self, to: &mut [u8])
-        requires { length to.old ≡ length (concat (rows_body self.now).images) }
-        ensures { to.new ≡ concat (reverse (rows_body self.now).images) }
+        requires room { length to.old ≡ length (concat (rows_body self.now).images) }
+        ensures images { to.new ≡ concat (reverse (rows_body self.now).images) }
     {
         let mut rest = self.images();
         while !rest.is_empty() {

@@ -30,13 +30,13 @@ pub struct Rows<'a> {
 impl<'a> RowsEvent<'a> {
     ghost use Rattle.std.specs.List.{concat};
     ghost use Rattle.blog_row.specs.RowsEvent.{rows_by};
-    ghost use Rattle.blog_row.specs.RowsEventView.{rows_body};
+    ghost use Rattle.blog_row.specs.RowsEventView.{rows_kind, rows_body};
     ghost use Rattle.blog_row.specs.RowsView.{rows_left, most_left};
 
     /// The rows, in order: of an insert each image after, of a delete each image before, and of an update the images
     /// before and after, each two of which are a row. It takes no memory, and reads each image once.
     pub fn rows(&self) -> Rows<'a>
-        ensures rows { rows_left result ≡ rows_by self.now.kind (rows_body self.now).images }
+        ensures rows { rows_left result ≡ rows_by (rows_kind self.now) (rows_body self.now).images }
         ensures most { most_left result ≡ length (concat (rows_body self.now).images) }
     {
         Rows {

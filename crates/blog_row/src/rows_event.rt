@@ -3,6 +3,7 @@
 ghost use Rattle.std.specs.Prelude.{◌≡◌, ◌%◌, ◌==◌, Some, length, is_some, true};
 ghost use Rattle.blog_row.specs.Image.{images_of, bitmap_len};
 ghost use Rattle.blog_row.specs.LayoutView.{layout_columns};
+ghost use Rattle.blog_row.specs.RowsEvent.{bitmaps_by, two_bitmaps};
 
 use crate::fault::RowFault;
 use crate::kind::RowsKind;
@@ -26,6 +27,7 @@ pub struct RowsEvent<'a> {
     layout: Layout<'a>,
     pub ghost id_len: { length id.now ≡ 6 },
     pub ghost flags_len: { length flags.now ≡ 2 },
+    pub ghost two: { (first.now, second.now) ≡ two_bitmaps (bitmaps_by kind first.now second.now) },
     pub ghost imaged: { is_some (images_of (layout_columns layout) images.now) ≡ true },
 }
 
@@ -34,7 +36,7 @@ impl<'a> RowsEvent<'a> {
     ghost use Rattle.std.specs.List.{concat};
     ghost use Rattle.byteorder.specs.Endian.{little_number};
     ghost use Rattle.blog_row.specs.RowsEvent.{RowsBody, IsRowsBody, rows_of};
-    ghost use Rattle.blog_row.specs.RowsEventView.{bitmaps_by, rows_body, rows_seen, counted_seen};
+    ghost use Rattle.blog_row.specs.RowsEventView.{rows_kind, rows_layout, rows_body, rows_seen, counted_seen};
 
     /// Reads a body by its kind and by the layout of its table, or gives the first check that fails: `PartialImage`
     /// where a column isn't in the images, and otherwise `BadBody`.
@@ -46,8 +48,8 @@ impl<'a> RowsEvent<'a> {
         ensures exact { rows_seen result ≡ rows_of kind (layout_columns layout.now) body.now }
         ensures found { IfOk result (λ event. IsRowsBody kind (layout_columns layout.now) body.now (rows_body event)) }
         ensures only { (fields : RowsBody) → IsRowsBody kind (layout_columns layout.now) body.now fields → rows_seen result ≡ Ok fields }
-        ensures of_kind { IfOk result (λ event. event.kind ≡ kind) }
-        ensures of_layout { IfOk result (λ event. event.layout ≡ layout.now) }
+        ensures of_kind { IfOk result (λ event. rows_kind event ≡ kind) }
+        ensures of_layout { IfOk result (λ event. rows_layout event ≡ layout.now) }
     {
         let (event, _) = RowsEvent::read_counted(kind, body, layout)?;
         Ok(event)
@@ -61,8 +63,8 @@ impl<'a> RowsEvent<'a> {
     ) -> Result<(RowsEvent<'a>, usize), RowFault>
         ensures exact { counted_seen result ≡ rows_of kind (layout_columns layout.now) body.now }
         ensures counted { IfOk result (λ read. read.1 ≡ length (rows_body read.0).images) }
-        ensures of_kind { IfOk result (λ read. read.0.kind ≡ kind) }
-        ensures of_layout { IfOk result (λ read. read.0.layout ≡ layout.now) }
+        ensures of_kind { IfOk result (λ read. rows_kind read.0 ≡ kind) }
+        ensures of_layout { IfOk result (λ read. rows_layout read.0 ≡ layout.now) }
         ensures found { IfOk result (λ read. IsRowsBody kind (layout_columns layout.now) body.now (rows_body read.0)) }
         ensures only { (fields : RowsBody) → IsRowsBody kind (layout_columns layout.now) body.now fields → counted_seen result ≡ Ok fields }
     {
@@ -77,8 +79,8 @@ impl<'a> RowsEvent<'a> {
     ) -> Result<(RowsEvent<'a>, usize), RowFault>
         ensures exact { counted_seen result ≡ rows_of kind (layout_columns layout.now) body.now }
         ensures counted { IfOk result (λ read. read.1 ≡ length (rows_body read.0).images) }
-        ensures of_kind { IfOk result (λ read. read.0.kind ≡ kind) }
-        ensures of_layout { IfOk result (λ read. read.0.layout ≡ layout.now) }
+        ensures of_kind { IfOk result (λ read. rows_kind read.0 ≡ kind) }
+        ensures of_layout { IfOk result (λ read. rows_layout read.0 ≡ layout.now) }
     {
         let Some(front) = front_at(body) else {
             return Err(RowFault::BadBody);
@@ -122,8 +124,8 @@ impl<'a> RowsEvent<'a> {
     pub fn known(kind: RowsKind, body: &'a [u8], layout: &Layout<'a>) -> RowsEvent<'a>
         requires { IsOk (rows_of kind (layout_columns layout.now) body.now) }
         ensures body { rows_of kind (layout_columns layout.now) body.now ≡ Ok (rows_body result) }
-        ensures of_kind { result.kind ≡ kind }
-        ensures of_layout { result.layout ≡ layout.now }
+        ensures of_kind { rows_kind result ≡ kind }
+        ensures of_layout { rows_layout result ≡ layout.now }
     {
         let Some(front) = front_at(body) else {
             unreachable!();
@@ -151,21 +153,21 @@ impl<'a> RowsEvent<'a> {
 
     /// The table id, from 0 to 2^48 - 1: six bytes, the lowest first.
     pub fn table_id(&self) -> u64
-        ensures { result ≡ little_number 6 (rows_body self.now).id }
+        ensures id { result ≡ little_number 6 (rows_body self.now).id }
     {
         LittleEndian::read_u48(self.id)
     }
 
     /// The flags.
     pub fn flags(&self) -> u16
-        ensures { result ≡ little_number 2 (rows_body self.now).flags }
+        ensures flags { result ≡ little_number 2 (rows_body self.now).flags }
     {
         LittleEndian::read_u16(self.flags)
     }
 
     /// Whether the event is marked as the last rows event of its statement.
     pub fn ends(&self) -> bool
-        ensures { result ≡ (little_number 2 (rows_body self.now).flags % 2 == 1) }
+        ensures ends { result ≡ (little_number 2 (rows_body self.now).flags % 2 == 1) }
     {
         self.flags() % 2 == 1
     }
@@ -180,7 +182,7 @@ impl<'a> RowsEvent<'a> {
     /// The bitmaps of the columns present: that of the only image of a row or of the one before a change, and that of
     /// the one after, which is empty where there is none.
     pub fn bitmaps(&self) -> (&'a [u8], &'a [u8])
-        ensures { bitmaps_by self.now.kind result.0.now result.1.now ≡ (rows_body self.now).bitmaps }
+        ensures two { (result.0.now, result.1.now) ≡ two_bitmaps (rows_body self.now).bitmaps }
     {
         (self.first, self.second)
     }
@@ -188,7 +190,7 @@ impl<'a> RowsEvent<'a> {
     /// The images of all rows, one after the other.
     pub fn images(&self) -> &'a [u8]
         ensures joined { result.now ≡ concat (rows_body self.now).images }
-        ensures read { images_of (layout_columns self.now.layout) result.now ≡ Some (rows_body self.now).images }
+        ensures read { images_of (layout_columns (rows_layout self.now)) result.now ≡ Some (rows_body self.now).images }
     {
         self.images
     }
@@ -202,14 +204,14 @@ impl<'a> RowsEvent<'a> {
 
     /// The columns of the table.
     pub fn layout(&self) -> Layout<'a>
-        ensures { result ≡ self.now.layout }
+        ensures { result ≡ rows_layout self.now }
     {
         self.layout
     }
 
     /// What the event does to its rows.
     pub fn kind(&self) -> RowsKind
-        ensures { result ≡ self.now.kind }
+        ensures { result ≡ rows_kind self.now }
     {
         self.kind
     }

@@ -19,7 +19,7 @@ impl RowsHead {
     ghost use Rattle.std.specs.Prelude.{List, ℕ, Ok};
     ghost use Rattle.blog_row.specs.RowsEvent.{has_end_flag, flags_of, table_id};
     ghost use Rattle.byteorder.specs.Endian.{little_number};
-    ghost use Rattle.blog_row.specs.RowsEventView.{head_of};
+    ghost use Rattle.blog_row.specs.RowsEventView.{head_of, head_table, head_flags};
 
     /// Reads the table id and the flags: `BadBody` where the body is shorter than its fixed part of ten bytes.
     pub fn read(body: &[u8]) -> Result<RowsHead, RowFault>
@@ -37,7 +37,7 @@ impl RowsHead {
 
     /// The table id, from 0 to 2^48 - 1: six bytes, the lowest first.
     pub fn table_id(&self) -> u64
-        ensures own { result ≡ self.now.table }
+        ensures own { result ≡ head_table self.now }
         ensures body { (body : List ℕ) → head_of body ≡ Ok self.now → result ≡ little_number 6 (table_id body) }
     {
         self.table
@@ -45,7 +45,7 @@ impl RowsHead {
 
     /// The flags.
     pub fn flags(&self) -> u16
-        ensures own { result ≡ self.now.bits }
+        ensures own { result ≡ head_flags self.now }
         ensures body { (body : List ℕ) → head_of body ≡ Ok self.now → result ≡ flags_of body }
     {
         self.bits
@@ -53,7 +53,7 @@ impl RowsHead {
 
     /// Whether the event is marked as the last rows event of its statement.
     pub fn ends(&self) -> bool
-        ensures own { result ≡ (self.now.bits % 2 == 1) }
+        ensures own { result ≡ (head_flags self.now % 2 == 1) }
         ensures body { (body : List ℕ) → head_of body ≡ Ok self.now → result ≡ has_end_flag body }
     {
         self.bits % 2 == 1

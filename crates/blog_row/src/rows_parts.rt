@@ -1,13 +1,13 @@
 //! The parts of a rows event's body.
 
-ghost use Rattle.std.specs.Prelude.{◌≡◌, ◌≤◌, ◌*◌, length, option_map};
+ghost use Rattle.std.specs.Prelude.{◌≡◌, ◌≤◌, ◌*◌, length, option_map, IfSome};
 ghost use Rattle.std.specs.List.{list_all, AllByRecursion};
 ghost use Rattle.blog_row.specs.Checks.{or_bad};
 ghost use Rattle.blog_row.specs.RowsKind.{images_a_row};
 ghost use Rattle.blog_row.specs.Image.{images_of, bitmap_len};
 ghost use Rattle.blog_row.specs.LayoutView.{layout_columns};
-ghost use Rattle.blog_row.specs.RowsEvent.{are_marked, pieces};
-ghost use Rattle.blog_row.specs.RowsEventView.{front_seen, rows_front, bitmaps_seen, bitmaps_by};
+ghost use Rattle.blog_row.specs.RowsEvent.{are_marked, pieces, bitmaps_by, two_bitmaps};
+ghost use Rattle.blog_row.specs.RowsEventView.{front_seen, rows_front, bitmaps_seen};
 
 use crate::image::{cut_at, is_set};
 use crate::kind::RowsKind;
@@ -63,7 +63,8 @@ pub(crate) struct Bitmaps<'a> {
 
 /// The bitmaps at the front, of `len` bytes each.
 pub(crate) fn bitmaps_at(kind: RowsKind, len: usize, bytes: &[u8]) -> Option<Bitmaps<'_>>
-    ensures { or_bad (option_map (bitmaps_seen kind) result) ≡ pieces (images_a_row kind) len bytes.now }
+    ensures exact { or_bad (option_map (bitmaps_seen kind) result) ≡ pieces (images_a_row kind) len bytes.now }
+    ensures two { IfSome result (λ b. (b.first.now, b.second.now) ≡ two_bitmaps (bitmaps_by kind b.first.now b.second.now)) }
 {
     let (first, behind) = cut_at(len, bytes)?;
     match kind {

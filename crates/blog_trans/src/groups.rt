@@ -63,7 +63,7 @@ impl<'a, 's, A: Allocator> Index<'a, 's, A> {
     ghost use Rattle.blog_row.specs.TableMap.{names_of, layout_of};
     ghost use Rattle.blog_row.specs.TableMapView.{map_names};
     ghost use Rattle.blog_row.specs.LayoutView.{layout_columns};
-    ghost use Rattle.blog_row.specs.RowsEventView.{rows_body};
+    ghost use Rattle.blog_row.specs.RowsEventView.{rows_kind, rows_layout, rows_body};
     ghost use Rattle.blog_trans.specs.Groups.{PlacedStatement, PlacedTransaction, groups};
     ghost use Rattle.blog_trans.specs.Changes.{counts_of};
     ghost use Rattle.blog_trans.specs.TableCountView.{table_counted};
@@ -269,10 +269,10 @@ impl<'a, 's, A: Allocator> Index<'a, 's, A> {
     ) -> (Event<'a>, TableMap<'a>, RowsEvent<'a>)
         requires { IsSome (rows_at (index_groups self.now) t s r) }
         ensures event { option_map (λ x. x.event) (rows_at (index_groups self.now) t s r) ≡ Some (placed result.0) }
-        ensures kind { IfSome (rows_at (index_groups self.now) t s r) (λ x. x.kind ≡ result.2.kind) }
+        ensures kind { IfSome (rows_at (index_groups self.now) t s r) (λ x. x.kind ≡ rows_kind result.2) }
         ensures read { IfSome (rows_at (index_groups self.now) t s r) (λ x. x.body ≡ rows_body result.2) }
         ensures names { IfSome (rows_at (index_groups self.now) t s r) (λ x. names_of x.map.event.body ≡ Some (map_names result.1)) }
-        ensures layout { IfSome (rows_at (index_groups self.now) t s r) (λ x. layout_of x.map.event.body ≡ Ok (layout_columns result.2.layout)) }
+        ensures layout { IfSome (rows_at (index_groups self.now) t s r) (λ x. layout_of x.map.event.body ≡ Ok (layout_columns (rows_layout result.2))) }
         ensures size { result.0.header.size ≡ event_size (event_of result.0) }
     {
         let (event, map) = self.rows_and_map(t, s, r);

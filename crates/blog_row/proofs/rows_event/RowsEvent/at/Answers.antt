@@ -46,7 +46,7 @@ returns-in_default-bitmaps_at-clause-exact c =
     let count_is : packed_front front.4 ≡ Some count = sym c.in-Some-packed_at.ensures in
     let counted : Counted kind layout body front count = record { front_is = front_is; count_is = count_is; own = eq-eqb _ _ (c.if-count-columns.false ∙ c.columns-columns.ensures) } in
     let len : bitmap_len (length layout) ≡ c.div_ceil.result = ap bitmap_len (sym c.columns-columns.ensures) ∙ sym (c.div_ceil.ensures ∙ rounded_up _) in
-    sym (no_bitmaps kind layout body front count counted (ap (λ (k : ℕ). pieces (images_a_row kind) k count.2) len ∙ sym c.in_default-bitmaps_at.ensures))
+    sym (no_bitmaps kind layout body front count counted (ap (λ (k : ℕ). pieces (images_a_row kind) k count.2) len ∙ sym c.in_default-bitmaps_at.ensures.exact))
 
 pub returns-then-not-all_set-clause-exact : goal.returns-then-not-all_set-clause-exact
 returns-then-not-all_set-clause-exact c =
@@ -60,7 +60,7 @@ returns-then-not-all_set-clause-exact c =
     let counted : Counted kind layout body front count = record { front_is = front_is; count_is = count_is; own = eq-eqb _ _ (c.if-count-columns.false ∙ c.columns-columns.ensures) } in
     let len : bitmap_len (length layout) ≡ c.div_ceil.result = ap bitmap_len (sym c.columns-columns.ensures) ∙ sym (c.div_ceil.ensures ∙ rounded_up _) in
     let bitmaps : List (List ℕ) × List ℕ = bitmaps_seen kind c.in-Some-bitmaps_at.bitmaps in
-    let bitmaps_is : rows_of kind layout body ≡ after_bitmaps kind layout front count.1 bitmaps = bitmaps_there kind layout body front count bitmaps counted (ap (λ (k : ℕ). pieces (images_a_row kind) k count.2) len ∙ sym c.in-Some-bitmaps_at.ensures) in
+    let bitmaps_is : rows_of kind layout body ≡ after_bitmaps kind layout front count.1 bitmaps = bitmaps_there kind layout body front count bitmaps counted (ap (λ (k : ℕ). pieces (images_a_row kind) k count.2) len ∙ sym c.in-Some-bitmaps_at.ensures.exact) in
     let marked : list_all (are_marked (length layout)) bitmaps.0 ≡ false = ap (λ (k : ℕ). list_all (are_marked k) bitmaps.0) (sym c.columns-columns.ensures) ∙ sym c.if-not-all_set.ensures in
     sym (bitmaps_is ∙ partial kind layout front count.1 bitmaps marked)
 
@@ -76,7 +76,7 @@ returns-in_default-images_in-clause-exact c =
     let counted : Counted kind layout body front count = record { front_is = front_is; count_is = count_is; own = eq-eqb _ _ (c.if-count-columns.false ∙ c.columns-columns.ensures) } in
     let len : bitmap_len (length layout) ≡ c.div_ceil.result = ap bitmap_len (sym c.columns-columns.ensures) ∙ sym (c.div_ceil.ensures ∙ rounded_up _) in
     let bitmaps : List (List ℕ) × List ℕ = bitmaps_seen kind c.in-Some-bitmaps_at.bitmaps in
-    let bitmaps_is : rows_of kind layout body ≡ after_bitmaps kind layout front count.1 bitmaps = bitmaps_there kind layout body front count bitmaps counted (ap (λ (k : ℕ). pieces (images_a_row kind) k count.2) len ∙ sym c.in-Some-bitmaps_at.ensures) in
+    let bitmaps_is : rows_of kind layout body ≡ after_bitmaps kind layout front count.1 bitmaps = bitmaps_there kind layout body front count bitmaps counted (ap (λ (k : ℕ). pieces (images_a_row kind) k count.2) len ∙ sym c.in-Some-bitmaps_at.ensures.exact) in
     let marked : list_all (are_marked (length layout)) bitmaps.0 ≡ true = ap (λ (k : ℕ). list_all (are_marked k) bitmaps.0) (sym c.columns-columns.ensures) ∙ sym c.if-not-all_set.ensures in
     sym (bitmaps_is ∙ not_images kind layout front count.1 bitmaps marked (sym c.in_default-images_in.ensures))
 
@@ -92,10 +92,10 @@ returns-then-len-images_a_row-ne0-clause-exact c =
     let counted : Counted kind layout body front count = record { front_is = front_is; count_is = count_is; own = eq-eqb _ _ (c.if-count-columns.false ∙ c.columns-columns.ensures) } in
     let len : bitmap_len (length layout) ≡ c.div_ceil.result = ap bitmap_len (sym c.columns-columns.ensures) ∙ sym (c.div_ceil.ensures ∙ rounded_up _) in
     let bitmaps : List (List ℕ) × List ℕ = bitmaps_seen kind c.in-Some-bitmaps_at.bitmaps in
-    let bitmaps_is : rows_of kind layout body ≡ after_bitmaps kind layout front count.1 bitmaps = bitmaps_there kind layout body front count bitmaps counted (ap (λ (k : ℕ). pieces (images_a_row kind) k count.2) len ∙ sym c.in-Some-bitmaps_at.ensures) in
+    let bitmaps_is : rows_of kind layout body ≡ after_bitmaps kind layout front count.1 bitmaps = bitmaps_there kind layout body front count bitmaps counted (ap (λ (k : ℕ). pieces (images_a_row kind) k count.2) len ∙ sym c.in-Some-bitmaps_at.ensures.exact) in
     let marked : list_all (are_marked (length layout)) bitmaps.0 ≡ true = ap (λ (k : ℕ). list_all (are_marked k) bitmaps.0) (sym c.columns-columns.ensures) ∙ sym c.if-not-all_set.ensures in
     let images : option_map length (images_of layout bitmaps.1) ≡ Some c.in-Some-images_in.len = sym c.in-Some-images_in.ensures in
-    let whole : eqb (c.in-Some-images_in.len % images_a_row kind) 0 ≡ false = ap (λ (k : ℕ). eqb (c.in-Some-images_in.len % k) 0) (sym c.images_a_row.ensures) ∙ ne_eqb _ _ c.if-len-images_a_row-ne0.true in
+    let whole : eqb (c.in-Some-images_in.len % images_a_row kind) 0 ≡ false = ap (λ (k : ℕ). eqb (c.in-Some-images_in.len % k) 0) (sym c.images_a_row.ensures.images) ∙ ne_eqb _ _ c.if-len-images_a_row-ne0.true in
     sym (bitmaps_is ∙ odd_images kind layout front count.1 bitmaps c.in-Some-images_in.len marked images whole)
 
 pub invariant_of-event : goal.invariant_of-event
@@ -110,12 +110,12 @@ invariant_of-event c =
     let counted : Counted kind layout body front count = record { front_is = front_is; count_is = count_is; own = eq-eqb _ _ (c.if-count-columns.false ∙ c.columns-columns.ensures) } in
     let len : bitmap_len (length layout) ≡ c.div_ceil.result = ap bitmap_len (sym c.columns-columns.ensures) ∙ sym (c.div_ceil.ensures ∙ rounded_up _) in
     let bitmaps : List (List ℕ) × List ℕ = bitmaps_seen kind c.in-Some-bitmaps_at.bitmaps in
-    let bitmaps_is : rows_of kind layout body ≡ after_bitmaps kind layout front count.1 bitmaps = bitmaps_there kind layout body front count bitmaps counted (ap (λ (k : ℕ). pieces (images_a_row kind) k count.2) len ∙ sym c.in-Some-bitmaps_at.ensures) in
+    let bitmaps_is : rows_of kind layout body ≡ after_bitmaps kind layout front count.1 bitmaps = bitmaps_there kind layout body front count bitmaps counted (ap (λ (k : ℕ). pieces (images_a_row kind) k count.2) len ∙ sym c.in-Some-bitmaps_at.ensures.exact) in
     let marked : list_all (are_marked (length layout)) bitmaps.0 ≡ true = ap (λ (k : ℕ). list_all (are_marked k) bitmaps.0) (sym c.columns-columns.ensures) ∙ sym c.if-not-all_set.ensures in
     let images : option_map length (images_of layout bitmaps.1) ≡ Some c.in-Some-images_in.len = sym c.in-Some-images_in.ensures in
-    let whole : eqb (c.in-Some-images_in.len % images_a_row kind) 0 ≡ true = ap (λ (k : ℕ). eqb (c.in-Some-images_in.len % k) 0) (sym c.images_a_row.ensures) ∙ eq-eqb _ _ c.if-len-images_a_row-ne0.false in
+    let whole : eqb (c.in-Some-images_in.len % images_a_row kind) 0 ≡ true = ap (λ (k : ℕ). eqb (c.in-Some-images_in.len % k) 0) (sym c.images_a_row.ensures.images) ∙ eq-eqb _ _ c.if-len-images_a_row-ne0.false in
     let lengths = front_lengths kind layout body _ (some_columns c.args.layout.now) (bitmaps_is ∙ all_there kind layout front count.1 bitmaps c.in-Some-images_in.len marked images whole) in
-    record { id_len = lengths.0; flags_len = lengths.1; imaged = counted_are_there _ _ images }
+    record { id_len = lengths.0; flags_len = lengths.1; two = c.in-Some-bitmaps_at.ensures.two; imaged = counted_are_there _ _ images }
 
 pub returns-clause-exact : goal.returns-clause-exact
 returns-clause-exact c =
@@ -129,8 +129,8 @@ returns-clause-exact c =
     let counted : Counted kind layout body front count = record { front_is = front_is; count_is = count_is; own = eq-eqb _ _ (c.if-count-columns.false ∙ c.columns-columns.ensures) } in
     let len : bitmap_len (length layout) ≡ c.div_ceil.result = ap bitmap_len (sym c.columns-columns.ensures) ∙ sym (c.div_ceil.ensures ∙ rounded_up _) in
     let bitmaps : List (List ℕ) × List ℕ = bitmaps_seen kind c.in-Some-bitmaps_at.bitmaps in
-    let bitmaps_is : rows_of kind layout body ≡ after_bitmaps kind layout front count.1 bitmaps = bitmaps_there kind layout body front count bitmaps counted (ap (λ (k : ℕ). pieces (images_a_row kind) k count.2) len ∙ sym c.in-Some-bitmaps_at.ensures) in
+    let bitmaps_is : rows_of kind layout body ≡ after_bitmaps kind layout front count.1 bitmaps = bitmaps_there kind layout body front count bitmaps counted (ap (λ (k : ℕ). pieces (images_a_row kind) k count.2) len ∙ sym c.in-Some-bitmaps_at.ensures.exact) in
     let marked : list_all (are_marked (length layout)) bitmaps.0 ≡ true = ap (λ (k : ℕ). list_all (are_marked k) bitmaps.0) (sym c.columns-columns.ensures) ∙ sym c.if-not-all_set.ensures in
     let images : option_map length (images_of layout bitmaps.1) ≡ Some c.in-Some-images_in.len = sym c.in-Some-images_in.ensures in
-    let whole : eqb (c.in-Some-images_in.len % images_a_row kind) 0 ≡ true = ap (λ (k : ℕ). eqb (c.in-Some-images_in.len % k) 0) (sym c.images_a_row.ensures) ∙ eq-eqb _ _ c.if-len-images_a_row-ne0.false in
+    let whole : eqb (c.in-Some-images_in.len % images_a_row kind) 0 ≡ true = ap (λ (k : ℕ). eqb (c.in-Some-images_in.len % k) 0) (sym c.images_a_row.ensures.images) ∙ eq-eqb _ _ c.if-len-images_a_row-ne0.false in
     sym (bitmaps_is ∙ all_there kind layout front count.1 bitmaps c.in-Some-images_in.len marked images whole)

@@ -32,7 +32,7 @@ unreachable-requires-in_default-bitmaps_at c =
     let count : ℕ × List ℕ × List ℕ = packed_seen c.in-Some-packed_at.count in
     let count_is : packed_front front.4 ≡ Some count = sym c.in-Some-packed_at.ensures in
     let len : bitmap_len (length layout) ≡ c.div_ceil-len.result = ap bitmap_len (sym c.columns.ensures) ∙ sym (c.div_ceil-len.ensures ∙ rounded_up _) in
-    known_bitmaps kind layout body front count c.requires front_is count_is (ap (λ (k : ℕ). pieces (images_a_row kind) k count.2) len ∙ sym c.in_default-bitmaps_at.ensures)
+    known_bitmaps kind layout body front count c.requires front_is count_is (ap (λ (k : ℕ). pieces (images_a_row kind) k count.2) len ∙ sym c.in_default-bitmaps_at.ensures.exact)
 
 pub invariant_of-result : goal.invariant_of-result
 invariant_of-result c =
@@ -45,9 +45,9 @@ invariant_of-result c =
     let count_is : packed_front front.4 ≡ Some count = sym c.in-Some-packed_at.ensures in
     let len : bitmap_len (length layout) ≡ c.div_ceil-len.result = ap bitmap_len (sym c.columns.ensures) ∙ sym (c.div_ceil-len.ensures ∙ rounded_up _) in
     let bitmaps : List (List ℕ) × List ℕ = bitmaps_seen kind c.in-Some-bitmaps_at.bitmaps in
-    let bitmaps_is : pieces (images_a_row kind) (bitmap_len (length layout)) count.2 ≡ Ok bitmaps = ap (λ (k : ℕ). pieces (images_a_row kind) k count.2) len ∙ sym c.in-Some-bitmaps_at.ensures in
+    let bitmaps_is : pieces (images_a_row kind) (bitmap_len (length layout)) count.2 ≡ Ok bitmaps = ap (λ (k : ℕ). pieces (images_a_row kind) k count.2) len ∙ sym c.in-Some-bitmaps_at.ensures.exact in
     let known : KnownRows kind layout body front count.1 bitmaps = known_rows kind layout body front count bitmaps (some_columns c.args.layout.now) c.requires front_is count_is bitmaps_is in
-    record { id_len = known.id_len; flags_len = known.flags_len; imaged = known.imaged }
+    record { id_len = known.id_len; flags_len = known.flags_len; two = c.in-Some-bitmaps_at.ensures.two; imaged = known.imaged }
 
 pub returns-clause-body : goal.returns-clause-body
 returns-clause-body c =
@@ -60,6 +60,6 @@ returns-clause-body c =
     let count_is : packed_front front.4 ≡ Some count = sym c.in-Some-packed_at.ensures in
     let len : bitmap_len (length layout) ≡ c.div_ceil-len.result = ap bitmap_len (sym c.columns.ensures) ∙ sym (c.div_ceil-len.ensures ∙ rounded_up _) in
     let bitmaps : List (List ℕ) × List ℕ = bitmaps_seen kind c.in-Some-bitmaps_at.bitmaps in
-    let bitmaps_is : pieces (images_a_row kind) (bitmap_len (length layout)) count.2 ≡ Ok bitmaps = ap (λ (k : ℕ). pieces (images_a_row kind) k count.2) len ∙ sym c.in-Some-bitmaps_at.ensures in
+    let bitmaps_is : pieces (images_a_row kind) (bitmap_len (length layout)) count.2 ≡ Ok bitmaps = ap (λ (k : ℕ). pieces (images_a_row kind) k count.2) len ∙ sym c.in-Some-bitmaps_at.ensures.exact in
     let known : KnownRows kind layout body front count.1 bitmaps = known_rows kind layout body front count bitmaps (some_columns c.args.layout.now) c.requires front_is count_is bitmaps_is in
     known.read

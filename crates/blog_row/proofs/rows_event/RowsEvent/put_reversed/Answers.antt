@@ -9,7 +9,7 @@ use Rattle.blog_row.proofs.Reversing.{written_none, written_there, written_more,
 use Rattle.blog_row.proofs.rows_event.RowsEvent.put_reversed.Goals as goal
 
 pub loop-rest-init : goal.loop-rest-init
-loop-rest-init c = written_none (layout_columns c.args.self.now.layout) (rows_body c.args.self.now).images c.images-rest.result.now c.args.to.now c.images-rest.ensures.read c.requires
+loop-rest-init c = written_none (layout_columns c.args.self.now.layout) (rows_body c.args.self.now).images c.images-rest.result.now c.args.to.now c.images-rest.ensures.read c.requires.room
 
 pub unreachable-requires : goal.unreachable-requires
 unreachable-requires c =
@@ -33,4 +33,4 @@ loop-rest-preserved c =
 pub returns : goal.returns
 returns c =
     let none : length c.loop-rest.rest.now ≡ 0 = grind (arith, common_steps) in
-    written_all (layout_columns c.args.self.now.layout) _ c.loop-rest.rest.now c.loop-rest.to c.loop-rest.invariant none
+    record { images = written_all (layout_columns c.args.self.now.layout) _ c.loop-rest.rest.now c.loop-rest.to c.loop-rest.invariant none }

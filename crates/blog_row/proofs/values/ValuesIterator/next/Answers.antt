@@ -1,5 +1,5 @@
 -- The first of the columns that are left has the first of the values that are left.
-use Rattle.std.proofs.Common.{◌≡◌, ◌∙◌, ◌+◌, ℕ, List, [], length, drop, get_or, Some, None, is_some, true, false, ap, sym, arith}
+use Rattle.std.proofs.Common.{◌≡◌, ◌∙◌, ℕ, List, [], drop, get_or, Some, None, true, false, ap, sym}
 use Rattle.std.proofs.lemmas.List.{drop_all}
 use Rattle.blog_row.specs.Column.{Layout, value_front, columns_of}
 use Rattle.blog_row.specs.ColumnStep.{column_here}
