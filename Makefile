@@ -4,6 +4,7 @@ RT = rt
 PREFIX = /usr/local
 DESTDIR =
 PROGRAM = bin/flashback
+LAYERS = bin/bench_layers
 LOG = examples/mysql/multi_table.binlog
 UNDO = bin/multi_table.undo
 # shapes and sizes in MB of the logs to measure with; bench/README.md has the shapes
@@ -13,7 +14,7 @@ BENCH =
 SOURCES := $(shell find crates -path '*/out' -prune -o -type f \
 	\( -name '*.rt' -o -name '*.antt' \) -print) crates.txt HANDLES
 
-.PHONY: all demo test bench install clean
+.PHONY: all demo test bench bench_layers install clean
 
 all: $(PROGRAM)
 
@@ -31,9 +32,21 @@ demo: $(PROGRAM)
 test:
 	@$(RT) ci
 
-# measures bin/flashback if it is there
+# the program that measures the layers; rt runs it on a small log
+$(LAYERS): $(SOURCES)
+	@mkdir -p $(@D)
+	@echo "Proving and building $@, some minutes the first time; the lines of rt go to $(@D)/build_layers.txt"
+	@cd crates/bench_layers && $(RT) run -- all data/multi_table.binlog > ../../$(@D)/build_layers.txt 2>&1 \
+		|| { tail -n 20 ../../$(@D)/build_layers.txt; exit 1; }
+	@cp crates/bench_layers/out/bench_layers $@
+
+# measures each program that is there; with words in BENCH the first alone
 bench:
 	@FLASHBACK=$(PROGRAM) sh bench/run.sh $(BENCH)
+	@[ -n "$(BENCH)" ] || LAYERS=$(LAYERS) sh bench/layers.sh
+
+bench_layers: $(LAYERS)
+	@LAYERS=$(LAYERS) sh bench/layers.sh
 
 install: $(PROGRAM)
 	install -d $(DESTDIR)$(PREFIX)/bin

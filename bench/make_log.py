@@ -2,10 +2,12 @@
 """Writes a binary log of version 4 (rows events version 2, no checksum, server 5.6.51) to measure with.
 
     make_log.py SHAPE MB FILE
+    make_log.py SHAPE COUNT FILE
 
-The file has at least MB megabytes (10^6 bytes) and ends behind a whole transaction. The same words give the same
-bytes. Some transactions are built once, from random values of a fixed seed, and are repeated; from one copy to the
-next only the log positions change. On success one line is printed: the file's bytes, its events and its rows.
+The file has at least MB megabytes (10^6 bytes) and ends behind a whole transaction. A shape that is named after what
+it has many of takes their number instead, a multiple of 1,000. The same words give the same bytes. Some transactions
+are built once, from random values of a fixed seed, and are repeated; from one copy to the next only the log positions
+change. On success one line is printed: the file's bytes, its events and its rows.
 """
 
 import random
@@ -15,7 +17,8 @@ import sys
 ROTATING = 8 << 20  # bytes of the part that is repeated, at most; a cache of the processor holds less
 EVENT_SIZE = 8192   # a server begins a new rows event at about this size
 END = 1             # the flag of a statement's last rows event
-TABLE_MAP, WRITE, UPDATE, DELETE, QUERY, XID, FORMAT = 19, 30, 31, 32, 2, 16, 15
+TABLE_MAP, WRITE, UPDATE, DELETE, QUERY, XID, FORMAT, ROWS_QUERY = 19, 30, 31, 32, 2, 16, 15, 29
+TOGETHER = 1000     # transactions or statements in the part that is repeated, where they are counted
 
 # flags, SQL mode, catalog and character sets, as a 5.6 server writes them in front of a Query's text
 STATUS = bytes.fromhex("00 00000000 01 0000004000000000 06 03 737464 04 2100 2100 0800")
@@ -117,6 +120,12 @@ STATE = (254, b"\xf7\x01", fixed(1), True)                        # ENUM
 TEXT = (252, b"\x02", counted(2, 20, 200), True)                  # BLOB
 NULL_LONG = LONG[:3] + (True,)
 
+# ten columns without NULLs, whose image has 85 bytes on the average
+TEN = [LONG, LONGLONG, (15, struct.pack("<H", 60), counted(1, 8, 16), False),
+       (15, struct.pack("<H", 90), counted(1, 10, 18), False), DATETIME2[:3] + (False,), DECIMAL[:3] + (False,),
+       TINY[:3] + (False,), (252, b"\x02", counted(2, 10, 20), False), (254, b"\xfe\x24", counted(1, 4, 12), False),
+       TIMESTAMP2[:3] + (False,)]
+
 
 def mixed_tables():
     shop = b"shop"
@@ -165,10 +174,10 @@ def mixed(source, part, size):
         part.xid(number)
 
 
-def one_row(source, part, size):
+def one_row(source, part, size, count=0):
     """Transactions of one statement that inserts one row."""
     table, number = Table(70, b"shop", b"stock", [LONG, LONG, NULL_LONG, DATETIME2]), 0
-    while len(part.bytes) < size:
+    while len(part.bytes) < size or number < count:
         number += 1
         part.query(b"shop", b"BEGIN")
         part.map(table)
@@ -190,10 +199,10 @@ def wide(source, part, size):
         part.xid(number)
 
 
-def many_statements(source, part, size):
+def many_statements(source, part, size, count=0):
     """Statements of one row each, by turns in eight tables; the whole log is one transaction of them."""
     tables, number = mixed_tables(), 0
-    while len(part.bytes) < size:
+    while len(part.bytes) < size or number < count:
         number += 1
         put_statement(part, source, tables[number % 8], [WRITE, UPDATE, DELETE][number % 3], 1)
 
@@ -213,14 +222,14 @@ def rows_for(size, count, source):
     return images
 
 
-def many_maps(source, part, size):
+def many_maps(source, part, size, count=40_000):
     """One statement of 40,000 table maps, and then rows events that use them all, not in the order of the maps."""
-    tables = small_tables(40_000)
+    tables = small_tables(count)
     part.query(b"many", b"BEGIN")
     for table in tables:
         part.map(table)
     left = max(size - len(part.bytes), 1)
-    images = rows_for(left, 40_000, source)
+    images = rows_for(left, count, source)
     while left > 0:
         source.shuffle(tables)
         before = len(part.bytes)
@@ -231,11 +240,11 @@ def many_maps(source, part, size):
     part.xid(1)
 
 
-def many_tables(source, part, size):
+def many_tables(source, part, size, count=100_000):
     """Transactions of one statement, each of the next of 100,000 tables."""
-    tables = small_tables(100_000)
-    images = rows_for(size - 100_000 * 147, 100_000, source)
-    while len(part.bytes) < size:
+    tables = small_tables(count)
+    images = rows_for(size - count * 147, count, source)
+    while len(part.bytes) < max(size, 1):
         for number, table in enumerate(tables):
             part.query(b"many", b"BEGIN")
             part.map(table)
@@ -243,8 +252,36 @@ def many_tables(source, part, size):
             part.xid(number)
 
 
-REPEATED = {"mixed": mixed, "one_row": one_row, "wide": wide, "many_statements": many_statements}
+def events_of(event_size):
+    """Events of this many bytes: texts beside rows, as a server writes them. They are in no transaction."""
+    def events(source, part, size):
+        while len(part.bytes) < size:
+            text = source.randbytes(event_size - 20)
+            part.put(ROWS_QUERY, bytes([min(len(text), 255)]) + text)
+    return events
+
+
+def columns_of(count):
+    """Transactions that insert rows of this many columns."""
+    def columns(source, part, size):
+        table, number = Table(70, b"shop", b"columns", [TEN[i % 10] for i in range(count)]), 0
+        while len(part.bytes) < size:
+            number += 1
+            part.query(b"shop", b"BEGIN")
+            put_statement(part, source, table, WRITE, 1_000_000)
+            part.xid(number)
+    return columns
+
+
+REPEATED = {"mixed": mixed, "one_row": one_row, "wide": wide, "many_statements": many_statements,
+            "small_events": events_of(36), "large_events": events_of(8192),
+            "columns_10": columns_of(10), "columns_512": columns_of(512), "columns_4096": columns_of(4096)}
 WHOLE = {"many_maps": many_maps, "many_tables": many_tables}
+# these take a number of maps, tables, transactions or statements
+COUNTED_REPEATED = {"transactions": one_row, "statements": many_statements}
+COUNTED_WHOLE = {"maps": many_maps, "tables": many_tables}
+SHAPES = REPEATED | WHOLE | COUNTED_REPEATED | COUNTED_WHOLE
+ONE_TRANSACTION = ("many_statements", "statements")  # of all copies
 
 
 class File:
@@ -275,29 +312,39 @@ def format_description():
     return part
 
 
-def main(words):
-    if len(words) != 3 or words[0] not in REPEATED | WHOLE or not words[1].isdigit():
-        sys.exit("make_log.py SHAPE MB FILE, the shape one of " + ", ".join(REPEATED | WHOLE))
-    shape, size, part, source = words[0], int(words[1]) * 10**6, Events(), random.Random(words[0])
-    with open(words[2], "wb", buffering=0) as out:
-        file = File(out)
-        file.put(format_description())
+def put_all(file, shape, size):
+    """Writes what stands behind the format description."""
+    part, source = Events(), random.Random(shape)
+    if shape in WHOLE or shape in COUNTED_WHOLE:
         if shape in WHOLE:
-            WHOLE[shape](source, part, size)
-            file.put(part)
+            WHOLE[shape](source, part, size * 10**6)
         else:
-            REPEATED[shape](source, part, min(size, ROTATING))
-            around = shape == "many_statements"  # one transaction of all copies
-            if around:
-                edge = Events()
-                edge.query(b"shop", b"BEGIN")
-                file.put(edge)
-            while file.length < size:
-                file.put(part)
-            if around:
-                edge = Events()
-                edge.xid(1)
-                file.put(edge)
+            COUNTED_WHOLE[shape](source, part, 0, size)
+        file.put(part)
+    elif shape in REPEATED:
+        copies = max(-(-size * 10**6 // ROTATING), 1)
+        REPEATED[shape](source, part, size * 10**6 // copies + 1)
+        for _ in range(copies):
+            file.put(part)
+    else:
+        COUNTED_REPEATED[shape](source, part, 0, TOGETHER)
+        for _ in range(size // TOGETHER):
+            file.put(part)
+
+
+def main(words):
+    if len(words) != 3 or words[0] not in SHAPES or not words[1].isdigit():
+        sys.exit("make_log.py SHAPE MB FILE, the shape one of " + ", ".join(REPEATED | WHOLE)
+                 + "; or with a number in the place of MB " + ", ".join(COUNTED_REPEATED | COUNTED_WHOLE))
+    with open(words[2], "wb", buffering=0) as out:
+        file, begin, end = File(out), Events(), Events()
+        file.put(format_description())
+        if words[0] in ONE_TRANSACTION:
+            begin.query(b"shop", b"BEGIN")
+            end.xid(1)
+        file.put(begin)
+        put_all(file, words[0], int(words[1]))
+        file.put(end)
     print(file.length, file.events, file.rows)
 
 

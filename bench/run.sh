@@ -7,9 +7,11 @@
 # a run is stopped; OUT, the folder for logs and outputs.
 set -eu
 cd "$(dirname "$0")/.."
+. bench/logs.sh
 FLASHBACK=${FLASHBACK:-bin/flashback} RUNS=${RUNS:-3} LIMIT=${LIMIT:-600} OUT=${OUT:-bench/out}
 PLAIN=bench/plain/target/release/plain
-[ $# -gt 0 ] || set -- mixed 1000 one_row 250 wide 250 many_maps 50 many_tables 100 many_statements 250
+[ $# -gt 0 ] || set -- mixed 10 mixed 100 mixed 1000 \
+    one_row 250 wide 250 many_maps 50 many_tables 100 many_statements 250
 [ $(($# % 2)) -eq 0 ] || { echo "run.sh: a size in MB for each shape is wanted" >&2; exit 2; }
 mkdir -p "$OUT"
 
@@ -23,12 +25,7 @@ $PLAIN -B $WORKED | cmp - "$OUT/worked"
 # each two words become one log
 left=$#
 while [ "$left" -gt 0 ]; do
-    log=$OUT/$1-$2.binlog
-    if [ ! -s "$log.counts" ] || [ bench/make_log.py -nt "$log.counts" ]; then
-        echo "making $log" >&2
-        python3 bench/make_log.py "$1" "$2" "$log" > "$OUT/counts"
-        mv "$OUT/counts" "$log.counts"
-    fi
+    make_log "$1" "$2"
     shift 2
     set -- "$@" "$log"
     left=$((left - 2))
@@ -36,6 +33,5 @@ done
 
 [ -x "$FLASHBACK" ] || { echo "run.sh: $FLASHBACK isn't there, so it isn't measured; make builds it" >&2; FLASHBACK=; }
 MARIADB=$(command -v mariadb-binlog) || echo "run.sh: mariadb-binlog isn't installed, so it isn't measured" >&2
-echo "$(nproc) processors, $(sed -n 's/^model name[^:]*: //p' /proc/cpuinfo | head -n 1); best of $RUNS runs"
-echo
+print_machine
 exec python3 bench/measure.py "$PLAIN" "$MARIADB" "$FLASHBACK" "$RUNS" "$LIMIT" "$OUT" "$@"
