@@ -30,6 +30,8 @@ mod replay_tests;
 #[cfg(test)]
 mod sample_tests;
 #[cfg(test)]
+mod sample_undoing_tests;
+#[cfg(test)]
 mod samples;
 #[cfg(test)]
 mod selection_tests;
