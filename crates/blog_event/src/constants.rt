@@ -1,5 +1,7 @@
 //! The numbers of event types, by MySQL's names (MySQL Internals manual, "Event Classes and Types").
 
+ghost use Rattle.std.specs.Prelude.{◌≡◌, [], ◌∷◌};
+
 /// No type.
 pub const UNKNOWN_EVENT: u8 = 0;
 /// The start of a file, before version 4.
@@ -62,3 +64,14 @@ pub const PREVIOUS_GTIDS_LOG_EVENT: u8 = 35;
 pub const TRANSACTION_CONTEXT_EVENT: u8 = 36;
 /// Rows changed, with parts of JSON values.
 pub const PARTIAL_UPDATE_ROWS_EVENT: u8 = 39;
+
+/// Each type has its number. The call does nothing.
+pub fn types_have_their_numbers()
+    ensures earlier { UNKNOWN_EVENT ∷ START_EVENT_V3 ∷ QUERY_EVENT ∷ STOP_EVENT ∷ ROTATE_EVENT ∷ INTVAR_EVENT ∷ LOAD_EVENT ∷ SLAVE_EVENT
+        ∷ CREATE_FILE_EVENT ∷ APPEND_BLOCK_EVENT ∷ EXEC_LOAD_EVENT ∷ DELETE_FILE_EVENT ∷ NEW_LOAD_EVENT ∷ RAND_EVENT ∷ USER_VAR_EVENT
+        ∷ FORMAT_DESCRIPTION_EVENT ∷ XID_EVENT ∷ BEGIN_LOAD_QUERY_EVENT ∷ EXECUTE_LOAD_QUERY_EVENT ∷ TABLE_MAP_EVENT ∷ []
+        ≡ 0 ∷ 1 ∷ 2 ∷ 3 ∷ 4 ∷ 5 ∷ 6 ∷ 7 ∷ 8 ∷ 9 ∷ 10 ∷ 11 ∷ 12 ∷ 13 ∷ 14 ∷ 15 ∷ 16 ∷ 17 ∷ 18 ∷ 19 ∷ [] }
+    ensures later { HEARTBEAT_LOG_EVENT ∷ IGNORABLE_LOG_EVENT ∷ ROWS_QUERY_LOG_EVENT ∷ WRITE_ROWS_EVENT ∷ UPDATE_ROWS_EVENT ∷ DELETE_ROWS_EVENT
+        ∷ GTID_LOG_EVENT ∷ ANONYMOUS_GTID_LOG_EVENT ∷ PREVIOUS_GTIDS_LOG_EVENT ∷ TRANSACTION_CONTEXT_EVENT ∷ PARTIAL_UPDATE_ROWS_EVENT ∷ []
+        ≡ 27 ∷ 28 ∷ 29 ∷ 30 ∷ 31 ∷ 32 ∷ 33 ∷ 34 ∷ 35 ∷ 36 ∷ 39 ∷ [] }
+{}
