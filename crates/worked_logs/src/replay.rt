@@ -138,10 +138,8 @@ impl<'r, 'a> Tables<'r, 'a> {
 
     /// Applies the changes of transactions in order.
     pub fn apply(&mut self, transactions: &'r [Vec<Change<'a>>]) -> Result<(), ReplayFault> {
-        for changes in transactions {
-            for change in changes {
-                self.change(change)?;
-            }
+        for change in transactions.iter().flatten() {
+            self.change(change)?;
         }
         Ok(())
     }
@@ -162,10 +160,8 @@ impl<'r, 'a> Tables<'r, 'a> {
     pub fn least(alloc: Global, transactions: &'r [Vec<Change<'a>>]) -> Result<Self, ReplayFault> {
         let mut least = Tables::new(alloc);
         let mut tables = Tables::new(alloc);
-        for changes in transactions {
-            for change in changes {
-                tables.change_with(&mut least, change)?;
-            }
+        for change in transactions.iter().flatten() {
+            tables.change_with(&mut least, change)?;
         }
         Ok(least)
     }

@@ -3,17 +3,20 @@
 use crate::calls::flashback;
 use crate::logs::{two_statements, two_tables, two_transactions, two_updates};
 use crate::replay::{ReplayFault, Tables, changes_of};
+use crate::sample_tests::{BEFORE, BEHIND};
+use crate::samples::{ALTER_BETWEEN, INSERT, MULTI_TABLE, SAVEPOINT_KEPT, UPDATE};
 use blog_trans::Selection;
 use std::process::Abort;
 use std::test::Fail;
 
-/// After each written transaction the tables are as they were before as many of the log's last ones.
+/// After each written transaction the tables are as they were before as many of the selected last ones.
 fn check_stops<'b, R: AllocGlobal + Abort>(
     rt: &R,
     log: &'b [u8],
+    sel: &Selection<'_>,
     written: &'b [u8],
 ) -> Result<(), Fail> {
-    let source = changes_of(rt.alloc(), log, &Selection::all())?;
+    let source = changes_of(rt.alloc(), log, sel)?;
     let undoing = changes_of(rt.alloc(), written, &Selection::all())?;
     assert_eq!(rt; undoing.len(), source.len());
     for count in 0..=source.len() {
@@ -29,14 +32,46 @@ fn check_stops<'b, R: AllocGlobal + Abort>(
 
 #[test]
 fn after_each_written_transaction_as_many_are_undone(rt: HostRuntime) -> Result<(), Fail> {
+    let all = Selection::all();
     for log in [
         two_updates(&rt)?,
         two_transactions(&rt)?,
         two_tables(&rt)?,
         two_statements(&rt)?,
     ] {
-        let written = flashback(rt.alloc(), &log, &Selection::all())?;
-        check_stops(&rt, &log, &written)?;
+        let written = flashback(rt.alloc(), &log, &all)?;
+        check_stops(&rt, &log, &all, &written)?;
+    }
+    Ok(())
+}
+
+/// Undoing gives the tables back that were there before the selected changes, and these changes made a difference.
+fn check_undone<'b, R: AllocGlobal + Abort>(
+    rt: &R,
+    log: &'b [u8],
+    sel: &Selection<'_>,
+) -> Result<(), Fail> {
+    let changes = changes_of(rt.alloc(), log, sel)?;
+    let before = Tables::least(rt.alloc(), &changes)?;
+    let mut behind = Tables::least(rt.alloc(), &changes)?;
+    behind.apply(&changes)?;
+    assert!(rt; behind != before, "no change");
+    let written = flashback(rt.alloc(), log, sel)?;
+    check_stops(rt, log, sel, &written)
+}
+
+#[test]
+fn logs_of_a_server_are_undone(rt: HostRuntime) -> Result<(), Fail> {
+    let all = Selection::all();
+    for (log, sel) in [
+        (INSERT.as_slice(), all),
+        (&UPDATE, all),
+        (&MULTI_TABLE, all),
+        (&SAVEPOINT_KEPT, all),
+        (&ALTER_BETWEEN, BEFORE),
+        (&ALTER_BETWEEN, BEHIND),
+    ] {
+        check_undone(&rt, log, &sel)?;
     }
     Ok(())
 }

@@ -1,9 +1,8 @@
-//! Logs that a server wrote: their groups, the numbers of their rows, and the range that is refused.
+//! Logs that a server wrote: their groups, and the numbers of their rows.
 
 use crate::index_view::Shown::{Begin, End, Map, Rows, Statement};
-use crate::index_view::{fault_of, groups_of, tables_of};
+use crate::index_view::{Shown, groups_of, tables_of};
 use crate::samples::{ALTER_BETWEEN, INSERT, MULTI_TABLE, SAVEPOINT_KEPT, UPDATE};
-use blog_event::Fault;
 use blog_row::RowsKind::{Update, Write};
 use blog_trans::{Selection, TableCount};
 use std::test::Fail;
@@ -23,6 +22,11 @@ pub const BEHIND: Selection<'static> = Selection {
     table: None,
 };
 
+/// The groups of a transaction of one statement, with one map and one rows event.
+fn one_statement(begin: u32, map: Shown, rows: Shown, end: u32) -> [Shown; 5] {
+    [Begin(begin), Statement, map, rows, End(end)]
+}
+
 /// Rows of a table of the schema `d` that are inserted or updated.
 fn changes(table: &[u8], inserts: u64, updates: u64) -> TableCount<'_> {
     TableCount {
@@ -35,23 +39,26 @@ fn changes(table: &[u8], inserts: u64, updates: u64) -> TableCount<'_> {
 }
 
 #[test]
-fn samples_have_their_groups(rt: HostRuntime) -> Result<(), Fail> {
+fn one_statement_of_a_server_has_its_groups(rt: HostRuntime) -> Result<(), Fail> {
     let all = Selection::all();
-    let in_insert = [
-        Begin(227),
-        Statement,
-        Map(294, 106),
-        Rows(334, 106, Write, 1),
-        End(370),
-    ];
-    let in_update = [
-        Begin(229),
-        Statement,
-        Map(305, 108),
-        Rows(354, 108, Update, 3),
-        End(452),
-    ];
-    let in_multi_table = [
+    let in_insert = one_statement(227, Map(294, 106), Rows(334, 106, Write, 1), 370);
+    let in_update = one_statement(229, Map(305, 108), Rows(354, 108, Update, 3), 452);
+    let before = one_statement(315, Map(382, 108), Rows(431, 108, Write, 1), 473);
+    let behind = one_statement(757, Map(824, 122), Rows(874, 122, Write, 1), 920);
+    for (log, sel, groups) in [
+        (INSERT.as_slice(), all, in_insert),
+        (&UPDATE, all, in_update),
+        (&ALTER_BETWEEN, BEFORE, before),
+        (&ALTER_BETWEEN, BEHIND, behind),
+    ] {
+        assert_eq!(rt; groups_of(&rt, log, &sel)?.as_slice(), groups.as_slice());
+    }
+    Ok(())
+}
+
+#[test]
+fn two_tables_of_a_server_are_in_one_statement(rt: HostRuntime) -> Result<(), Fail> {
+    let groups = [
         Begin(229),
         Statement,
         Map(305, 108),
@@ -60,7 +67,17 @@ fn samples_have_their_groups(rt: HostRuntime) -> Result<(), Fail> {
         Rows(470, 106, Update, 3),
         End(532),
     ];
-    let in_savepoint_kept = [
+    let all = Selection::all();
+    assert_eq!(rt;
+        groups_of(&rt, &MULTI_TABLE, &all)?.as_slice(),
+        groups.as_slice()
+    );
+    Ok(())
+}
+
+#[test]
+fn savepoints_of_a_server_are_skipped(rt: HostRuntime) -> Result<(), Fail> {
+    let groups = [
         Begin(229),
         Statement,
         Map(296, 106),
@@ -70,30 +87,11 @@ fn samples_have_their_groups(rt: HostRuntime) -> Result<(), Fail> {
         Rows(487, 106, Write, 1),
         End(598),
     ];
-    let before = [
-        Begin(315),
-        Statement,
-        Map(382, 108),
-        Rows(431, 108, Write, 1),
-        End(473),
-    ];
-    let behind = [
-        Begin(757),
-        Statement,
-        Map(824, 122),
-        Rows(874, 122, Write, 1),
-        End(920),
-    ];
-    for (log, sel, groups) in [
-        (INSERT.as_slice(), all, in_insert.as_slice()),
-        (&UPDATE, all, &in_update),
-        (&MULTI_TABLE, all, &in_multi_table),
-        (&SAVEPOINT_KEPT, all, &in_savepoint_kept),
-        (&ALTER_BETWEEN, BEFORE, &before),
-        (&ALTER_BETWEEN, BEHIND, &behind),
-    ] {
-        assert_eq!(rt; groups_of(&rt, log, &sel)?.as_slice(), groups);
-    }
+    let all = Selection::all();
+    assert_eq!(rt;
+        groups_of(&rt, &SAVEPOINT_KEPT, &all)?.as_slice(),
+        groups.as_slice()
+    );
     Ok(())
 }
 
@@ -114,10 +112,4 @@ fn samples_have_their_numbers_of_rows(rt: HostRuntime) -> Result<(), Fail> {
     let counts = [changes(b"k", 0, 2), changes(b"t", 0, 3)];
     assert_eq!(rt; tables.as_slice(), counts.as_slice());
     Ok(())
-}
-
-#[test]
-fn an_altered_table_is_refused(rt: HostRuntime) {
-    let fault = fault_of(&rt, &ALTER_BETWEEN, &Selection::all());
-    assert_eq!(rt; fault, Some(Fault::Statement { pos: 573 }));
 }
