@@ -1,19 +1,12 @@
-//! Logs that are cut, and logs with a length that is too large or too small: both ways of writing refuse them alike.
+//! Logs that are cut, and logs with a length that is too large or too small: all ways of reading refuse them alike.
 
 use crate::builder::with_bytes;
-use crate::calls::{flashback, forward};
+use crate::calls::{check_fault, flashback};
 use crate::logs::one_insert;
 use blog_event::Fault;
 use blog_trans::Selection;
 use std::process::Abort;
 use std::test::Fail;
-
-/// Both refuse the bytes with this fault, or take them where there is none.
-fn check_fault<R: AllocGlobal + Abort>(rt: &R, bytes: &[u8], fault: Option<Fault>) {
-    let all = Selection::all();
-    assert_eq!(rt; flashback(rt.alloc(), bytes, &all).err(), fault);
-    assert_eq!(rt; forward(rt.alloc(), bytes, &all).err(), fault);
-}
 
 /// The fault of the log that inserts one row, where it ends behind so many bytes.
 fn fault_of_cut(len: usize) -> Option<Fault> {
@@ -37,7 +30,7 @@ fn cut_logs(rt: HostRuntime) -> Result<(), Fail> {
     let log = one_insert(&rt)?;
     assert_eq!(rt; log.len(), 259);
     for len in 0..=log.len() {
-        check_fault(&rt, &log[..len], fault_of_cut(len));
+        check_fault(&rt, &log[..len], &Selection::all(), fault_of_cut(len));
     }
     let format = log.get(..120).expect(&rt, "a format description");
     let written = flashback(rt.alloc(), format, &Selection::all())?;
@@ -45,23 +38,27 @@ fn cut_logs(rt: HostRuntime) -> Result<(), Fail> {
     Ok(())
 }
 
-#[test]
-fn sizes_of_events(rt: HostRuntime) -> Result<(), Fail> {
-    let log = one_insert(&rt)?;
+/// Sets the sizes of the events in turn: the log is refused at the event.
+fn check_sizes<R: AllocGlobal + Abort>(rt: &R, size: [u8; 4]) -> Result<(), Fail> {
+    let log = one_insert(rt)?;
+    let [first, second, third, fourth] = size;
     for (size_at, pos) in [(13, 4), (129, 120), (168, 159), (205, 196), (241, 232)] {
-        for size in [[0xFF; 4], [18, 0, 0, 0]] {
-            let [first, second, third, fourth] = size;
-            let edits = [
-                (size_at, first),
-                (size_at + 1, second),
-                (size_at + 2, third),
-                (size_at + 3, fourth),
-            ];
-            let log = with_bytes(&rt, &log, &edits)?;
-            check_fault(&rt, &log, Some(Fault::CutEvent { pos }));
-        }
+        let edits = [
+            (size_at, first),
+            (size_at + 1, second),
+            (size_at + 2, third),
+            (size_at + 3, fourth),
+        ];
+        let log = with_bytes(rt, &log, &edits)?;
+        check_fault(rt, &log, &Selection::all(), Some(Fault::CutEvent { pos }));
     }
     Ok(())
+}
+
+#[test]
+fn sizes_of_events(rt: HostRuntime) -> Result<(), Fail> {
+    check_sizes(&rt, [0xFF; 4])?;
+    check_sizes(&rt, [18, 0, 0, 0])
 }
 
 #[test]
@@ -82,7 +79,7 @@ fn lengths_in_bodies(rt: HostRuntime) -> Result<(), Fail> {
         (&[(225, 0xFE)], 196),
     ] {
         let log = with_bytes(&rt, &log, edits)?;
-        check_fault(&rt, &log, Some(Fault::BadBody { pos }));
+        check_fault(&rt, &log, &Selection::all(), Some(Fault::BadBody { pos }));
     }
     Ok(())
 }
@@ -102,7 +99,7 @@ fn single_bytes_that_are_refused(rt: HostRuntime) -> Result<(), Fail> {
         ((215, 2), Fault::NoMap { pos: 196 }),
     ] {
         let log = with_bytes(&rt, &log, &[edit])?;
-        check_fault(&rt, &log, Some(fault));
+        check_fault(&rt, &log, &Selection::all(), Some(fault));
     }
     Ok(())
 }

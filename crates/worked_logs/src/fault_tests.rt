@@ -4,7 +4,7 @@ use crate::builder::{
     ANONYMOUS_GTID, BEGIN, COMMIT, FRONT, GTID, Part, ROTATE, T, XID, build, delete, insert,
     with_bytes,
 };
-use crate::index_view::fault_of;
+use crate::calls::check_fault;
 use crate::logs::{map_twice, one_insert, query_inside, two_transactions, with_last};
 use crate::selection_tests::{from, up_to};
 use blog_event::Fault;
@@ -12,7 +12,7 @@ use blog_trans::Selection;
 use std::test::Fail;
 
 #[test]
-fn files_that_are_no_logs_of_this_profile(rt: HostRuntime) -> Result<(), Fail> {
+fn files_that_are_no_logs(rt: HostRuntime) -> Result<(), Fail> {
     let log = one_insert(&rt)?;
     let all = Selection::all();
     for (len, fault) in [
@@ -22,15 +22,21 @@ fn files_that_are_no_logs_of_this_profile(rt: HostRuntime) -> Result<(), Fail> {
         (258, Fault::CutEvent { pos: 232 }),
     ] {
         let cut = log.get(..len).ok_or("too short")?;
-        assert_eq!(rt; fault_of(&rt, cut, &all), Some(fault));
+        check_fault(&rt, cut, &all, Some(fault));
     }
+    Ok(())
+}
+
+#[test]
+fn format_descriptions_that_are_refused(rt: HostRuntime) -> Result<(), Fail> {
+    let log = one_insert(&rt)?;
     // The checksum algorithm, and the post-header length of table maps.
     for (edit, fault) in [
         ((115, 1), Fault::Checksums { pos: 4 }),
         ((98, 6), Fault::BadFormat { pos: 4 }),
     ] {
         let log = with_bytes(&rt, &log, &[edit])?;
-        assert_eq!(rt; fault_of(&rt, &log, &all), Some(fault));
+        check_fault(&rt, &log, &Selection::all(), Some(fault));
     }
     Ok(())
 }
@@ -51,8 +57,8 @@ fn servers_that_are_too_old_or_that_have_no_version(rt: HostRuntime) -> Result<(
         ],
     ] {
         let log = with_bytes(&rt, &log, version)?;
-        let fault = fault_of(&rt, &log, &Selection::all());
-        assert_eq!(rt; fault, Some(Fault::OldServer { pos: 4 }), "at {version:?}");
+        let fault = Fault::OldServer { pos: 4 };
+        check_fault(&rt, &log, &Selection::all(), Some(fault));
     }
     Ok(())
 }
@@ -76,11 +82,7 @@ fn changed_bytes_are_refused(rt: HostRuntime) -> Result<(), Fail> {
         (&two, (433, 2), Fault::MapClash { pos: 399 }),
     ] {
         let log = with_bytes(&rt, log, &[edit])?;
-        assert_eq!(rt;
-            fault_of(&rt, &log, &Selection::all()),
-            Some(fault),
-            "at {edit:?}"
-        );
+        check_fault(&rt, &log, &Selection::all(), Some(fault));
     }
     Ok(())
 }
@@ -98,7 +100,7 @@ fn starts_and_stops_that_are_refused(rt: HostRuntime) -> Result<(), Fail> {
         (&two, up_to(360), Fault::Unended { pos: 360 }),
         (&two, from(203), Fault::OutOfPlace { pos: 203 }),
     ] {
-        assert_eq!(rt; fault_of(&rt, log, &sel), Some(fault), "under {sel:?}");
+        check_fault(&rt, log, &sel, Some(fault));
     }
     Ok(())
 }
@@ -118,8 +120,8 @@ fn events_out_of_their_place(rt: HostRuntime) -> Result<(), Fail> {
         (&[rows], 120),
     ] {
         let log = build(&rt, parts)?;
-        let fault = fault_of(&rt, &log, &Selection::all());
-        assert_eq!(rt; fault, Some(Fault::OutOfPlace { pos }), "of {pos}");
+        let fault = Fault::OutOfPlace { pos };
+        check_fault(&rt, &log, &Selection::all(), Some(fault));
     }
     Ok(())
 }
@@ -128,8 +130,8 @@ fn events_out_of_their_place(rt: HostRuntime) -> Result<(), Fail> {
 fn a_second_format_description_is_out_of_place(rt: HostRuntime) -> Result<(), Fail> {
     let mut log = one_insert(&rt)?;
     log.extend_from_slice(&FRONT[4..])?;
-    let fault = fault_of(&rt, &log, &Selection::all());
-    assert_eq!(rt; fault, Some(Fault::OutOfPlace { pos: 259 }));
+    let fault = Fault::OutOfPlace { pos: 259 };
+    check_fault(&rt, &log, &Selection::all(), Some(fault));
     Ok(())
 }
 
@@ -157,7 +159,7 @@ fn later_events_that_are_refused(rt: HostRuntime) -> Result<(), Fail> {
         (of_type(33, 0), Fault::Unended { pos: 278 }),
     ] {
         let log = with_last(&rt, last)?;
-        assert_eq!(rt; fault_of(&rt, &log, &Selection::all()), Some(fault));
+        check_fault(&rt, &log, &Selection::all(), Some(fault));
     }
     Ok(())
 }
@@ -188,7 +190,7 @@ fn events_inside_a_transaction_that_are_refused(rt: HostRuntime) -> Result<(), F
             Fault::Unended { pos: 232 },
         ),
     ] {
-        assert_eq!(rt; fault_of(&rt, &log, &Selection::all()), Some(fault));
+        check_fault(&rt, &log, &Selection::all(), Some(fault));
     }
     Ok(())
 }
