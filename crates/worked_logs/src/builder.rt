@@ -118,6 +118,11 @@ pub const COMMIT: Part<'static> = Part::Query {
     text: b"COMMIT",
 };
 
+pub const DROP_TABLE: Part<'static> = Part::Query {
+    status: &[],
+    text: b"DROP TABLE t",
+};
+
 pub const XID: Part<'static> = Part::Other {
     kind: 16,
     flags: 0,
@@ -299,10 +304,9 @@ fn images_of(alloc: Global, images: Images<'_>) -> Result<Vec<u8>, AllocError> {
 
 /// Appends an event of server 1 and time 0, whose body is the joined parts.
 fn put_event(log: &mut Vec<u8>, kind: u8, flags: u16, body: &[&[u8]]) -> Result<(), AllocError> {
-    let mut size = HEADER_LEN;
-    for part in body {
-        size = size.wrapping_add(part.len());
-    }
+    let size = body
+        .iter()
+        .fold(HEADER_LEN, |size, part| size.wrapping_add(part.len()));
     let end = log.len().wrapping_add(size);
     log.extend_from_slice(&[0, 0, 0, 0, kind, 1, 0, 0, 0])?;
     log.extend_from_slice(&four_bytes(size))?;

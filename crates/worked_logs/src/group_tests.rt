@@ -240,6 +240,11 @@ fn rows_are_counted_by_table(rt: HostRuntime) -> Result<(), Fail> {
         let tables = tables_of(&rt, &log, &Selection::all())?;
         assert_eq!(rt; tables.as_slice(), [count].as_slice());
     }
+    Ok(())
+}
+
+#[test]
+fn tables_without_kept_maps_are_not_counted(rt: HostRuntime) -> Result<(), Fail> {
     for log in [no_changes(&rt)?, map_alone(&rt)?] {
         assert!(rt; tables_of(&rt, &log, &Selection::all())?.is_empty());
     }

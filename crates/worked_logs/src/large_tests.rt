@@ -3,7 +3,8 @@
 use crate::builder::{BEGIN, Part, T, XID, build, insert, map_of, put};
 use crate::calls::{flashback, forward};
 use blog_event::Log;
-use blog_trans::{Selection, index};
+use blog_trans::{Index, Selection, index};
+use std::alloc::{AllocError, Global};
 use std::process::Abort;
 use std::test::Fail;
 
@@ -19,13 +20,25 @@ fn check_normal<R: AllocGlobal + Abort>(rt: &R, log: &[u8]) -> Result<(), Fail> 
     Ok(())
 }
 
+/// As many rows are inserted into each table.
+fn check_inserts(rt: &impl Abort, index: &Index<'_, '_, Global>, inserts: u64) {
+    for n in 0..index.tables() {
+        assert_eq!(rt; index.table(n).inserts, inserts);
+    }
+}
+
+fn put_maps(log: &mut Vec<u8>, count: u32) -> Result<(), AllocError> {
+    for id in 0..count {
+        put(log, &map_of(id, b"t"))?;
+    }
+    Ok(())
+}
+
 #[test]
 fn many_maps_in_one_statement(rt: HostRuntime) -> Result<(), Fail> {
     let count = 20_000u32;
     let mut log = build(&rt, &[BEGIN])?;
-    for id in 0..count {
-        put(&mut log, &map_of(id, b"t"))?;
-    }
+    put_maps(&mut log, count)?;
     for id in 0..count {
         put(&mut log, &insert(id, &[1]).open())?;
     }
@@ -52,9 +65,7 @@ fn many_tables(rt: HostRuntime) -> Result<(), Fail> {
     let opened = Log::open(&log)?;
     let index = index(rt.alloc(), &opened, &Selection::all())?;
     assert_eq!(rt; index.tables(), 5_000);
-    for n in 0..index.tables() {
-        assert_eq!(rt; index.table(n).inserts, 1);
-    }
+    check_inserts(&rt, &index, 1);
     Ok(())
 }
 
@@ -87,10 +98,8 @@ fn many_statements_in_one_transaction(rt: HostRuntime) -> Result<(), Fail> {
     check_normal(&rt, &log)?;
     let opened = Log::open(&log)?;
     let index = index(rt.alloc(), &opened, &Selection::all())?;
-    for t in 0..index.transactions() {
-        assert_eq!(rt; index.statements(t), 5_000);
-    }
     assert_eq!(rt; index.transactions(), 1);
+    assert_eq!(rt; index.all_statements(), 5_000);
     Ok(())
 }
 
@@ -106,8 +115,6 @@ fn many_rows_in_one_event(rt: HostRuntime) -> Result<(), Fail> {
     let opened = Log::open(&log)?;
     let index = index(rt.alloc(), &opened, &Selection::all())?;
     assert_eq!(rt; index.tables(), 1);
-    for n in 0..index.tables() {
-        assert_eq!(rt; index.table(n).inserts, 50_000);
-    }
+    check_inserts(&rt, &index, 50_000);
     Ok(())
 }

@@ -1,6 +1,6 @@
 //! The built logs have the bytes and the lengths that they are to have.
 
-use crate::builder::{FRONT, Part};
+use crate::builder::{DROP_TABLE, FRONT};
 use crate::logs::{
     extra_bytes, longer_format, map_alone, map_twice, newer_server, nine_columns, no_changes,
     one_insert, query_inside, two_inserts, two_statements, two_tables, two_transactions,
@@ -39,10 +39,6 @@ fn the_insert_of_one_row_has_its_bytes(rt: HostRuntime) -> Result<(), Fail> {
 
 #[test]
 fn logs_have_their_lengths(rt: HostRuntime) -> Result<(), Fail> {
-    let drop_table = Part::Query {
-        status: &[],
-        text: b"DROP TABLE t",
-    };
     for (log, len) in [
         (no_changes(&rt)?, 120),
         (one_insert(&rt)?, 259),
@@ -51,7 +47,7 @@ fn logs_have_their_lengths(rt: HostRuntime) -> Result<(), Fail> {
         (two_transactions(&rt)?, 499),
         (two_tables(&rt)?, 370),
         (map_twice(&rt)?, 296),
-        (with_last(&rt, drop_table)?, 305),
+        (with_last(&rt, DROP_TABLE)?, 305),
         (nine_columns(&rt)?, 332),
         (extra_bytes(&rt)?, 376),
         (map_alone(&rt)?, 236),

@@ -9,6 +9,7 @@ use crate::logs::{
 };
 use crate::sample_tests::{BEFORE, BEHIND};
 use crate::samples::{ALTER_BETWEEN, INSERT, MULTI_TABLE, SAVEPOINT_KEPT, UPDATE};
+use crate::undoing_tests::{newer_server_copied, two_transactions_copied};
 use blog_trans::Selection;
 use std::test::Fail;
 
@@ -22,9 +23,13 @@ fn the_normal_form_leaves_out_what_is_skipped(rt: HostRuntime) -> Result<(), Fai
         (query_inside(&rt, b"SAVEPOINT `a`")?, one_insert(&rt)?),
         (two_tables(&rt)?, two_tables(&rt)?),
         (extra_bytes(&rt)?, two_tables(&rt)?),
+        (two_inserts(&rt)?, two_inserts(&rt)?),
+        (two_updates(&rt)?, two_updates(&rt)?),
         (nine_columns(&rt)?, nine_columns(&rt)?),
         (two_statements(&rt)?, two_statements(&rt)?),
         (longer_format(&rt)?, longer_format(&rt)?),
+        (newer_server(&rt)?, newer_server_copied(&rt)?),
+        (two_transactions(&rt)?, two_transactions_copied(&rt)?),
     ] {
         let written = forward(rt.alloc(), &log, &Selection::all())?;
         assert_eq!(rt; written.as_slice(), text.as_slice());

@@ -1,6 +1,6 @@
 //! Selections: what of a log they keep.
 
-use crate::builder::{Part, with_bytes};
+use crate::builder::{DROP_TABLE, with_bytes};
 use crate::group_tests::{FIRST, ONE_INSERT, SECOND};
 use crate::index_view::Shown::{Begin, End, Map, Rows, Statement};
 use crate::index_view::{groups_of, tables_of};
@@ -45,11 +45,7 @@ pub fn of_table(table: &[u8]) -> Selection<'_> {
 fn a_start_and_a_stop_cut_the_range(rt: HostRuntime) -> Result<(), Fail> {
     let one = one_insert(&rt)?;
     let two = two_transactions(&rt)?;
-    let drop_table = Part::Query {
-        status: &[],
-        text: b"DROP TABLE t",
-    };
-    let dropped = with_last(&rt, drop_table)?;
+    let dropped = with_last(&rt, DROP_TABLE)?;
     let past_the_stop = Selection {
         stop: Some(100),
         ..from(160)

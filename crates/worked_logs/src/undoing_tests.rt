@@ -1,9 +1,10 @@
 //! The logs that undo small logs.
 
 use crate::builder::{
-    BEGIN, COMMIT, Part, T, Table, XID, build, delete, insert, map_of, update, with_bytes,
+    BEGIN, COMMIT, DROP_TABLE, FRONT, Part, T, Table, XID, build, delete, insert, map_of, update,
+    with_bytes,
 };
-use crate::calls::flashback;
+use crate::calls::{flashback, forward};
 use crate::logs::{
     NINE_COLUMNS, NINE_COLUMNS_ROWS, extra_bytes, longer_format, map_alone, map_twice,
     newer_server, nine_columns, no_changes, one_delete, one_insert, query_inside, two_inserts,
@@ -45,6 +46,21 @@ pub fn two_transactions_undone(rt: &impl AllocGlobal) -> Built {
     build(rt, &parts)
 }
 
+/// The two transactions in normal form.
+pub fn two_transactions_copied(rt: &impl AllocGlobal) -> Built {
+    let parts = [
+        BEGIN,
+        Part::Map(T),
+        insert(1, &[7]),
+        COMMIT,
+        BEGIN,
+        Part::Map(T),
+        delete(1, &[8]),
+        XID,
+    ];
+    build(rt, &parts)
+}
+
 /// What undoes the first of them, and the second.
 fn first_undone(rt: &impl AllocGlobal) -> Built {
     build(rt, &[BEGIN, Part::Map(T), delete(1, &[7]), COMMIT])
@@ -54,13 +70,20 @@ fn second_undone(rt: &impl AllocGlobal) -> Built {
     build(rt, &[BEGIN, Part::Map(T), insert(1, &[8]), XID])
 }
 
+/// The beginning of the newer server's transaction.
+const NEWER_BEGIN: Part<'static> = Part::Query {
+    status: &[0; 5],
+    text: b"BEGIN",
+};
+
 /// What undoes the log of a newer server.
-fn newer_server_undone(rt: &impl AllocGlobal) -> Built {
-    let begin = Part::Query {
-        status: &[0; 5],
-        text: b"BEGIN",
-    };
-    build(rt, &[begin, Part::Map(T), delete(1, &[5]), XID])
+pub fn newer_server_undone(rt: &impl AllocGlobal) -> Built {
+    build(rt, &[NEWER_BEGIN, Part::Map(T), delete(1, &[5]), XID])
+}
+
+/// That log in normal form.
+pub fn newer_server_copied(rt: &impl AllocGlobal) -> Built {
+    build(rt, &[NEWER_BEGIN, Part::Map(T), insert(1, &[5]), XID])
 }
 
 #[test]
@@ -168,24 +191,70 @@ fn a_longer_format_description_is_copied(rt: HostRuntime) -> Result<(), Fail> {
 
 #[test]
 fn only_what_is_selected_is_undone(rt: HostRuntime) -> Result<(), Fail> {
-    let one = one_insert(&rt)?;
     let two = two_transactions(&rt)?;
-    let nothing = no_changes(&rt)?;
     let of_two_tables = two_tables(&rt)?;
+    let dropped = with_last(&rt, DROP_TABLE)?;
     let second_table = build(&rt, &[BEGIN, map_of(2, b"t2"), delete(2, &[2]), XID])?;
     for (log, sel, text, len) in [
         (&of_two_tables, of_table(b"t2"), &second_table, 260),
         (&two, from(316), &second_undone(&rt)?, 259),
         (&two, from(360), &second_undone(&rt)?, 259),
         (&two, up_to(316), &first_undone(&rt)?, 272),
-        (&one, of_schema(b"D"), &nothing, 120),
-        (&one, of_schema(b"e"), &nothing, 120),
-        (&one, from(259), &nothing, 120),
-        (&one, from(0), &one_delete(&rt)?, 259),
+        (&one_insert(&rt)?, from(0), &one_delete(&rt)?, 259),
+        (&dropped, up_to(259), &one_delete(&rt)?, 259),
     ] {
         let written = flashback(rt.alloc(), log, &sel)?;
-        assert_eq!(rt; written.as_slice(), text.as_slice());
+        assert_eq!(rt; written.as_slice(), text.as_slice(), "under {sel:?}");
         assert_eq!(rt; written.len(), len);
+    }
+    Ok(())
+}
+
+#[test]
+fn only_what_is_selected_is_copied(rt: HostRuntime) -> Result<(), Fail> {
+    let two = two_transactions(&rt)?;
+    let of_two_tables = two_tables(&rt)?;
+    let dropped = with_last(&rt, DROP_TABLE)?;
+    let second_table = build(&rt, &[BEGIN, map_of(2, b"t2"), insert(2, &[2]), XID])?;
+    let first = build(&rt, &[BEGIN, Part::Map(T), insert(1, &[7]), COMMIT])?;
+    let second = build(&rt, &[BEGIN, Part::Map(T), delete(1, &[8]), XID])?;
+    for (log, sel, text) in [
+        (&of_two_tables, of_table(b"t2"), &second_table),
+        (&two, from(316), &second),
+        (&two, from(360), &second),
+        (&two, up_to(316), &first),
+        (&dropped, up_to(259), &one_insert(&rt)?),
+        (
+            &two_transactions_undone(&rt)?,
+            up_to(259),
+            &second_undone(&rt)?,
+        ),
+    ] {
+        let written = forward(rt.alloc(), log, &sel)?;
+        assert_eq!(rt; written.as_slice(), text.as_slice(), "under {sel:?}");
+    }
+    Ok(())
+}
+
+#[test]
+fn nothing_is_written_of_what_is_not_selected(rt: HostRuntime) -> Result<(), Fail> {
+    let one = one_insert(&rt)?;
+    let unknown_type = with_bytes(&rt, &one, &[(193, 6)])?;
+    let past_the_stop = Selection {
+        stop: Some(100),
+        ..from(160)
+    };
+    for (log, sel) in [
+        (&one, of_schema(b"D")),
+        (&one, of_schema(b"e")),
+        (&unknown_type, of_schema(b"e")),
+        (&one, from(259)),
+        (&one, past_the_stop),
+    ] {
+        let undone = flashback(rt.alloc(), log, &sel)?;
+        assert_eq!(rt; undone.as_slice(), FRONT.as_slice(), "under {sel:?}");
+        let normal = forward(rt.alloc(), log, &sel)?;
+        assert_eq!(rt; normal.as_slice(), FRONT.as_slice(), "under {sel:?}");
     }
     Ok(())
 }
