@@ -148,3 +148,63 @@ pub fn with_byte(alloc: Global, at: usize, byte: u8) -> Result<Vec<u8>, AllocErr
     }
     Ok(log)
 }
+
+/// An event's type, its size in bytes, and its body.
+pub type Part<'b> = (u8, u8, &'b [u8]);
+
+pub const BEGIN: Part<'static> = (2, 39, b"\0\0\0\0\0\0\0\0\x01\0\0\0\0d\0BEGIN");
+
+pub const COMMIT: Part<'static> = (2, 40, b"\0\0\0\0\0\0\0\0\x01\0\0\0\0d\0COMMIT");
+
+pub const XID: Part<'static> = (16, 27, b"\x07\0\0\0\0\0\0\0");
+
+const GTID: Part<'static> = (33, 44, &[0; 25]);
+
+const ANONYMOUS_GTID: Part<'static> = (34, 44, &[0; 25]);
+
+/// The table `t`, by the number 1, with one LONG column.
+pub const MAP: Part<'static> = (19, 37, b"\x01\0\0\0\0\0\x01\0\x01d\0\x01t\0\x01\x03\0\x01");
+
+// The body of a rows event of one row, 7, and of one, 8.
+const ROW_7: &[u8] = b"\x01\0\0\0\0\0\x01\0\x02\0\x01\xff\xfe\x07\0\0\0";
+
+const ROW_8: &[u8] = b"\x01\0\0\0\0\0\x01\0\x02\0\x01\xff\xfe\x08\0\0\0";
+
+/// Two transactions: one inserts the row 7, and one deletes the row 8.
+pub const TWO_TRANSACTIONS: [Part<'static>; 10] = [
+    GTID,
+    BEGIN,
+    MAP,
+    (30, 36, ROW_7),
+    COMMIT,
+    ANONYMOUS_GTID,
+    BEGIN,
+    MAP,
+    (32, 36, ROW_8),
+    XID,
+];
+
+/// What undoes them.
+pub const TWO_TRANSACTIONS_UNDONE: [Part<'static>; 8] = [
+    BEGIN,
+    MAP,
+    (30, 36, ROW_8),
+    XID,
+    BEGIN,
+    MAP,
+    (32, 36, ROW_7),
+    COMMIT,
+];
+
+/// A log of these events behind the format description, each with the position where it ends.
+pub fn log_of(alloc: Global, parts: &[Part<'_>]) -> Result<Vec<u8>, AllocError> {
+    let mut log = INSERT_ONE_ROW[..120].to_vec(alloc)?;
+    for (kind, size, body) in parts {
+        let end = log.len().saturating_add(usize::from(*size));
+        let [first, second, third, fourth, ..] = end.to_le_bytes();
+        log.extend_from_slice(&[0, 0, 0, 0, *kind, 1, 0, 0, 0, *size, 0, 0, 0])?;
+        log.extend_from_slice(&[first, second, third, fourth, 0, 0])?;
+        log.extend_from_slice(body)?;
+    }
+    Ok(log)
+}

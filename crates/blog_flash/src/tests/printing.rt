@@ -1,36 +1,8 @@
 //! What is printed of small logs.
 
-use super::logs::INSERT_ONE_ROW;
+use super::logs::{BEGIN, COMMIT, INSERT_ONE_ROW, MAP, Part, TWO_TRANSACTIONS, XID, log_of};
 use crate::{Mode, Selection, answer, flashback, sql, summary};
-use std::alloc::{AllocError, Global};
 use std::test::Fail;
-
-// An event's type, its size in bytes, and its body.
-type Part<'b> = (u8, u8, &'b [u8]);
-
-const BEGIN: Part<'static> = (2, 39, b"\0\0\0\0\0\0\0\0\x01\0\0\0\0d\0BEGIN");
-
-const COMMIT: Part<'static> = (2, 40, b"\0\0\0\0\0\0\0\0\x01\0\0\0\0d\0COMMIT");
-
-const XID: Part<'static> = (16, 27, b"\x07\0\0\0\0\0\0\0");
-
-const GTID: Part<'static> = (33, 44, &[0; 25]);
-
-const ANONYMOUS_GTID: Part<'static> = (34, 44, &[0; 25]);
-
-// The table `t`, by the number 1, with one LONG column.
-const MAP: Part<'static> = (19, 37, b"\x01\0\0\0\0\0\x01\0\x01d\0\x01t\0\x01\x03\0\x01");
-
-// A log of these events behind the format description.
-fn log_of(alloc: Global, parts: &[Part<'_>]) -> Result<Vec<u8>, AllocError> {
-    let mut log = INSERT_ONE_ROW[..120].to_vec(alloc)?;
-    for (kind, size, body) in parts {
-        log.extend_from_slice(&[0, 0, 0, 0, *kind, 1, 0, 0, 0, *size, 0, 0, 0])?;
-        log.extend_from_slice(&[0; 6])?;
-        log.extend_from_slice(body)?;
-    }
-    Ok(log)
-}
 
 #[test]
 fn nothing_is_printed_of_no_changes(rt: HostRuntime) -> Result<(), Fail> {
@@ -107,21 +79,7 @@ fn updates_are_printed_in_both_orders(rt: HostRuntime) -> Result<(), Fail> {
 #[test]
 fn transactions_are_undone_from_the_last(rt: HostRuntime) -> Result<(), Fail> {
     let all = Selection::all();
-    let insert: Part<'_> = (30, 36, b"\x01\0\0\0\0\0\x01\0\x02\0\x01\xff\xfe\x07\0\0\0");
-    let delete: Part<'_> = (32, 36, b"\x01\0\0\0\0\0\x01\0\x02\0\x01\xff\xfe\x08\0\0\0");
-    let parts = [
-        GTID,
-        BEGIN,
-        MAP,
-        insert,
-        COMMIT,
-        ANONYMOUS_GTID,
-        BEGIN,
-        MAP,
-        delete,
-        XID,
-    ];
-    let log = log_of(rt.alloc(), &parts)?;
+    let log = log_of(rt.alloc(), &TWO_TRANSACTIONS)?;
     assert_eq!(rt; log.len(), 499);
     let counts = answer(rt.alloc(), &log, Mode::Summary, &all)?;
     let wanted = b"transactions 2\nstatements 2\n`d`.`t` inserts 1 updates 0 deletes 1\n";

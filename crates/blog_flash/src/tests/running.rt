@@ -1,0 +1,300 @@
+//! Runs over devices that move 1, 7 or all bytes a call, and that fail at each of their calls.
+
+use super::devices::{ALL, Failure, SlowReader, SlowWriter};
+use super::logs::{INSERT_ONE_ROW, TWO_TRANSACTIONS, TWO_TRANSACTIONS_UNDONE, log_of};
+use crate::runs::read_up_to;
+use crate::{Fault, Mode, RunFault, Selection, Watched, prepare, put, run};
+use std::io;
+use std::process::Abort;
+use std::test::Fail;
+
+// How many bytes a reader gives a call, and its calls for the log of 499 bytes: the last finds the end.
+const READERS: [(usize, u64); 3] = [(1, 500), (7, 73), (ALL, 2)];
+
+// How many bytes a writer takes a call, and its writes of the output of 411 bytes. A flush follows them.
+const WRITERS: [(usize, u64); 3] = [(1, 411), (7, 59), (ALL, 1)];
+
+// A device: how many bytes it moves a call, and when it fails.
+type Habit = (usize, Failure);
+
+const STEADY: Habit = (ALL, Failure::Never);
+
+// What comes of a run: its answer, how often each device was called, and how many bytes of the output were taken.
+#[derive(Clone, Copy)]
+struct Outcome {
+    answer: Result<(), RunFault>,
+    reads: u64,
+    writes: u64,
+    taken: usize,
+}
+
+// A log, and the log that undoes it.
+#[derive(Drop)]
+struct Logs {
+    log: Vec<u8>,
+    undone: Vec<u8>,
+}
+
+fn two_transactions(rt: &impl AllocGlobal) -> Result<Logs, Fail> {
+    Ok(Logs {
+        log: log_of(rt.alloc(), &TWO_TRANSACTIONS)?,
+        undone: log_of(rt.alloc(), &TWO_TRANSACTIONS_UNDONE)?,
+    })
+}
+
+// Runs the reader into the writer. Each mark then tells whether a call of its device failed, and no
+// call came after that one.
+fn run_marked<R: AllocGlobal + Abort>(
+    rt: &R,
+    reader: &mut Watched<SlowReader<'_>>,
+    writer: &mut Watched<SlowWriter>,
+) -> Result<(), RunFault> {
+    let sel = Selection::all();
+    let answer = run(rt.alloc(), reader, Mode::Flashback, &sel, writer);
+    check_mark(rt, reader.failed(), reader.device().failed_calls);
+    check_mark(rt, writer.failed(), writer.device().failed_calls);
+    assert_eq!(rt; reader.failed(), answer == Err(RunFault::Read));
+    assert_eq!(rt; writer.failed(), answer == Err(RunFault::Write));
+    answer
+}
+
+fn check_mark(rt: &impl Abort, failed: bool, failed_calls: u64) {
+    assert_eq!(rt; failed, failed_calls != 0);
+    assert!(rt; failed_calls < 2, "a failed call was tried again");
+}
+
+// A run of the log over these devices has this outcome.
+fn check_run<R: AllocGlobal + Abort>(
+    rt: &R,
+    logs: &Logs,
+    reader: Habit,
+    writer: Habit,
+    wanted: &Outcome,
+) {
+    let (step, failure) = reader;
+    let mut reader = SlowReader::new(&logs.log, step, failure);
+    let (step, failure) = writer;
+    let mut writer = SlowWriter::new(rt, step, failure);
+    assert_eq!(rt; run_marked(rt, &mut reader, &mut writer), wanted.answer);
+    assert_eq!(rt; reader.device().calls, wanted.reads);
+    assert_eq!(rt; writer.device().calls, wanted.writes);
+    let taken = logs.undone.get(..wanted.taken);
+    assert_eq!(rt; Some(writer.device().taken.as_slice()), taken);
+}
+
+// The same of the half that reads: it gives the output, or Read.
+fn check_prepare<R: AllocGlobal + Abort>(rt: &R, logs: &Logs, reader: Habit, wanted: &Outcome) {
+    let (step, failure) = reader;
+    let mut reader = SlowReader::new(&logs.log, step, failure);
+    let prepared = prepare(rt.alloc(), &mut reader, Mode::Flashback, &Selection::all());
+    let answer = match prepared {
+        Ok(text) => {
+            assert_eq!(rt; text.as_slice(), logs.undone.as_slice());
+            Ok(())
+        }
+        Err(fault) => Err(fault),
+    };
+    assert_eq!(rt; answer, wanted.answer);
+    assert_eq!(rt; reader.device().calls, wanted.reads);
+    check_mark(rt, reader.failed(), reader.device().failed_calls);
+}
+
+// The same of the half that writes.
+fn check_put<R: AllocGlobal + Abort>(rt: &R, logs: &Logs, writer: Habit, wanted: &Outcome) {
+    let (step, failure) = writer;
+    let mut writer = SlowWriter::new(rt, step, failure);
+    assert_eq!(rt; put(&mut writer, &logs.undone), wanted.answer);
+    assert_eq!(rt; writer.device().calls, wanted.writes);
+    let taken = logs.undone.get(..wanted.taken);
+    assert_eq!(rt; Some(writer.device().taken.as_slice()), taken);
+    check_mark(rt, writer.failed(), writer.device().failed_calls);
+}
+
+// What comes of a writer that fails, after so many calls and so many bytes.
+fn unwritten(writes: u64, taken: usize) -> Outcome {
+    Outcome {
+        answer: Err(RunFault::Write),
+        reads: 2,
+        writes,
+        taken,
+    }
+}
+
+fn check_writer<R: AllocGlobal + Abort>(rt: &R, logs: &Logs, writer: Habit, wanted: &Outcome) {
+    check_run(rt, logs, STEADY, writer, wanted);
+    check_put(rt, logs, writer, wanted);
+}
+
+#[test]
+fn the_logs_have_their_lengths(rt: HostRuntime) -> Result<(), Fail> {
+    let logs = two_transactions(&rt)?;
+    assert_eq!(rt; (logs.log.len(), logs.undone.len()), (499, 411));
+    Ok(())
+}
+
+// Runs into writers of each number of bytes a call, from a reader that is called so often.
+fn check_writers<R: AllocGlobal + Abort>(rt: &R, logs: &Logs, step: usize, reads: u64) {
+    let reader = (step, Failure::Never);
+    for (step, writes) in WRITERS {
+        let writer = (step, Failure::Never);
+        let wanted = Outcome {
+            answer: Ok(()),
+            reads,
+            writes: writes.saturating_add(1),
+            taken: 411,
+        };
+        check_run(rt, logs, reader, writer, &wanted);
+        check_prepare(rt, logs, reader, &wanted);
+        check_put(rt, logs, writer, &wanted);
+    }
+}
+
+#[test]
+fn writes_the_output_from_short_reads_by_short_writes(rt: HostRuntime) -> Result<(), Fail> {
+    let logs = two_transactions(&rt)?;
+    for (step, reads) in READERS {
+        check_writers(&rt, &logs, step, reads);
+    }
+    Ok(())
+}
+
+// Fails each call of the reader in turn.
+fn check_failed_reads<R: AllocGlobal + Abort>(rt: &R, logs: &Logs, step: usize, reads: u64) {
+    for number in 1..=reads {
+        let reader = (step, Failure::At(number));
+        let wanted = Outcome {
+            answer: Err(RunFault::Read),
+            reads: number,
+            writes: 0,
+            taken: 0,
+        };
+        check_run(rt, logs, reader, STEADY, &wanted);
+        check_prepare(rt, logs, reader, &wanted);
+    }
+}
+
+#[test]
+fn a_failed_read_leaves_the_writer_alone(rt: HostRuntime) -> Result<(), Fail> {
+    let logs = two_transactions(&rt)?;
+    for (step, reads) in READERS {
+        check_failed_reads(&rt, &logs, step, reads);
+    }
+    Ok(())
+}
+
+#[test]
+fn a_failure_behind_the_last_read_is_not_met(rt: HostRuntime) -> Result<(), Fail> {
+    let logs = two_transactions(&rt)?;
+    for (step, reads) in READERS {
+        let reader = (step, Failure::At(reads.saturating_add(1)));
+        let wanted = Outcome {
+            answer: Ok(()),
+            reads,
+            writes: 2,
+            taken: 411,
+        };
+        check_run(&rt, &logs, reader, STEADY, &wanted);
+        check_prepare(&rt, &logs, reader, &wanted);
+    }
+    Ok(())
+}
+
+// Fails each write in turn: first by an error, then by taking nothing.
+fn check_failed_writes<R: AllocGlobal + Abort>(rt: &R, logs: &Logs, step: usize, writes: u64) {
+    let mut taken = 0usize;
+    for number in 1..=writes {
+        let wanted = unwritten(number, taken);
+        check_writer(rt, logs, (step, Failure::At(number)), &wanted);
+        check_writer(rt, logs, (step, Failure::TakesNothingAt(number)), &wanted);
+        taken = taken.saturating_add(step);
+    }
+}
+
+#[test]
+fn a_failed_write_ends_the_run(rt: HostRuntime) -> Result<(), Fail> {
+    let logs = two_transactions(&rt)?;
+    for (step, writes) in WRITERS {
+        check_failed_writes(&rt, &logs, step, writes);
+    }
+    Ok(())
+}
+
+#[test]
+fn a_write_that_takes_nothing_ends_the_run(rt: HostRuntime) -> Result<(), Fail> {
+    let logs = two_transactions(&rt)?;
+    for (step, taken) in [(1, 2), (7, 14)] {
+        let writer = (step, Failure::TakesNothingAt(3));
+        check_writer(&rt, &logs, writer, &unwritten(3, taken));
+    }
+    Ok(())
+}
+
+#[test]
+fn a_failed_flush_comes_after_all_bytes(rt: HostRuntime) -> Result<(), Fail> {
+    let logs = two_transactions(&rt)?;
+    for (step, writes) in WRITERS {
+        let wanted = unwritten(writes.saturating_add(1), 411);
+        check_writer(&rt, &logs, (step, Failure::AtFlush), &wanted);
+    }
+    Ok(())
+}
+
+#[test]
+fn a_watched_device_answers_its_own_errors(rt: HostRuntime) -> Result<(), Fail> {
+    let mut reader = SlowReader::new(&INSERT_ONE_ROW, 1, Failure::At(1));
+    let error = reader.read(&mut [0; 4]).err().ok_or("read")?;
+    assert_eq!(rt; error.kind(), io::ErrorKind::Interrupted);
+
+    let mut writer = SlowWriter::new(&rt, ALL, Failure::At(1));
+    let error = writer.write(&INSERT_ONE_ROW).err().ok_or("written")?;
+    assert_eq!(rt; error.kind(), io::ErrorKind::Interrupted);
+
+    let mut writer = SlowWriter::new(&rt, ALL, Failure::AtFlush);
+    let error = writer.flush().err().ok_or("flushed")?;
+    assert_eq!(rt; error.kind(), io::ErrorKind::Interrupted);
+    Ok(())
+}
+
+#[test]
+fn a_refused_log_leaves_the_writer_alone(rt: HostRuntime) -> Result<(), Fail> {
+    let mut reader = SlowReader::new(b"no log", 1, Failure::Never);
+    let mut writer = SlowWriter::new(&rt, ALL, Failure::Never);
+    let refused = RunFault::Log(Fault::NotABinlog { pos: 0 });
+    assert_eq!(rt; run_marked(&rt, &mut reader, &mut writer), Err(refused));
+    assert_eq!(rt; reader.device().calls, 7);
+    assert_eq!(rt; writer.device().calls, 0);
+    Ok(())
+}
+
+#[test]
+fn reading_stops_one_byte_past_the_limit(rt: HostRuntime) -> Result<(), Fail> {
+    let mut reader = SlowReader::new(b"thirteen byte", 1, Failure::Never);
+    let bytes = read_up_to(rt.alloc(), &mut reader, 13)
+        .ok()
+        .ok_or("refused")?;
+    assert_eq!(rt; bytes.as_slice(), b"thirteen byte".as_slice());
+
+    let mut reader = SlowReader::new(b"thirteen bytes and more", 1, Failure::Never);
+    let fault = read_up_to(rt.alloc(), &mut reader, 13).err().ok_or("read")?;
+    assert_eq!(rt; fault, RunFault::Log(Fault::TooLong { pos: 0 }));
+    assert_eq!(rt; reader.device().calls, 14);
+    assert!(rt; !reader.failed());
+    Ok(())
+}
+
+#[test]
+fn bytes_of_several_reads_go_through_memory(rt: HostRuntime) -> Result<(), Fail> {
+    let mut bytes = INSERT_ONE_ROW.to_vec(rt.alloc())?;
+    bytes.resize(150_000, b'.')?;
+    let mut reader = Watched::new(bytes.as_slice());
+    let read = read_up_to(rt.alloc(), &mut reader, 150_000)
+        .ok()
+        .ok_or("refused")?;
+    assert_eq!(rt; read.as_slice(), bytes.as_slice());
+
+    let mut writer = Watched::new(Vec::new(rt.alloc()));
+    assert_eq!(rt; put(&mut writer, &read), Ok(()));
+    assert_eq!(rt; writer.device().as_slice(), bytes.as_slice());
+    assert!(rt; !reader.failed() && !writer.failed());
+    Ok(())
+}
