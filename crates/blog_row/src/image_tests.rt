@@ -142,7 +142,15 @@ static DECIMALS: [(u8, u8, usize); 25] = [
 ];
 
 #[test]
-fn widths_follow_bits_and_digits(rt: HostRuntime) -> Result<(), Fail> {
+fn widths_follow_digits(rt: HostRuntime) -> Result<(), Fail> {
+    for (digits, scale, width) in &DECIMALS {
+        check_column(&rt, rt.alloc(), 246, &[*digits, *scale], b"", *width)?;
+    }
+    Ok(())
+}
+
+#[test]
+fn widths_follow_digits_of_seconds(rt: HostRuntime) -> Result<(), Fail> {
     let fractions: [(u8, u8); 7] = [(0, 0), (1, 1), (2, 1), (3, 2), (4, 2), (5, 3), (6, 3)];
     for (digits, more) in fractions {
         let more = usize::from(more);
@@ -150,9 +158,11 @@ fn widths_follow_bits_and_digits(rt: HostRuntime) -> Result<(), Fail> {
         check_column(&rt, rt.alloc(), 18, &[digits], b"", 5 + more)?;
         check_column(&rt, rt.alloc(), 19, &[digits], b"", 3 + more)?;
     }
-    for (digits, scale, width) in &DECIMALS {
-        check_column(&rt, rt.alloc(), 246, &[*digits, *scale], b"", *width)?;
-    }
+    Ok(())
+}
+
+#[test]
+fn widths_follow_bits(rt: HostRuntime) -> Result<(), Fail> {
     for bits in 0..=64u8 {
         check_column(
             &rt,

@@ -6,11 +6,12 @@ use std::test::Fail;
 
 #[test]
 fn reads_or_refuses_layouts(rt: HostRuntime) {
-    let cases: [(&[u8], Result<usize, RowFault>); 16] = [
+    let cases: [(&[u8], Result<usize, RowFault>); 17] = [
         (&[0x00, 0, 0], Err(RowFault::BadBody)),
         (&[0xFB, 3, 0, 0], Err(RowFault::BadBody)),
         (&[0xFC, 0x01, 0x10], Err(RowFault::BadBody)),
         (&[0xFC, 0x01, 0x00, 3, 0, 0], Ok(1)),
+        (&[1, 14, 0, 0], Err(RowFault::UnknownType)),
         (&[2, 3, 14, 0, 0], Err(RowFault::UnknownType)),
         (&[1, 3, 0], Err(RowFault::BadBody)),
         (&[1, 3, 0, 0], Ok(1)),

@@ -11,6 +11,7 @@ use blog_flash::Watched;
 use logs::{INSERT_ONE_ROW, with_byte};
 use std::alloc::AllocError;
 use std::path::PathBuf;
+use std::process::Abort;
 use std::test::Fail;
 use std::{env, fs, io, process};
 use writers::Broken;
@@ -121,6 +122,39 @@ fn names_a_log_that_cannot_be_read(rt: HostRuntime) -> Result<(), Fail> {
     Ok(())
 }
 
+/// The options as the help names them.
+const OPTIONS: [&str; 9] = [
+    "-B, --flashback",
+    "--forward",
+    "--summary",
+    "--sql",
+    "-j, --start-position <POS>",
+    "--stop-position <POS>",
+    "-d, --database <NAME>",
+    "-T, --table <NAME>",
+    "-r, --result-file <FILE>",
+];
+
+/// The same in the examples of the help.
+const IN_EXAMPLES: [&str; 9] = [
+    "-B ",
+    "--forward ",
+    "--summary ",
+    "-B --sql ",
+    "-j ",
+    "--stop-position ",
+    "-d ",
+    "-T ",
+    "-r ",
+];
+
+/// The text holds each of these words.
+fn check_words(rt: &impl Abort, text: &str, words: &[&str]) {
+    for word in words {
+        assert!(rt; text.contains(*word), "{word}");
+    }
+}
+
 #[test]
 fn helps(rt: HostRuntime) -> Result<(), Fail> {
     let outcome = run_words(&rt, &["--help"])?;
@@ -128,34 +162,9 @@ fn helps(rt: HostRuntime) -> Result<(), Fail> {
     assert!(rt; outcome.errors().is_empty());
     let text = str::from_utf8(outcome.output())?;
     assert!(rt; text.contains("Usage: flashback (-B | --forward | --summary) [--sql] [-j POS]"));
-    let words = [
-        "-B, --flashback",
-        "--forward",
-        "--summary",
-        "--sql",
-        "-j, --start-position <POS>",
-        "--stop-position <POS>",
-        "-d, --database <NAME>",
-        "-T, --table <NAME>",
-        "-r, --result-file <FILE>",
-    ];
-    for word in words {
-        assert!(rt; text.contains(word), "{word}");
-    }
+    check_words(&rt, text, &OPTIONS);
     let examples = text.split_once("Examples:").map_or("", |(_, rest)| rest);
-    for word in [
-        "-B ",
-        "--forward ",
-        "--summary ",
-        "-B --sql ",
-        "-j ",
-        "--stop-position ",
-        "-d ",
-        "-T ",
-        "-r ",
-    ] {
-        assert!(rt; examples.contains(word), "{word}");
-    }
+    check_words(&rt, examples, &IN_EXAMPLES);
     Ok(())
 }
 

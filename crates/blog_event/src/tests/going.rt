@@ -1,7 +1,8 @@
 //! The events of a log, by their positions and one after another.
 
 use super::logs::{LOG, with_bytes};
-use crate::{Fault, Header, Log};
+use crate::{Events, Fault, Header, Log};
+use std::process::Abort;
 use std::test::Fail;
 
 #[test]
@@ -18,6 +19,12 @@ fn finds_events_at_their_starts(rt: HostRuntime) -> Result<(), Fail> {
         assert_eq!(rt; (event.pos, event.header.kind), (at, kind));
         assert_eq!(rt; event.body, &LOG[at as usize + 19..end], "at {at}");
     }
+    Ok(())
+}
+
+#[test]
+fn finds_no_event_elsewhere(rt: HostRuntime) -> Result<(), Fail> {
+    let log = Log::open(&LOG)?;
     // Beside the last event, with 19 and 18 bytes left, and at and past the end.
     for at in [0, 231, 233, 240, 241, 258, 259, 260, u32::MAX] {
         let cut = Some(Fault::CutEvent { pos: at });
@@ -64,6 +71,14 @@ fn goes_from_event_to_event(rt: HostRuntime) -> Result<(), Fail> {
     Ok(())
 }
 
+/// The events from there on are one fault and nothing more.
+fn check_one_fault(rt: &impl Abort, events: &mut Events<'_>, pos: u32) {
+    let fault = events.next().expect(rt, "a fault").err();
+    assert_eq!(rt; fault, Some(Fault::CutEvent { pos }));
+    assert!(rt; events.next().is_none(), "behind {pos}");
+    assert!(rt; events.next().is_none(), "behind {pos}");
+}
+
 #[test]
 fn starts_at_and_past_the_end(rt: HostRuntime) -> Result<(), Fail> {
     let log = Log::open(&LOG)?;
@@ -71,11 +86,7 @@ fn starts_at_and_past_the_end(rt: HostRuntime) -> Result<(), Fail> {
     assert!(rt; none.next().is_none());
     assert!(rt; none.next().is_none());
     for past in [260, 300, u32::MAX] {
-        let mut events = log.events(past);
-        let fault = events.next().expect(&rt, "a fault").err();
-        assert_eq!(rt; fault, Some(Fault::CutEvent { pos: past }));
-        assert!(rt; events.next().is_none(), "from {past}");
-        assert!(rt; events.next().is_none(), "from {past}");
+        check_one_fault(&rt, &mut log.events(past), past);
     }
     Ok(())
 }
@@ -83,13 +94,14 @@ fn starts_at_and_past_the_end(rt: HostRuntime) -> Result<(), Fail> {
 #[test]
 fn ends_with_one_fault(rt: HostRuntime) -> Result<(), Fail> {
     let log = Log::open(&LOG)?;
-    for from in [231, 241] {
-        let mut events = log.events(from);
-        let fault = events.next().expect(&rt, "a fault").err();
-        assert_eq!(rt; fault, Some(Fault::CutEvent { pos: from }));
-        assert!(rt; events.next().is_none(), "from {from}");
-        assert!(rt; events.next().is_none(), "from {from}");
+    for from in [231, 241, 258] {
+        check_one_fault(&rt, &mut log.events(from), from);
     }
+    Ok(())
+}
+
+#[test]
+fn ends_at_an_event_that_is_cut(rt: HostRuntime) -> Result<(), Fail> {
     // The last event's size: 18, one past the end, and the greatest; and the log cut in its header and before its end.
     let small = with_bytes(241, &[18]);
     let past = with_bytes(241, &[28]);
@@ -98,9 +110,7 @@ fn ends_with_one_fault(rt: HostRuntime) -> Result<(), Fail> {
         let mut events = Log::open(bytes)?.events(196);
         let rows = events.next().expect(&rt, "an event")?;
         assert_eq!(rt; (rows.pos, rows.header.size), (196, 36));
-        let fault = events.next().expect(&rt, "a fault").err();
-        assert_eq!(rt; fault, Some(Fault::CutEvent { pos: 232 }));
-        assert!(rt; events.next().is_none());
+        check_one_fault(&rt, &mut events, 232);
     }
     Ok(())
 }

@@ -65,44 +65,48 @@ fn sql_goes_with_two_modes(rt: HostRuntime) -> Result<(), Fail> {
     Ok(())
 }
 
+/// One run's words, by options that are short, that hold their values, and that are long.
+const SHORT: [&str; 12] = [
+    "-B",
+    "-j",
+    "160",
+    "--stop-position",
+    "232",
+    "-d",
+    "shop",
+    "-T",
+    "orders",
+    "-r",
+    "undo",
+    "a.binlog",
+];
+
+const ATTACHED: [&str; 7] = [
+    "a.binlog",
+    "-rundo",
+    "-Torders",
+    "-dshop",
+    "-j160",
+    "--stop-position=232",
+    "-B",
+];
+
+const LONG: [&str; 10] = [
+    "--result-file=undo",
+    "--table=orders",
+    "a.binlog",
+    "--database",
+    "shop",
+    "--start-position",
+    "160",
+    "--stop-position",
+    "232",
+    "--flashback",
+];
+
 #[test]
 fn options_have_a_short_and_a_long_form(rt: HostRuntime) -> Result<(), Fail> {
-    let short = [
-        "-B",
-        "-j",
-        "160",
-        "--stop-position",
-        "232",
-        "-d",
-        "shop",
-        "-T",
-        "orders",
-        "-r",
-        "undo",
-        "a.binlog",
-    ];
-    let attached = [
-        "a.binlog",
-        "-rundo",
-        "-Torders",
-        "-dshop",
-        "-j160",
-        "--stop-position=232",
-        "-B",
-    ];
-    let long = [
-        "--result-file=undo",
-        "--table=orders",
-        "a.binlog",
-        "--database",
-        "shop",
-        "--start-position",
-        "160",
-        "--stop-position",
-        "232",
-        "--flashback",
-    ];
-    for given in [short.as_slice(), attached.as_slice(), long.as_slice()] {
+    for given in [SHORT.as_slice(), &ATTACHED, &LONG] {
         let words = words_of(&rt, given)?;
         let task = task_of(&rt, words.as_slice());
         assert_eq!(rt; task.mode, Mode::Flashback);
@@ -118,23 +122,26 @@ fn options_have_a_short_and_a_long_form(rt: HostRuntime) -> Result<(), Fail> {
 
 #[test]
 fn positions_are_digits_alone(rt: HostRuntime) -> Result<(), Fail> {
-    let good = [
+    for (word, position) in [
         ("0", 0),
         ("0004", 4),
         ("4294967295", 4294967295),
         ("00000000000232", 232),
-    ];
-    for (word, position) in good {
-        for option in ["--start-position", "--stop-position"] {
-            let words = words_of(&rt, &["-B", option, word, "a.binlog"])?;
-            let selection = task_of(&rt, words.as_slice()).selection;
-            let read = if option == "--start-position" {
-                Some(selection.start)
-            } else {
-                selection.stop
-            };
-            assert_eq!(rt; read, Some(position), "{option} {word}");
-        }
+    ] {
+        let words = words_of(&rt, &["-B", "--start-position", word, "a.binlog"])?;
+        let selection = task_of(&rt, words.as_slice()).selection;
+        assert_eq!(rt;
+            (selection.start, selection.stop),
+            (position, None),
+            "{word}"
+        );
+        let words = words_of(&rt, &["-B", "--stop-position", word, "a.binlog"])?;
+        let selection = task_of(&rt, words.as_slice()).selection;
+        assert_eq!(rt;
+            (selection.start, selection.stop),
+            (4, Some(position)),
+            "{word}"
+        );
     }
     Ok(())
 }
