@@ -14,8 +14,10 @@ import sys
 
 from measure import Best, run
 
-CASES = ["maps", "tables", "transactions", "statements"]
-SIZES = [(10_000, 40_000), (25_000, 100_000), (250_000, 1_000_000), (250_000, 1_000_000)]
+CASES = ["maps", "shuffled_maps", "tables", "transactions", "statements"]
+SIZES = [(10_000, 40_000, 160_000), (10_000, 40_000, 160_000), (25_000, 100_000, 400_000), (250_000, 1_000_000, 4_000_000), (250_000, 1_000_000, 4_000_000)]
+# each index gets its memory anew from the system, as in a run of flashback, however large it is
+FRESH_MEMORY = "glibc.malloc.mmap_threshold=131072"
 TIME = re.compile(r"(\w+): (\d+) ns by the clock, (\d+) ns on the processor")
 
 
@@ -90,11 +92,13 @@ def print_rows(program, settings):
 
 def print_index(program, settings):
     of = Measured(program, "index", "mixed", 1000, settings)
-    entries, mb = of.numbers["index"][2], of.length / 1e6
+    entries, mb, once = of.numbers["index"][2], of.length / 1e6, Best()
+    # without the bytes that cool the caches between two rounds
+    run([program, "index", os.path.join(settings[3], "mixed-1000.binlog"), "0"], os.devnull, settings[2], once)
     by_clock, on_processor = of.seconds["indexing"]
     print(f"\nIndex of a log of {mb:,.0f} MB with {of.events:,} events, of which it has {entries:,}:\n\n"
           "| Of | MB/s by the clock | on the processor | peak memory, MB | beside the log, MB |\n|---|---|---|---|---|\n"
-          f"| index | {mb / by_clock:,.0f} | {mb / on_processor:,.0f} | {of.best.peak / 1e6:,.0f} | {of.best.peak / 1e6 - mb:,.0f} |\n"
+          f"| index | {mb / by_clock:,.0f} | {mb / on_processor:,.0f} | {once.peak / 1e6:,.0f} | {once.peak / 1e6 - mb:,.0f} |\n"
           f"| cat | {mb / of.cat.wall:,.0f} | {mb / of.cat.processor:,.0f} | {of.cat.peak / 1e6:,.0f} | - |")
 
 
@@ -102,14 +106,17 @@ def print_growth(program, settings):
     print("\nGrowth of the index, milliseconds by the clock and on the processor:\n\n"
           "| Case | n | at n | at 4n | times | at n, on the processor | at 4n | times |\n|---|---|---|---|---|---|---|---|")
     for case, sizes in zip(CASES, SIZES):
-        less, more = (Measured(program, "index", case, size, settings).seconds["indexing"] for size in sizes)
-        cells = " | ".join(f"{a * 1e3:,.1f} | {b * 1e3:,.1f} | {b / a:.2f}" for a, b in zip(less, more))
-        print(f"| {case} | {sizes[0]:,} | {cells} |")
+        seconds = [Measured(program, "index", case, size, settings).seconds["indexing"] for size in sizes]
+        for size, less, more in zip(sizes, seconds, seconds[1:]):
+            cells = " | ".join(f"{a * 1e3:,.1f} | {b * 1e3:,.1f} | {b / a:.2f}" for a, b in zip(less, more))
+            print(f"| {case} | {size:,} | {cells} |")
 
 
 def main(program, runs, times, limit, out):
     settings = int(runs), int(times), float(limit), out
     for part in (print_events, print_rows, print_index, print_growth):
+        if part is print_index:
+            os.environ["GLIBC_TUNABLES"] = FRESH_MEMORY
         part(program, settings)
         sys.stdout.flush()
 

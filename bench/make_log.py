@@ -13,6 +13,7 @@ change. On success one line is printed: the file's bytes, its events and its row
 import random
 import struct
 import sys
+from functools import partial
 
 ROTATING = 8 << 20  # bytes of the part that is repeated, at most; a cache of the processor holds less
 EVENT_SIZE = 8192   # a server begins a new rows event at about this size
@@ -222,8 +223,8 @@ def rows_for(size, count, source):
     return images
 
 
-def many_maps(source, part, size, count=40_000):
-    """One statement of 40,000 table maps, and then rows events that use them all, not in the order of the maps."""
+def many_maps(source, part, size, count=40_000, shuffled=True):
+    """One statement of 40,000 table maps, and then rows events that use them all, shuffled or in the order of the maps."""
     tables = small_tables(count)
     part.query(b"many", b"BEGIN")
     for table in tables:
@@ -231,7 +232,8 @@ def many_maps(source, part, size, count=40_000):
     left = max(size - len(part.bytes), 1)
     images = rows_for(left, count, source)
     while left > 0:
-        source.shuffle(tables)
+        if shuffled:
+            source.shuffle(tables)
         before = len(part.bytes)
         for table in tables:
             part.rows_event(table, WRITE, images, last=False)
@@ -279,7 +281,7 @@ REPEATED = {"mixed": mixed, "one_row": one_row, "wide": wide, "many_statements":
 WHOLE = {"many_maps": many_maps, "many_tables": many_tables}
 # these take a number of maps, tables, transactions or statements
 COUNTED_REPEATED = {"transactions": one_row, "statements": many_statements}
-COUNTED_WHOLE = {"maps": many_maps, "tables": many_tables}
+COUNTED_WHOLE = {"maps": partial(many_maps, shuffled=False), "shuffled_maps": many_maps, "tables": many_tables}
 SHAPES = REPEATED | WHOLE | COUNTED_REPEATED | COUNTED_WHOLE
 ONE_TRANSACTION = ("many_statements", "statements")  # of all copies
 

@@ -1,76 +1,136 @@
--- How the numbers of rows by table grow by those of one more rows event.
-use Rattle.std.proofs.Common.{◌≡◌, ℕ, zero, suc, ◌+◌, ◌*◌, ◌/◌, ◌<◌, ◌≤◌, Bool, true, false, cond, if◌then◌else◌, ◌&&◌, ◌||◌, List, [], ◌∷◌, ◌++◌, map, length, filter, find, slice_get, Option, Some, None, option_map, refl, sym, ap, ◌∙◌, subst, bytes_eq, arith, count_by}
-use Rattle.std.specs.List.{list_any, AllByRecursion}
-use Rattle.std.proofs.lemmas.Bool.{false≢true, cond-true, cond-false}
-use Rattle.std.proofs.lemmas.List.{length-map, map-append, append_assoc}
+-- How what the counts hold changes with room for more tables, with one more rows event and with one more kept map.
+use Rattle.std.proofs.Common.{◌≡◌, ◌≢◌, ◌⊎◌, inl, inr, ℕ, zero, suc, ◌+◌, ◌/◌, ◌<◌, ◌≤◌, Bool, true, false, cond, get_or, if◌then◌else◌, ◌||◌, List, [], ◌∷◌, ◌++◌, map, length, slice_get, slice_set, replicate, take, take_all, Option, Some, None, option_map, refl, sym, ap, ◌∙◌, subst, arith, count_by, length-set}
+use Rattle.std.specs.List.{list_any, AllByRecursion, IsDistinct}
+use Rattle.std.proofs.lemmas.Bool.{false≢true, cases_eq}
+use Rattle.std.proofs.lemmas.List.{append-nil, length-map, map-append}
 use Rattle.std.proofs.lemmas.List.Elements.{filter-append}
-use Rattle.std.proofs.lemmas.Option.{none-some, same_Some, slice_get-map}
+use Rattle.std.proofs.lemmas.List.Folds.{list_any-append}
 use Rattle.std.proofs.lemmas.List.Sums.{sum_by-append, sum_by-cons}
-use Rattle.std.specs.Map.{lookup}
-use Rattle.indexmap.specs.IndexMap.{insert_entry}
-use Rattle.indexmap.specs.IndexSet.{insert_key}
+use Rattle.std.proofs.lemmas.Map.Keys.{IsDistinct-head, IsDistinct-tail, any_passes_from_place}
+use Rattle.std.proofs.lemmas.Option.{none-some, same_Some, slice_get-map, slice_get_read}
 use Rattle.blog_row.specs.declared.kind.RowsKind.{RowsKind}
 use Rattle.blog_row.specs.declared.kind.RowsKind.TheVariants.{Write, Update, Delete}
 use Rattle.blog_row.specs.Image.{Row}
 use Rattle.blog_row.specs.TableMap.{Table, layout_of}
 use Rattle.blog_trans.specs.declared.counts.Count.{Count}
-use Rattle.blog_trans.specs.declared.table_name.TableName.{TableName}
+use Rattle.blog_trans.specs.declared.counts.Counts.{Counts}
 use Rattle.blog_trans.specs.Acceptance.{is_same_table}
 use Rattle.blog_trans.specs.Groups.{RowsEvent}
 use Rattle.blog_trans.specs.Changes.{Change, Inserted, Deleted, Updated, TableCount, count_of, is_insert_into, is_update_of, is_delete_from, updates, changes_by_kind, changes_of_rows, table_of, row_by, first_tables}
-use Rattle.blog_trans.specs.TableNameView.{table_named}
-use Rattle.blog_trans.specs.CountsView.{counted, held_of}
 use Rattle.blog_trans.specs.Counting.{with_images}
 use Rattle.blog_trans.specs.declared.maps.MapSeen.{MapSeen}
 use Rattle.blog_trans.specs.StatementMaps.{used_maps}
-use Rattle.blog_trans.proofs.Tables.{same-table, own-table, with_table, first_tables-more}
+use Rattle.blog_trans.specs.CountsView.{AreCounts, counted, is_kept}
+use Rattle.blog_trans.proofs.Tables.{same-table, own-table, first_tables-more}
 
--- ---- what is held
+-- ---- the place of an element
 
--- two names of the program are the same
-abbrev pub is_same_name : TableName → TableName → Bool
-is_same_name a b = is_same_table (table_named a) (table_named b)
+pub slice_get-set_same : {X : Type 0} (xs : List X) (i : ℕ) (x : X) → i < length xs → slice_get (slice_set xs i x) i ≡ Some x
+slice_get-set_same [] i x lt = absurd (omega (arith, lt))
+slice_get-set_same (y ∷ xs) zero x lt = refl
+slice_get-set_same (y ∷ xs) (suc i) x lt = slice_get-set_same xs i x (omega (arith, lt))
 
--- after an insert the name has the new numbers, and every other table those that it had
-pub held-insert : (entries : List (TableName × Count)) (name : TableName) (c : Count) (t : Table)
-    → held_of (insert_entry is_same_name entries name c) t ≡ (if is_same_table t (table_named name) then Some c else held_of entries t)
-held-insert [] name c t = at (is_same_table t (table_named name))
+pub slice_get-set_other : {X : Type 0} (xs : List X) (i j : ℕ) (x : X) → j ≢ i → slice_get (slice_set xs i x) j ≡ slice_get xs j
+slice_get-set_other [] i j x other = refl
+slice_get-set_other (y ∷ xs) zero zero x other = absurd (other refl)
+slice_get-set_other (y ∷ xs) zero (suc j) x other = refl
+slice_get-set_other (y ∷ xs) (suc i) zero x other = refl
+slice_get-set_other (y ∷ xs) (suc i) (suc j) x other = slice_get-set_other xs i j x (λ e. other (ap suc e))
+
+-- where an added element tells no more than none does, the added elements change nothing
+pub filled-same : {X Y : Type 0} (f : Option X → Y) (x : X) → f (Some x) ≡ f None → (xs : List X) (k n : ℕ) → f (slice_get (xs ++ replicate k x) n) ≡ f (slice_get xs n)
+filled-same f x same [] zero n = refl
+filled-same f x same [] (suc k) zero = same
+filled-same f x same [] (suc k) (suc n) = filled-same f x same [] k n
+filled-same f x same (y ∷ xs) k zero = refl
+filled-same f x same (y ∷ xs) k (suc n) = filled-same f x same xs k n
+
+pub filled-up : {X : Type 0} (xs ys : List X) (x : X) (n k : ℕ) → length xs ≤ n → ys ≡ take n xs ++ replicate k x → ys ≡ xs ++ replicate k x
+filled-up xs ys x n k within filled = filled ∙ ap (λ zs. zs ++ replicate k x) (take_all n xs within)
+
+pub all-at : {X : Type 0} (P : X → Type 0) (xs : List X) (i : ℕ) (x : X) → AllByRecursion P xs → slice_get xs i ≡ Some x → P x
+all-at P [] i x all at = absurd (none-some x at)
+all-at P (y ∷ xs) zero x all at = subst P (same_Some y x at) all.0
+all-at P (y ∷ xs) (suc i) x all at = all-at P xs i x all.1 at
+
+-- ---- tables that differ
+
+-- a table has one place
+distinct-place : (tables : List Table) (i j : ℕ) (t : Table) → IsDistinct is_same_table tables → slice_get tables i ≡ Some t → slice_get tables j ≡ Some t → i ≡ j
+distinct-place [] i j t distinct here there = absurd (none-some t here)
+distinct-place (u ∷ tables) zero zero t distinct here there = refl
+distinct-place (u ∷ tables) zero (suc j) t distinct here there =
+    let apart = all-at (λ x. is_same_table u x ≡ false) tables j t (IsDistinct-head is_same_table u tables distinct) there in
+    absurd (false≢true (sym apart ∙ ap (λ x. is_same_table x t) (same_Some u t here) ∙ own-table t))
+distinct-place (u ∷ tables) (suc i) zero t distinct here there =
+    let apart = all-at (λ x. is_same_table u x ≡ false) tables i t (IsDistinct-head is_same_table u tables distinct) here in
+    absurd (false≢true (sym apart ∙ ap (λ x. is_same_table x t) (same_Some u t there) ∙ own-table t))
+distinct-place (u ∷ tables) (suc i) (suc j) t distinct here there =
+    ap suc (distinct-place tables i j t (IsDistinct-tail is_same_table u tables distinct) here there)
+
+-- tables of other places are others
+other-place : (tables : List Table) (i j : ℕ) (t u : Table) → IsDistinct is_same_table tables → slice_get tables i ≡ Some t → slice_get tables j ≡ Some u → i ≢ j → is_same_table t u ≡ false
+other-place tables i j t u distinct here there other = by (is_same_table t u) refl
   where
-    at : (b : Bool) → option_map (λ (e : TableName × Count). e.1) (if b then Some (name, c) else None) ≡ (if b then Some c else None)
-    at true = refl
-    at false = refl
-held-insert (e ∷ entries) name c t = by_key (is_same_name name e.0) refl (held-insert entries name c t)
+    by : (b : Bool) → is_same_table t u ≡ b → b ≡ false
+    by true same = absurd (other (distinct-place tables i j u distinct (here ∙ ap Some (same-table t u same)) there))
+    by false same = refl
+
+-- one that isn't among them isn't the one at a place
+absent-place : (tables : List Table) (i : ℕ) (t u : Table) → list_any (is_same_table t) tables ≡ false → slice_get tables i ≡ Some u → is_same_table t u ≡ false
+absent-place tables i t u absent there = by (is_same_table t u) refl
   where
-    first : Bool → Option Count → Option Count
-    first b rest = if b then Some e.1 else rest
+    by : (b : Bool) → is_same_table t u ≡ b → b ≡ false
+    by true same = absurd (false≢true (sym absent ∙ any_passes_from_place (is_same_table t) tables i u there same))
+    by false same = refl
 
-    found : (b : Bool) (o : Option (TableName × Count)) (d : Count) → option_map (λ (x : TableName × Count). x.1) (if b then Some (e.0, d) else o) ≡ (if b then Some d else option_map (λ (x : TableName × Count). x.1) o)
-    found true o d = refl
-    found false o d = refl
+-- ---- tables in the order in which each comes first
 
-    twice : (b : Bool) (rest : Option Count) → (if b then Some c else rest) ≡ (if b then Some c else first b rest)
-    twice true rest = refl
-    twice false rest = refl
+-- they are the tables
+first_tables-any : (t : Table) (seen ts : List Table) → (list_any (is_same_table t) seen || list_any (is_same_table t) (first_tables seen ts)) ≡ (list_any (is_same_table t) seen || list_any (is_same_table t) ts)
+first_tables-any t seen [] = refl
+first_tables-any t seen (u ∷ ts) = by_case (list_any (is_same_table u) seen) refl (first_tables-any t seen ts) (first_tables-any t (u ∷ seen) ts)
+  where
+    any : List Table → Bool
+    any us = list_any (is_same_table t) us
 
-    apart : (x y : Bool) (rest : Option Count) → ((x ≡ true) → (y ≡ true) → ⊥) → first x (if y then Some c else rest) ≡ (if y then Some c else first x rest)
-    apart true true rest both = absurd (both refl refl)
-    apart true false rest both = refl
-    apart false y rest both = refl
+    moved : (x s a b : Bool) → ((x || s) || a) ≡ ((x || s) || b) → (s || (x || a)) ≡ (s || (x || b))
+    moved x true a b e = refl
+    moved true false a b e = refl
+    moved false false a b e = e
 
-    by_key : (b : Bool) → is_same_name name e.0 ≡ b → held_of (insert_entry is_same_name entries name c) t ≡ (if is_same_table t (table_named name) then Some c else held_of entries t)
-        → held_of (if b then (e.0, c) ∷ entries else e ∷ insert_entry is_same_name entries name c) t ≡ (if is_same_table t (table_named name) then Some c else held_of (e ∷ entries) t)
-    by_key true key rest =
-        let same = same-table (table_named name) (table_named e.0) key in
-        found (is_same_table t (table_named e.0)) (find (λ (x : TableName × Count). is_same_table t (table_named x.0)) entries) c
-        ∙ twice (is_same_table t (table_named e.0)) (held_of entries t)
-        ∙ ap (λ u. if is_same_table t u then Some c else first (is_same_table t (table_named e.0)) (held_of entries t)) (sym same)
-        ∙ ap (λ o. if is_same_table t (table_named name) then Some c else o) (sym (found (is_same_table t (table_named e.0)) (find (λ (x : TableName × Count). is_same_table t (table_named x.0)) entries) e.1))
-    by_key false key rest =
-        found (is_same_table t (table_named e.0)) (find (λ (x : TableName × Count). is_same_table t (table_named x.0)) (insert_entry is_same_name entries name c)) e.1
-        ∙ ap (first (is_same_table t (table_named e.0))) rest
-        ∙ apart (is_same_table t (table_named e.0)) (is_same_table t (table_named name)) (held_of entries t)
-        (λ p q. false≢true (sym key ∙ subst (λ u. is_same_table (table_named name) u ≡ true) (sym (same-table t (table_named name) q) ∙ same-table t (table_named e.0) p) (own-table (table_named name))))
-        ∙ ap (λ o. if is_same_table t (table_named name) then Some c else o) (sym (found (is_same_table t (table_named e.0)) (find (λ (x : TableName × Count). is_same_table t (table_named x.0)) entries) e.1))
+    more : (x s a b : Bool) → ((x ≡ true) → (s ≡ true)) → (s || a) ≡ (s || b) → (s || a) ≡ (s || (x || b))
+    more x true a b known e = refl
+    more true false a b known e = absurd (false≢true (known refl))
+    more false false a b known e = e
+
+    by_case : (b : Bool) → list_any (is_same_table u) seen ≡ b → (any seen || any (first_tables seen ts)) ≡ (any seen || any ts) → (any (u ∷ seen) || any (first_tables (u ∷ seen) ts)) ≡ (any (u ∷ seen) || any ts)
+        → (any seen || any (if b then first_tables seen ts else u ∷ first_tables (u ∷ seen) ts)) ≡ (any seen || (is_same_table t u || any ts))
+    by_case true known kept added = more (is_same_table t u) (any seen) (any (first_tables seen ts)) (any ts) (λ same. ap (λ v. list_any (is_same_table v) seen) (same-table t u same) ∙ known) kept
+    by_case false known kept added = moved (is_same_table t u) (any seen) (any (first_tables (u ∷ seen) ts)) (any ts) added
+
+-- one more of a known table, and one more of another
+first_tables-known : (ts : List Table) (t : Table) → list_any (is_same_table t) ts ≡ true → first_tables [] (ts ++ t ∷ []) ≡ first_tables [] ts
+first_tables-known ts t known =
+    first_tables-more [] ts t
+    ∙ ap (λ b. if b then first_tables [] ts else first_tables [] ts ++ t ∷ []) (first_tables-any t [] ts ∙ known)
+
+first_tables-new : (ts : List Table) (t : Table) → list_any (is_same_table t) ts ≡ false → first_tables [] (ts ++ t ∷ []) ≡ first_tables [] ts ++ t ∷ []
+first_tables-new ts t new =
+    first_tables-more [] ts t
+    ∙ ap (λ b. if b then first_tables [] ts else first_tables [] ts ++ t ∷ []) (first_tables-any t [] ts ∙ new)
+
+-- whether a table is among them with one more
+any-more : (t u : Table) (ts : List Table) (b : Bool) → is_same_table t u ≡ b → list_any (is_same_table t) (ts ++ u ∷ []) ≡ (list_any (is_same_table t) ts || (b || false))
+any-more t u ts b same = list_any-append (is_same_table t) ts (u ∷ []) ∙ ap (λ c. list_any (is_same_table t) ts || (c || false)) same
+
+or-none : (b : Bool) → (b || (false || false)) ≡ b
+or-none true = refl
+or-none false = refl
+
+or-one : (b : Bool) → (b || (true || false)) ≡ true
+or-one true = refl
+or-one false = refl
 
 -- ---- numbers of changes
 
@@ -150,63 +210,208 @@ counts-other Delete t u rows cs other =
     (none-of (is_update_of t) cs (map (Deleted u) rows) _ refl (count-all (is_update_of t) (Deleted u) false (λ row. refl) rows))
     (none-of (is_delete_from t) cs (map (Deleted u) rows) _ refl (count-all (is_delete_from t) (Deleted u) false (λ row. other) rows))
 
--- what is held after a rows event is counted
-pub counts-more : (cs : List Change) (r : RowsEvent) (entries : List (TableName × Count)) (name : TableName) (c : Count)
-    → ((t : Table) → counted t (held_of entries t) ≡ count_of cs t) → table_of r.map ≡ table_named name → counted (table_named name) (Some c) ≡ count_of cs (table_named name)
-    → (t : Table) → counted t (held_of (insert_entry is_same_name entries name (with_images r.kind (length r.images) c)) t) ≡ count_of (cs ++ changes_of_rows r) t
-counts-more cs r entries name c held of_name before t =
-    ap (counted t) (held-insert entries name (with_images r.kind (length r.images) c) t)
-    ∙ by_case (is_same_table t (table_named name)) refl
-    ∙ ap (λ u. count_of (cs ++ changes_by_kind r.kind u rows) t) (sym of_name)
+-- ---- what the counts hold
+
+-- with room for more tables
+pub counts-filled : {A : Type 0} (tables : List Table) (cs : List Change) (ts : List Table) (before after : Counts A) (none : Count) (k : ℕ)
+    → ((t : Table) → counted t (Some none) ≡ counted t None) → none.kept ≡ false
+    → after.rows.items ≡ before.rows.items ++ replicate k none → after.tables.items ≡ before.tables.items → length after.rows.items ≤ length tables
+    → AreCounts tables cs ts before → AreCounts tables cs ts after
+counts-filled tables cs ts before after none k nothing unkept rows same few are = record {
+  rows = λ n t at. ap (λ xs. counted t (slice_get xs n)) rows ∙ filled-same (counted t) none (nothing t) before.rows.items k n ∙ are.rows n t at;
+  others = are.others;
+  kept = λ n t at. ap (λ xs. is_kept (slice_get xs n)) rows ∙ filled-same is_kept none unkept before.rows.items k n ∙ are.kept n t at;
+  known = are.known;
+  firsts = ap (map (λ n. slice_get tables n)) same ∙ are.firsts;
+  few = few;
+  distinct = are.distinct;
+}
+
+-- with the rows of one more rows event
+pub counts-more : {A : Type 0} (tables : List Table) (cs : List Change) (ts : List Table) (r : RowsEvent) (i : ℕ) (c : Count) (before after : Counts A)
+    → slice_get tables i ≡ Some (table_of r.map) → i < length before.rows.items → slice_get before.rows.items i ≡ Some c
+    → after.rows.items ≡ slice_set before.rows.items i (with_images r.kind (length r.images) c) → after.tables.items ≡ before.tables.items
+    → AreCounts tables cs ts before → AreCounts tables (cs ++ changes_of_rows r) ts after
+counts-more tables cs ts r i c before after of_map within had rows same are = record {
+  rows = λ n t at. ap (λ xs. counted t (slice_get xs n)) rows ∙ counted-at n t at (cases_eq n i);
+  others = λ t absent. are.others t absent ∙ counts-other r.kind t table images cs (absent-place tables i t table absent of_map);
+  kept = λ n t at. ap (λ xs. is_kept (slice_get xs n)) rows ∙ kept-at n (cases_eq n i) ∙ are.kept n t at;
+  known = are.known;
+  firsts = ap (map (λ n. slice_get tables n)) same ∙ are.firsts;
+  few = subst (λ xs. length xs ≤ length tables) (sym rows) (omega (arith, length-set before.rows.items i (with_images r.kind (length r.images) c), are.few));
+  distinct = are.distinct;
+}
   where
-    rows : List Row
-    rows = map (row_by (layout_of r.map)) r.images
+    table : Table
+    table = table_of r.map
 
-    by_case : (b : Bool) → is_same_table t (table_named name) ≡ b
-        → counted t (if b then Some (with_images r.kind (length r.images) c) else held_of entries t) ≡ count_of (cs ++ changes_by_kind r.kind (table_named name) rows) t
-    by_case true same =
-        subst (λ u. counted u (Some (with_images r.kind (length r.images) c)) ≡ count_of (cs ++ changes_by_kind r.kind (table_named name) rows) u) (sym (same-table t (table_named name) same))
-        (ap (λ n. counted (table_named name) (Some (with_images r.kind n c))) (sym (length-map r.images (row_by (layout_of r.map)))) ∙ counts-own r.kind (table_named name) rows c cs before)
-    by_case false other = held t ∙ counts-other r.kind t (table_named name) rows cs other
+    images : List Row
+    images = map (row_by (layout_of r.map)) r.images
 
--- ---- looking a table up
+    now : Count
+    now = with_images r.kind (length r.images) c
 
-pub lookup-held : (entries : List (TableName × Count)) (name : TableName) → lookup (is_same_name name) entries ≡ held_of entries (table_named name)
-lookup-held [] name = refl
-lookup-held (e ∷ entries) name = at (is_same_name name e.0) (lookup-held entries name)
+    own : counted table (Some now) ≡ count_of (cs ++ changes_of_rows r) table
+    own =
+        ap (λ n. counted table (Some (with_images r.kind n c))) (sym (length-map r.images (row_by (layout_of r.map))))
+        ∙ counts-own r.kind table images c cs (ap (counted table) (sym had) ∙ are.rows i table of_map)
+
+    counted-at : (n : ℕ) (t : Table) → slice_get tables n ≡ Some t → (n ≡ i) ⊎ (n ≢ i) → counted t (slice_get (slice_set before.rows.items i now) n) ≡ count_of (cs ++ changes_of_rows r) t
+    counted-at n t at (inl here) =
+        let is : table ≡ t = same_Some table t (sym of_map ∙ ap (slice_get tables) (sym here) ∙ at) in
+        ap (λ m. counted t (slice_get (slice_set before.rows.items i now) m)) here
+        ∙ ap (counted t) (slice_get-set_same before.rows.items i now within)
+        ∙ subst (λ u. counted u (Some now) ≡ count_of (cs ++ changes_of_rows r) u) is own
+    counted-at n t at (inr other) =
+        ap (counted t) (slice_get-set_other before.rows.items i n now other)
+        ∙ are.rows n t at
+        ∙ counts-other r.kind t table images cs (other-place tables n i t table are.distinct at of_map other)
+
+    stays : (kind : RowsKind) (k : ℕ) → (with_images kind k c).kept ≡ c.kept
+    stays Write k = refl
+    stays Update k = refl
+    stays Delete k = refl
+
+    kept-at : (n : ℕ) → (n ≡ i) ⊎ (n ≢ i) → is_kept (slice_get (slice_set before.rows.items i now) n) ≡ is_kept (slice_get before.rows.items n)
+    kept-at n (inl here) =
+        ap (λ m. is_kept (slice_get (slice_set before.rows.items i now) m)) here
+        ∙ ap is_kept (slice_get-set_same before.rows.items i now within)
+        ∙ stays r.kind (length r.images)
+        ∙ sym (ap is_kept (ap (slice_get before.rows.items) here ∙ had))
+    kept-at n (inr other) = ap is_kept (slice_get-set_other before.rows.items i n now other)
+
+-- with a kept map of one more table
+pub counts-kept : {A : Type 0} (tables : List Table) (cs : List Change) (ts : List Table) (t : Table) (i : ℕ) (c : Count) (before after : Counts A)
+    → slice_get tables i ≡ Some t → i < length before.rows.items → slice_get before.rows.items i ≡ Some c → c.kept ≡ false
+    → after.rows.items ≡ slice_set before.rows.items i (record c { kept = true }) → after.tables.items ≡ before.tables.items ++ i ∷ []
+    → AreCounts tables cs ts before → AreCounts tables cs (ts ++ t ∷ []) after
+counts-kept tables cs ts t i c before after here within had unkept rows added are = record {
+  rows = λ n u at. ap (λ xs. counted u (slice_get xs n)) rows ∙ counted-at n u (cases_eq n i) ∙ are.rows n u at;
+  others = are.others;
+  kept = λ n u at. ap (λ xs. is_kept (slice_get xs n)) rows ∙ kept-at n u at (cases_eq n i);
+  known = λ u absent. any-more u t ts false (absent-place tables i u t absent here) ∙ or-none (list_any (is_same_table u) ts) ∙ are.known u absent;
+  firsts =
+      ap (map (λ n. slice_get tables n)) added
+      ∙ map-append (λ n. slice_get tables n) before.tables.items (i ∷ [])
+      ∙ (λ k. are.firsts k ++ here k ∷ [])
+      ∙ sym (map-append Some (first_tables [] ts) (t ∷ []))
+      ∙ ap (map Some) (sym (first_tables-new ts t (sym (are.kept i t here) ∙ ap is_kept had ∙ unkept)));
+  few = subst (λ xs. length xs ≤ length tables) (sym rows) (omega (arith, length-set before.rows.items i now, are.few));
+  distinct = are.distinct;
+}
   where
-    at : (b : Bool) → lookup (is_same_name name) entries ≡ held_of entries (table_named name)
-        → (if b then Some e.1 else lookup (is_same_name name) entries) ≡ option_map (λ (x : TableName × Count). x.1) (if b then Some e else find (λ (x : TableName × Count). is_same_table (table_named name) (table_named x.0)) entries)
-    at true rest = refl
-    at false rest = rest
+    now : Count
+    now = record c { kept = true }
+
+    counted-at : (n : ℕ) (u : Table) → (n ≡ i) ⊎ (n ≢ i) → counted u (slice_get (slice_set before.rows.items i now) n) ≡ counted u (slice_get before.rows.items n)
+    counted-at n u (inl same) =
+        ap (λ m. counted u (slice_get (slice_set before.rows.items i now) m)) same
+        ∙ ap (counted u) (slice_get-set_same before.rows.items i now within)
+        ∙ sym (ap (counted u) (ap (slice_get before.rows.items) same ∙ had))
+    counted-at n u (inr other) = ap (counted u) (slice_get-set_other before.rows.items i n now other)
+
+    kept-at : (n : ℕ) (u : Table) → slice_get tables n ≡ Some u → (n ≡ i) ⊎ (n ≢ i) → is_kept (slice_get (slice_set before.rows.items i now) n) ≡ list_any (is_same_table u) (ts ++ t ∷ [])
+    kept-at n u at (inl same) =
+        let is : u ≡ t = same_Some u t (sym at ∙ ap (slice_get tables) same ∙ here) in
+        ap (λ m. is_kept (slice_get (slice_set before.rows.items i now) m)) same
+        ∙ ap is_kept (slice_get-set_same before.rows.items i now within)
+        ∙ sym (any-more u t ts true (ap (λ v. is_same_table v t) is ∙ own-table t) ∙ or-one (list_any (is_same_table u) ts))
+    kept-at n u at (inr other) =
+        ap is_kept (slice_get-set_other before.rows.items i n now other)
+        ∙ are.kept n u at
+        ∙ sym (any-more u t ts false (other-place tables n i u t are.distinct at here other) ∙ or-none (list_any (is_same_table u) ts))
+
+-- with one more kept map of a table that has one
+pub counts-kept_again : {A : Type 0} (tables : List Table) (cs : List Change) (ts : List Table) (t : Table) (i : ℕ) (c : Count) (before after : Counts A)
+    → slice_get tables i ≡ Some t → slice_get before.rows.items i ≡ Some c → c.kept ≡ true
+    → after.rows.items ≡ before.rows.items → after.tables.items ≡ before.tables.items
+    → AreCounts tables cs ts before → AreCounts tables cs (ts ++ t ∷ []) after
+counts-kept_again tables cs ts t i c before after here had kept rows same are = record {
+  rows = λ n u at. ap (λ xs. counted u (slice_get xs n)) rows ∙ are.rows n u at;
+  others = are.others;
+  kept = λ n u at. ap (λ xs. is_kept (slice_get xs n)) rows ∙ are.kept n u at ∙ sym (any-again u (is_same_table u t) refl);
+  known = λ u absent. any-again u (is_same_table u t) refl ∙ are.known u absent;
+  firsts = ap (map (λ n. slice_get tables n)) same ∙ are.firsts ∙ ap (map Some) (sym (first_tables-known ts t known));
+  few = subst (λ xs. length xs ≤ length tables) (sym rows) are.few;
+  distinct = are.distinct;
+}
+  where
+    known : list_any (is_same_table t) ts ≡ true
+    known = sym (are.kept i t here) ∙ ap is_kept had ∙ kept
+
+    any-again : (u : Table) (b : Bool) → is_same_table u t ≡ b → list_any (is_same_table u) (ts ++ t ∷ []) ≡ list_any (is_same_table u) ts
+    any-again u true is = any-more u t ts true is ∙ or-one (list_any (is_same_table u) ts) ∙ sym (ap (λ v. list_any (is_same_table v) ts) (same-table u t is) ∙ known)
+    any-again u false is = any-more u t ts false is ∙ or-none (list_any (is_same_table u) ts)
+
+-- the n-th of the tables with kept maps, and the table at its number
+pub first-at : (tables : List Table) (numbers : List ℕ) (firsts : List Table) (n k : ℕ) → map (λ i. slice_get tables i) numbers ≡ map Some firsts → slice_get numbers n ≡ Some k
+    → (t : Table) × (slice_get tables k ≡ Some t) × (slice_get firsts n ≡ Some t)
+first-at tables numbers firsts n k are at =
+    by (slice_get firsts n) refl
+    (ap (option_map (λ i. slice_get tables i)) (sym at) ∙ sym (slice_get-map (λ i. slice_get tables i) numbers n) ∙ ap (λ xs. slice_get xs n) are ∙ slice_get-map Some firsts n)
+  where
+    by : (o : Option Table) → slice_get firsts n ≡ o → Some (slice_get tables k) ≡ option_map Some (slice_get firsts n) → (t : Table) × (slice_get tables k ≡ Some t) × (slice_get firsts n ≡ Some t)
+    by None is e = absurd (none-some (slice_get tables k) (sym (e ∙ ap (option_map Some) is)))
+    by (Some t) is e = (t, same_Some (slice_get tables k) (Some t) (e ∙ ap (option_map Some) is), is)
+
+-- ---- the tables of used maps
+
+-- one map more
+pub used-one : {B : Type 0} (now : B → MapSeen) (maps : List B) (m : B) → (now m).used ≡ true → used_maps (map now (maps ++ m ∷ [])) ≡ used_maps (map now maps) ++ now m ∷ []
+used-one now maps m used =
+    ap used_maps (map-append now maps (m ∷ []))
+    ∙ filter-append (λ (x : MapSeen). x.used) (map now maps) (now m ∷ [])
+    ∙ ap (λ b. used_maps (map now maps) ++ (if b then now m ∷ [] else [])) used
+
+pub used-none : {B : Type 0} (now : B → MapSeen) (maps : List B) (m : B) → (now m).used ≡ false → used_maps (map now (maps ++ m ∷ [])) ≡ used_maps (map now maps)
+used-none now maps m unused =
+    ap used_maps (map-append now maps (m ∷ []))
+    ∙ filter-append (λ (x : MapSeen). x.used) (map now maps) (now m ∷ [])
+    ∙ ap (λ b. used_maps (map now maps) ++ (if b then now m ∷ [] else [])) unused
+    ∙ append-nil (used_maps (map now maps))
+
+-- what a list with one more maps to has one more
+pub split-last : {A B : Type 0} (f : A → Option B) (xs : List A) (x : A) (us : List B) → map f (xs ++ x ∷ []) ≡ map Some us
+    → (vs : List B) × (u : B) × (us ≡ vs ++ u ∷ []) × (map f xs ≡ map Some vs) × (f x ≡ Some u)
+split-last f [] x [] are = absurd (cc)
+split-last f [] x (u ∷ []) are = ([], u, refl, refl, cc)
+split-last f [] x (u ∷ v ∷ us) are = absurd (cc)
+split-last f (y ∷ xs) x [] are = absurd (cc)
+split-last {A} {B} f (y ∷ xs) x (u ∷ us) are = behind (cc) (split-last f xs x us (cc))
+  where
+    behind : f y ≡ Some u → (vs : List B) × (v : B) × (us ≡ vs ++ v ∷ []) × (map f xs ≡ map Some vs) × (f x ≡ Some v)
+        → (vs : List B) × (v : B) × (u ∷ us ≡ vs ++ v ∷ []) × (map f (y ∷ xs) ≡ map Some vs) × (f x ≡ Some v)
+    behind first (vs, v, is, front, last) = (u ∷ vs, v, (λ k. u ∷ is k), (λ k. first k ∷ front k), last)
 
 -- ---- how large the numbers are
 
 -- each is at most n
-abbrev pub IsFew : ℕ → TableName × Count → Type 0
-IsFew n e = (e.1.inserts ≤ n) × (e.1.updates ≤ n) × (e.1.deletes ≤ n)
+abbrev pub IsFew : ℕ → Count → Type 0
+IsFew n c = (c.inserts ≤ n) × (c.updates ≤ n) × (c.deletes ≤ n)
 
-pub few-lookup : (n : ℕ) (test : TableName → Bool) (entries : List (TableName × Count)) (c : Count)
-    → AllByRecursion (IsFew n) entries → lookup test entries ≡ Some c → (c.inserts ≤ n) × (c.updates ≤ n) × (c.deletes ≤ n)
-few-lookup n test [] c few found = absurd (none-some c found)
-few-lookup n test (e ∷ entries) c few found = at (test e.0) (few-lookup n test entries c few.1) found
-  where
-    at : (b : Bool) → (lookup test entries ≡ Some c → (c.inserts ≤ n) × (c.updates ≤ n) × (c.deletes ≤ n)) → cond b (Some e.1) (lookup test entries) ≡ Some c → (c.inserts ≤ n) × (c.updates ≤ n) × (c.deletes ≤ n)
-    at true rest found = subst (λ (d : Count). (d.inserts ≤ n) × (d.updates ≤ n) × (d.deletes ≤ n)) (same_Some e.1 c found) few.0
-    at false rest found = rest found
+pub few-read : (n : ℕ) (rows : List Count) (len i : ℕ) (c : Count) → AllByRecursion (IsFew n) rows → len ≡ length rows → i < len → c ≡ get_or rows i c → IsFew n c
+few-read n rows len i c few same within read = all-at (IsFew n) rows i c few (slice_get_read rows len i c same within read)
 
-pub few-more : (n k : ℕ) (entries : List (TableName × Count)) → AllByRecursion (IsFew n) entries → AllByRecursion (IsFew (n + k)) entries
+pub few-more : (n k : ℕ) (rows : List Count) → AllByRecursion (IsFew n) rows → AllByRecursion (IsFew (n + k)) rows
 few-more n k [] few = few
-few-more n k (e ∷ entries) few = ((omega (arith, few.0.0), omega (arith, few.0.1), omega (arith, few.0.2)), few-more n k entries few.1)
+few-more n k (c ∷ rows) few = ((omega (arith, few.0.0), omega (arith, few.0.1), omega (arith, few.0.2)), few-more n k rows few.1)
 
-pub few-insert : (n : ℕ) (entries : List (TableName × Count)) (name : TableName) (c : Count)
-    → AllByRecursion (IsFew n) entries → (c.inserts ≤ n) × (c.updates ≤ n) × (c.deletes ≤ n) → AllByRecursion (IsFew n) (insert_entry is_same_name entries name c)
-few-insert n [] name c few own = (own, tt)
-few-insert n (e ∷ entries) name c few own = at (is_same_name name e.0) (few-insert n entries name c few.1 own)
-  where
-    at : (b : Bool) → AllByRecursion (IsFew n) (insert_entry is_same_name entries name c) → AllByRecursion (IsFew n) (if b then (e.0, c) ∷ entries else e ∷ insert_entry is_same_name entries name c)
-    at true rest = (own, few.1)
-    at false rest = (few.0, rest)
+pub few-upto : (n m : ℕ) (rows : List Count) → n ≤ m → AllByRecursion (IsFew n) rows → AllByRecursion (IsFew m) rows
+few-upto n m [] le few = few
+few-upto n m (c ∷ rows) le few = ((omega (arith, le, few.0.0), omega (arith, le, few.0.1), omega (arith, le, few.0.2)), few-upto n m rows le few.1)
+
+pub few-set : (n : ℕ) (rows : List Count) (i : ℕ) (c : Count) → AllByRecursion (IsFew n) rows → IsFew n c → AllByRecursion (IsFew n) (slice_set rows i c)
+few-set n [] i c few own = few
+few-set n (d ∷ rows) zero c few own = (own, few.1)
+few-set n (d ∷ rows) (suc i) c few own = (few.0, few-set n rows i c few.1 own)
+
+few-copies : (n k : ℕ) (c : Count) → IsFew n c → AllByRecursion (IsFew n) (replicate k c)
+few-copies n zero c own = tt
+few-copies n (suc k) c own = (own, few-copies n k c own)
+
+pub few-filled : (n k : ℕ) (rows : List Count) (c : Count) → AllByRecursion (IsFew n) rows → IsFew n c → AllByRecursion (IsFew n) (rows ++ replicate k c)
+few-filled n k [] c few own = few-copies n k c own
+few-filled n k (d ∷ rows) c few own = (few.0, few-filled n k rows c few.1 own)
 
 -- with the rows of one more rows event
 pub with-few : (n k : ℕ) (kind : RowsKind) (c : Count) → (c.inserts ≤ n) × (c.updates ≤ n) × (c.deletes ≤ n)
@@ -214,42 +419,3 @@ pub with-few : (n k : ℕ) (kind : RowsKind) (c : Count) → (c.inserts ≤ n) �
 with-few n k Write c few = (omega (arith, few.0), omega (arith, few.1), omega (arith, few.2))
 with-few n k Update c few = (omega (arith, few.0), omega (arith, few.1), omega (arith, few.2))
 with-few n k Delete c few = (omega (arith, few.0), omega (arith, few.1), omega (arith, few.2))
-
--- the n-th name, as a table
-pub slice_get-named : (names : List TableName) (n : ℕ) → slice_get (map table_named names) n ≡ option_map table_named (slice_get names n)
-slice_get-named names n = slice_get-map table_named names n
-
--- ---- one more table
-
-any-named : (names : List TableName) (name : TableName) → list_any (is_same_table (table_named name)) (map table_named names) ≡ list_any (is_same_name name) names
-any-named [] name = refl
-any-named (n ∷ names) name = ap (λ b. is_same_name name n || b) (any-named names name)
-
-map-snoc : (names : List TableName) (name : TableName) → map table_named (names ++ name ∷ []) ≡ map table_named names ++ table_named name ∷ []
-map-snoc [] name = refl
-map-snoc (n ∷ names) name = ap (λ ts. table_named n ∷ ts) (map-snoc names name)
-
-pub table-kept : (names : List TableName) (name : TableName) (ts : List Table) → map table_named names ≡ first_tables [] ts
-    → map table_named (insert_key is_same_name names name) ≡ first_tables [] (ts ++ table_named name ∷ [])
-table-kept names name ts are = by_case (list_any (is_same_name name) names) (any-named names name) ∙ ap (λ us. with_table [] us (table_named name)) are ∙ sym (first_tables-more [] ts (table_named name))
-  where
-    by_case : (b : Bool) → list_any (is_same_table (table_named name)) (map table_named names) ≡ b
-        → map table_named (if b then names else names ++ name ∷ []) ≡ with_table [] (map table_named names) (table_named name)
-    by_case true known = ap (λ b. if b then map table_named names else map table_named names ++ table_named name ∷ []) (sym known)
-    by_case false new = map-snoc names name ∙ ap (λ b. if b then map table_named names else map table_named names ++ table_named name ∷ []) (sym new)
-
--- the tables of used maps, one map more
-pub used-more : (maps : List MapSeen) (m : MapSeen) (ts : List Table) (b : Bool) → m.used ≡ b
-    → ts ++ map (λ x. table_named x.name) (used_maps (maps ++ m ∷ [])) ≡ (ts ++ map (λ x. table_named x.name) (used_maps maps)) ++ (if b then table_named m.name ∷ [] else [])
-used-more maps m ts b used =
-    ap (λ ms. ts ++ map (λ (x : MapSeen). table_named x.name) ms) (filter-append (λ (x : MapSeen). x.used) maps (m ∷ []))
-    ∙ ap (λ us. ts ++ us) (map-append (λ (x : MapSeen). table_named x.name) (used_maps maps) (used_maps (m ∷ [])) ∙ ap (λ us. map (λ (x : MapSeen). table_named x.name) (used_maps maps) ++ us) (one b used))
-    ∙ sym (append_assoc ts (map (λ (x : MapSeen). table_named x.name) (used_maps maps)) (if b then table_named m.name ∷ [] else []))
-  where
-    one : (b : Bool) → m.used ≡ b → map (λ (x : MapSeen). table_named x.name) (used_maps (m ∷ [])) ≡ (if b then table_named m.name ∷ [] else [])
-    one true used = ap (λ c. map (λ (x : MapSeen). table_named x.name) (if c then m ∷ [] else [])) used
-    one false used = ap (λ c. map (λ (x : MapSeen). table_named x.name) (if c then m ∷ [] else [])) used
-
-pub few-upto : (n m : ℕ) (entries : List (TableName × Count)) → n ≤ m → AllByRecursion (IsFew n) entries → AllByRecursion (IsFew m) entries
-few-upto n m [] le few = few
-few-upto n m (e ∷ entries) le few = ((omega (arith, le, few.0.0), omega (arith, le, few.0.1), omega (arith, le, few.0.2)), few-upto n m entries le few.1)

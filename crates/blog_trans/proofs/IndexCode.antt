@@ -1,23 +1,20 @@
 -- A log that was walked through: its fault, and what the walker kept of it.
-use Rattle.std.proofs.Common.{◌≡◌, ℕ, ◌+◌, ◌≤◌, ◌^◌, Bool, true, false, not, ◌&&◌, ◌==◌, nat_lt, List, [], ◌∷◌, ◌++◌, length, reverse, take, Option, Some, None, refl, sym, ap, ◌∙◌, subst, inl, inr}
+use Rattle.std.proofs.Common.{◌≡◌, ℕ, ◌^◌, not, ◌&&◌, nat_lt, List, [], ◌∷◌, length, reverse, take, Option, Some, None, refl, sym, ap, ◌∙◌, inl, inr}
 use Rattle.std.proofs.lemmas.Bool.{lt-ltb}
 use Rattle.std.proofs.lemmas.Option.{same_Some}
 use Rattle.std.proofs.lemmas.Slice.Eq.{bytes_eq-Decides}
-use Rattle.std.proofs.lemmas.List.{append-nil, reverse-reverse}
-use Rattle.std.specs.Option.{option_map_or}
 use Rattle.blog_event.specs.declared.fault.Fault.{Fault}
 use Rattle.blog_event.specs.declared.fault.Fault.TheVariants.{NotABinlog, CutEvent, NoEventAt, Unended, TooLong}
 use Rattle.blog_event.specs.Fault.{needs, first_failing, fault_at}
 use Rattle.blog_event.specs.Event.{Event}
 use Rattle.blog_event.specs.Format.{format_fault}
-use Rattle.blog_event.specs.File.{magic, Placed, placed_from, end_of, is_below, read}
-use Rattle.blog_event.specs.Opening.{opening_fault, IsLog}
-use Rattle.blog_event.specs.Going.{ReadsOn}
+use Rattle.blog_event.specs.File.{magic, placed_from, end_of, is_below, read}
+use Rattle.blog_event.specs.Opening.{opening_fault}
 use Rattle.blog_event.proofs.Openings.{opened-log}
 use Rattle.blog_event.proofs.Going.{opened-reads-on}
 use Rattle.blog_trans.specs.Selection.{Selection}
-use Rattle.blog_trans.specs.Places.{place, is_outside, is_inside}
-use Rattle.blog_trans.specs.Acceptance.{range, first_read_fault, first_format_fault, has_first, is_cut, lines, fault, IsAccepted}
+use Rattle.blog_trans.specs.Places.{place, is_outside}
+use Rattle.blog_trans.specs.Acceptance.{range, first_read_fault, first_format_fault, has_first, is_cut, fault, IsAccepted}
 use Rattle.blog_trans.specs.declared.place.Place.{Place}
 use Rattle.blog_trans.specs.Groups.{placed_groups}
 use Rattle.blog_trans.specs.Progress.{progress}

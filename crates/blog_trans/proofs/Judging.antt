@@ -1,8 +1,10 @@
 -- What is known after one more event.
-use Rattle.std.proofs.Common.{◌≡◌, ℕ, Bool, true, false, List, [], ◌∷◌, ◌++◌, map, Option, Some, None, Ok, refl, sym, ap, ◌∙◌}
+use Rattle.std.proofs.Common.{◌≡◌, ℕ, Bool, true, false, List, [], ◌∷◌, ◌++◌, map, Option, Some, None, Ok, refl, sym, ap, ◌∙◌, subst}
 use Rattle.std.specs.Prelude.{◌&&◌, not, is_some, option_map}
 use Rattle.std.specs.Option.{option_map_or}
-use Rattle.std.specs.List.{list_any}
+use Rattle.std.specs.List.{list_any, AllByRecursion}
+use Rattle.std.proofs.lemmas.List.{map-append}
+use Rattle.indexmap.specs.IndexMap.{values}
 use Rattle.byteorder.specs.Endian.{little_number}
 use Rattle.blog_event.specs.declared.fault.Fault.TheVariants.{BadBody, MapClash, OutOfPlace}
 use Rattle.blog_event.specs.Fault.{needs, first_failing}
@@ -14,21 +16,22 @@ use Rattle.blog_row.specs.RowsEvent.{table_id}
 use Rattle.blog_trans.specs.declared.kind.EventKind.{EventKind}
 use Rattle.blog_trans.specs.declared.kind.EventKind.TheVariants as kind
 use Rattle.blog_trans.specs.declared.judge.Judge.{Judge}
+use Rattle.blog_trans.specs.declared.layouts.SelectedTable.{SelectedTable}
 use Rattle.blog_trans.specs.declared.maps.MapSeen.{MapSeen}
 use Rattle.blog_trans.specs.declared.place.Place.{Place}
 use Rattle.blog_trans.specs.declared.place.Place.TheVariants.{Outside}
 use Rattle.blog_trans.specs.Selection.{Selection}
 use Rattle.blog_trans.specs.Kinds.{is_begin_kind, is_end_kind, is_map_kind, rows_of_kind}
 use Rattle.blog_trans.specs.Acceptance.{is_selected, clashes_by_id, end_checks, event_fault}
-use Rattle.blog_trans.specs.Changes.{table_of}
 use Rattle.blog_trans.specs.Places.{kind_at, is_begin, is_map, is_rows, is_map_of, leads_to, is_inside, place, since}
-use Rattle.blog_trans.specs.TableNameView.{table_named}
+use Rattle.blog_trans.specs.TablesView.{tables_known, HaveGrown, IsNumbered}
 use Rattle.blog_trans.specs.StatementMaps.{MapFacts, first_of_ids, facts_of, facts_held, is_used}
 use Rattle.blog_trans.specs.TakenView.{statement_with}
 use Rattle.blog_trans.specs.JudgeView.{Knows, LayoutsAgree, IsPassed, IsPassedStatement, is_rows_of, columns_known, column_checks}
 use Rattle.blog_trans.proofs.JudgingStatement.{facts-quiet, facts-kept, passed-quiet, passed-map}
-use Rattle.blog_trans.proofs.JudgingMaps.{maps-more}
+use Rattle.blog_trans.proofs.JudgingMaps.{all-snoc, maps-more}
 use Rattle.blog_trans.proofs.JudgingLayouts.{layouts-quiet}
+use Rattle.blog_trans.proofs.TableNumbers.{numbered-grown}
 
 -- an event that is neither `BEGIN`, a map nor a rows event
 pub knows-quiet : {A : Type 0} (sel : Selection) (p : Placed) (earlier : List Placed) (judge : Judge A) (to : Place) → is_begin p ≡ false → is_map p ≡ false → is_rows p ≡ false
@@ -39,6 +42,7 @@ knows-quiet sel p earlier judge to no_begin no_map no_rows led h = rw no_begin (
   maps_are = h.maps_are ∙ sym (facts-quiet sel p (since earlier) no_map no_rows);
   passed = passed-quiet sel p (since earlier) no_map no_rows h.passed;
   layouts_agree = layouts-quiet sel p earlier judge.layouts no_map h.layouts_agree;
+  numbered = h.numbered;
 })
 
 -- ---- ends
@@ -73,23 +77,23 @@ right-false true = refl
 right-false false = refl
 
 -- the facts of a new map, which no rows event goes by yet
-pub new-facts : (sel : Selection) (p : Placed) (statement : List Placed) (k : ℕ) (v : MapSeen) (n : Names) → kind_at p ≡ kind.TableMap → IsPassedStatement sel statement
-    → list_any (is_map_of (table_id p.event.body)) statement ≡ false → k ≡ little_number 6 (table_id p.event.body) → names_of p.event.body ≡ Some n
-    → v.at ≡ p.pos → v.body.now ≡ p.event.body → table_named v.name ≡ n.table → option_map layout_columns v.layout ≡ columns_known sel p → v.used ≡ false
+pub new-facts : (sel : Selection) (p : Placed) (statement : List Placed) (k : ℕ) (v : MapSeen) → kind_at p ≡ kind.TableMap → IsPassedStatement sel statement
+    → list_any (is_map_of (table_id p.event.body)) statement ≡ false → k ≡ little_number 6 (table_id p.event.body)
+    → v.at ≡ p.pos → v.body.now ≡ p.event.body → option_map (λ (t : SelectedTable). layout_columns t.layout) v.table ≡ columns_known sel p → v.used ≡ false
     → facts_held (k, v) ≡ facts_of sel (p ∷ statement) p
-new-facts sel p statement k v n is passed new k_is names at body table layout used =
-    let table_is : table_named v.name ≡ table_of p.event.body = rw names table in
+new-facts sel p statement k v is passed new k_is at body layout used =
     let none : list_any (is_rows_of (table_id p.event.body)) statement ≡ false = passed.mapped (table_id p.event.body) new in
     let no_rows : is_rows p ≡ false = rw is refl in
     let unused : false ≡ is_used sel (p ∷ statement) p = sym (rw (no_rows, none) (right-false (is_selected sel p.event.body))) in
-    λ i. record { id = k_is i; at = at i; body = body i; table = table_is i; layout = layout i; used = (used ∙ unused) i }
+    λ i. record { id = k_is i; at = at i; body = body i; layout = layout i; used = (used ∙ unused) i }
 
 -- a further map of a known id
 pub knows-map-seen : {A : Type 0} (sel : Selection) (p : Placed) (earlier : List Placed) (judge after : Judge A) → kind_at p ≡ kind.TableMap → IsPassed sel p
     → list_any (clashes_by_id p) (since earlier) ≡ false → list_any (is_map_of (table_id p.event.body)) (since earlier) ≡ true
     → after.place ≡ judge.place → after.has_rows ≡ judge.has_rows → after.maps.entries ≡ judge.maps.entries → LayoutsAgree sel (p ∷ earlier) after.layouts
+    → HaveGrown (tables_known judge.layouts) (tables_known after.layouts)
     → Knows sel (since earlier) earlier judge → Knows sel (statement_with p earlier) (p ∷ earlier) after
-knows-map-seen sel p earlier judge after is passed none there place_same rows_same maps_same agree h =
+knows-map-seen sel p earlier judge after is passed none there place_same rows_same maps_same agree grown h =
     let is_one : is_map p ≡ true = rw is refl in
     let no_rows : is_rows p ≡ false = rw is refl in
     let facts : map (facts_of sel (p ∷ since earlier)) (first_of_ids (p ∷ since earlier)) ≡ map (facts_of sel (since earlier)) (first_of_ids (since earlier)) =
@@ -100,15 +104,16 @@ knows-map-seen sel p earlier judge after is passed none there place_same rows_sa
       maps_are = ap (map facts_held) maps_same ∙ h.maps_are ∙ sym facts;
       passed = passed-map sel p (since earlier) is_one no_rows passed none h.passed;
       layouts_agree = agree;
+      numbered = subst (λ es. AllByRecursion (IsNumbered (tables_known after.layouts)) (map (λ e. e.1) es)) (sym maps_same) (numbered-grown (tables_known judge.layouts) (tables_known after.layouts) (values judge.maps) grown h.numbered);
     })
 
 -- a map of a new id
 pub knows-map-new : {A : Type 0} (sel : Selection) (p : Placed) (earlier : List Placed) (judge after : Judge A) (k : ℕ) (v : MapSeen) → kind_at p ≡ kind.TableMap → IsPassed sel p
     → list_any (clashes_by_id p) (since earlier) ≡ false → list_any (is_map_of (table_id p.event.body)) (since earlier) ≡ false
     → after.place ≡ judge.place → after.has_rows ≡ judge.has_rows → after.maps.entries ≡ judge.maps.entries ++ (k, v) ∷ [] → LayoutsAgree sel (p ∷ earlier) after.layouts
-    → facts_held (k, v) ≡ facts_of sel (p ∷ since earlier) p
+    → HaveGrown (tables_known judge.layouts) (tables_known after.layouts) → IsNumbered (tables_known after.layouts) v → facts_held (k, v) ≡ facts_of sel (p ∷ since earlier) p
     → Knows sel (since earlier) earlier judge → Knows sel (statement_with p earlier) (p ∷ earlier) after
-knows-map-new sel p earlier judge after k v is passed none new place_same rows_same maps_more agree last h =
+knows-map-new sel p earlier judge after k v is passed none new place_same rows_same maps_more agree grown own last h =
     let is_one : is_map p ≡ true = rw is refl in
     let no_rows : is_rows p ≡ false = rw is refl in
     rw is (record {
@@ -117,6 +122,10 @@ knows-map-new sel p earlier judge after k v is passed none new place_same rows_s
       maps_are = maps-more sel p (since earlier) k v judge.maps.entries after.maps.entries is_one no_rows new h.passed h.maps_are maps_more last;
       passed = passed-map sel p (since earlier) is_one no_rows passed none h.passed;
       layouts_agree = agree;
+      numbered =
+          subst (λ es. AllByRecursion (IsNumbered (tables_known after.layouts)) (map (λ e. e.1) es)) (sym maps_more)
+          (subst (AllByRecursion (IsNumbered (tables_known after.layouts))) (sym (map-append (λ (e : ℕ × MapSeen). e.1) judge.maps.entries ((k, v) ∷ [])))
+          (all-snoc (IsNumbered (tables_known after.layouts)) (values judge.maps) v (numbered-grown (tables_known judge.layouts) (tables_known after.layouts) (values judge.maps) grown h.numbered) own));
     })
 
 -- a reading that gave a value was there

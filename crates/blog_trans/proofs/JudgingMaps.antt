@@ -18,6 +18,7 @@ use Rattle.blog_row.specs.TableMap.{Names, HasNames, layout_of}
 use Rattle.blog_row.specs.Column.{Layout}
 use Rattle.blog_row.specs.declared.fault.RowFault.{RowFault}
 use Rattle.blog_row.specs.RowsEvent.{table_id}
+use Rattle.blog_trans.specs.declared.layouts.SelectedTable.{SelectedTable}
 use Rattle.blog_trans.specs.declared.maps.MapSeen.{MapSeen}
 use Rattle.blog_trans.specs.Selection.{Selection}
 use Rattle.blog_trans.specs.Places.{is_map, is_rows, is_map_of, map_in}
@@ -64,7 +65,7 @@ pub record IsPassedMap (sel : Selection) (m : Placed) : Type 0 where
   pub is : is_map m ≡ true
   pub passed : IsPassed sel m
 
-all-snoc : {A : Type 0} (P : A → Type 0) (xs : List A) (x : A) → AllByRecursion P xs → P x → AllByRecursion P (xs ++ x ∷ [])
+pub all-snoc : {A : Type 0} (P : A → Type 0) (xs : List A) (x : A) → AllByRecursion P xs → P x → AllByRecursion P (xs ++ x ∷ [])
 all-snoc P [] x all last = (last, tt)
 all-snoc P (y ∷ ys) x all last = (all.0, all-snoc P ys x all.1 last)
 
@@ -222,7 +223,7 @@ some-map f None = refl
 some-map f (Some x) = refl
 
 mark-held-step : (k : ℕ) (v w : MapSeen) (e : ℕ × MapSeen) (es : List (ℕ × MapSeen)) (b : Bool) → nat_eq k e.0 ≡ b → AllByRecursion (λ y. nat_eq e.0 y ≡ false) (keys_of es)
-    → lookup (nat_eq k) (e ∷ es) ≡ Some v → w ≡ record v { used = is_some v.layout }
+    → lookup (nat_eq k) (e ∷ es) ≡ Some v → w ≡ record v { used = is_some v.table }
     → (lookup (nat_eq k) es ≡ Some v → map facts_held (set_value (nat_eq k) es w) ≡ map (mark k) (map facts_held es))
     → map facts_held (set_value (nat_eq k) (e ∷ es) w) ≡ map (mark k) (map facts_held (e ∷ es))
 mark-held-step k v w e es true same others found w_is later =
@@ -231,9 +232,9 @@ mark-held-step k v w e es true same others found w_is later =
     let key : k ≡ e.0 = eqb-true k e.0 same in
     let left : map facts_held es ≡ map (mark k) (map facts_held es) =
     sym (mark-none k es (subst (λ (n : ℕ). AllByRecursion (λ y. nat_eq n y ≡ false) (keys_of es)) (sym key) others)) in
-    let written : facts_held (e.0, w) ≡ record (facts_held e) { used = is_some e.1.layout } = ap (λ x. facts_held (e.0, x)) (w_is ∙ ap (λ (x : MapSeen). record x { used = is_some x.layout }) (sym own)) in
-    let marked : record (facts_held e) { used = is_some e.1.layout } ≡ mark k (facts_held e) =
-    ap (λ (u : Bool). record (facts_held e) { used = u }) (some-map layout_columns e.1.layout) ∙ mark-on k (facts_held e) same in
+    let written : facts_held (e.0, w) ≡ record (facts_held e) { used = is_some e.1.table } = ap (λ x. facts_held (e.0, x)) (w_is ∙ ap (λ (x : MapSeen). record x { used = is_some x.table }) (sym own)) in
+    let marked : record (facts_held e) { used = is_some e.1.table } ≡ mark k (facts_held e) =
+    ap (λ (u : Bool). record (facts_held e) { used = u }) (some-map (λ (t : SelectedTable). layout_columns t.layout) e.1.table) ∙ mark-on k (facts_held e) same in
     let first : facts_held (e.0, w) ≡ mark k (facts_held e) = written ∙ marked in
     rw same (cc (first, left))
 mark-held-step k v w e es false same others found w_is later =
@@ -241,7 +242,7 @@ mark-held-step k v w e es false same others found w_is later =
     let first = mark-off k (facts_held e) same in
     rw same (cc (first, rest))
 
-mark-held : (k : ℕ) (v w : MapSeen) (es : List (ℕ × MapSeen)) → IsDistinct nat_eq (keys_of es) → lookup (nat_eq k) es ≡ Some v → w ≡ record v { used = is_some v.layout }
+mark-held : (k : ℕ) (v w : MapSeen) (es : List (ℕ × MapSeen)) → IsDistinct nat_eq (keys_of es) → lookup (nat_eq k) es ≡ Some v → w ≡ record v { used = is_some v.table }
     → map facts_held (set_value (nat_eq k) es w) ≡ map (mark k) (map facts_held es)
 unfolding IsDistinct
 mark-held k v w [] distinct found w_is = absurd (cc)
@@ -250,7 +251,7 @@ mark-held k v w (e ∷ es) distinct found w_is =
 
 pub maps-marked : (sel : Selection) (p : Placed) (statement : List Placed) (k : ℕ) (v w : MapSeen) (es after : List (ℕ × MapSeen)) → IsId (table_id p.event.body)
     → k ≡ little_number 6 (table_id p.event.body) → is_map p ≡ false → is_rows p ≡ true → IsPassedStatement sel statement
-    → map facts_held es ≡ map (facts_of sel statement) (first_of_ids statement) → IsDistinct nat_eq (keys_of es) → lookup (nat_eq k) es ≡ Some v → w ≡ record v { used = is_some v.layout }
+    → map facts_held es ≡ map (facts_of sel statement) (first_of_ids statement) → IsDistinct nat_eq (keys_of es) → lookup (nat_eq k) es ≡ Some v → w ≡ record v { used = is_some v.table }
     → after ≡ set_value (nat_eq k) es w → map facts_held after ≡ map (facts_of sel (p ∷ statement)) (first_of_ids (p ∷ statement))
 maps-marked sel p statement k v w es after is_id k_is no_map is passed h distinct found w_is after_is =
     let marked = mark-held k v w es distinct found w_is in

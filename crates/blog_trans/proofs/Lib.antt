@@ -2,6 +2,7 @@ pub mod Opening
 pub mod KindCode
 pub mod Tables
 mod CountsCode
+pub mod Growing
 pub mod ProgressSteps
 pub mod ProgressRows
 pub mod ProgressState
@@ -13,6 +14,7 @@ pub mod Columns
 pub mod EntriesMarked
 pub mod EntriesClosed
 pub mod EntriesEnded
+pub mod TableNumbers
 pub mod JudgingStatement
 pub mod JudgingMaps
 pub mod JudgingLayouts

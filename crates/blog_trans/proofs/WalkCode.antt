@@ -1,5 +1,5 @@
 -- How far a walk over a log has come: what was read, and what is left.
-use Rattle.std.proofs.Common.{◌≡◌, ℕ, ◌+◌, ◌≤◌, ◌<◌, Bool, true, false, not, ◌&&◌, ◌==◌, if◌then◌else◌, nat_lt, List, [], ◌∷◌, ◌++◌, length, drop, reverse, filter, Option, Some, None, refl, sym, ap, ◌∙◌, subst, inl, inr, arith}
+use Rattle.std.proofs.Common.{◌≡◌, ℕ, ◌+◌, ◌≤◌, Bool, true, false, not, ◌&&◌, ◌==◌, if◌then◌else◌, List, [], ◌∷◌, ◌++◌, length, drop, reverse, Option, Some, None, refl, sym, ap, ◌∙◌, subst, inl, inr, arith}
 use Rattle.std.proofs.lemmas.Bool.{ne_eqb, eq-eqb}
 use Rattle.std.proofs.lemmas.List.{append-nil, reverse-reverse, length-drop}
 use Rattle.std.proofs.lemmas.List.Elements.{filter-append}
@@ -15,7 +15,7 @@ use Rattle.blog_event.proofs.Going.{left-more, left-none}
 use Rattle.blog_event.proofs.Opened.{LogReads}
 use Rattle.blog_trans.specs.declared.walker.Walker.{Walker}
 use Rattle.blog_trans.specs.Selection.{Selection}
-use Rattle.blog_trans.specs.Acceptance.{event_fault, is_in_range, range, is_start_inside, read_fault, first_read_fault, is_cut}
+use Rattle.blog_trans.specs.Acceptance.{is_in_range, range, is_start_inside, read_fault, first_read_fault}
 use Rattle.blog_trans.specs.Refusals.{IsRefusal}
 use Rattle.blog_trans.specs.WalkerView.{Walks, IsWithin}
 use Rattle.blog_trans.specs.WalkView.{walk_fault}
@@ -155,7 +155,7 @@ module _ {A : Type 0} (bytes : List ℕ) (sel : Selection) (at : ℕ) (walker : 
 -- ---- small facts
 
 pub within-more : {A : Type 0} (walker : Walker A) (n m : ℕ) → n ≤ m → IsWithin n walker → IsWithin m walker
-within-more walker n m le few = record { entries = omega (arith, le, few.entries); numbers = few-upto n m walker.counts.rows.entries le few.numbers }
+within-more walker n m le few = record { entries = omega (arith, le, few.entries); tables = omega (arith, le, few.tables); numbers = few-upto n m walker.counts.rows.items le few.numbers }
 
 pub both : {a b : Bool} → a ≡ true → b ≡ true → a && b ≡ true
 both p q = λ i. p i && q i

@@ -1,20 +1,16 @@
 -- What one more event makes of what is kept.
-use Rattle.std.proofs.Common.{◌≡◌, ℕ, ◌+◌, ◌≤◌, Bool, true, false, if◌then◌else◌, ◌&&◌, List, [], ◌∷◌, ◌++◌, map, length, filter, reverse, Option, Some, None, option_map, refl, sym, ap, ◌∙◌, subst, arith}
-use Rattle.std.specs.Option.{option_map_or}
+use Rattle.std.proofs.Common.{◌≡◌, ℕ, Bool, true, false, if◌then◌else◌, List, [], ◌∷◌, ◌++◌, map, length, filter, Some, None, refl, sym, ap, ◌∙◌, subst}
 use Rattle.std.specs.List.{flat_map}
 use Rattle.std.proofs.lemmas.List.{append_assoc, append-nil, length-map}
 use Rattle.std.proofs.lemmas.List.Concat.{flat_map-append}
-use Rattle.std.proofs.lemmas.Option.{none-some, same_Some}
 use Rattle.blog_event.specs.File.{Placed}
-use Rattle.blog_row.specs.declared.kind.RowsKind.{RowsKind}
 use Rattle.blog_row.specs.TableMap.{Table}
 use Rattle.blog_trans.specs.declared.maps.MapSeen.{MapSeen}
-use Rattle.blog_trans.specs.declared.taken.KeptRows.{KeptRows}
 use Rattle.blog_trans.specs.Selection.{Selection}
 use Rattle.blog_trans.specs.Groups.{PlacedRows, PlacedStatement, PlacedTransaction, rows_value, transaction_if}
 use Rattle.blog_trans.specs.Changes.{Change, table_of, changes_of_rows}
 use Rattle.blog_trans.specs.Progress.{Open, Progress, appended_if, with_rows, ended}
-use Rattle.blog_trans.specs.StatementMaps.{MapFacts, first_of_ids, facts_of, facts_held, used_maps, is_used}
+use Rattle.blog_trans.specs.StatementMaps.{MapFacts, facts_of, facts_held, used_maps, is_used}
 use Rattle.blog_trans.specs.KeeperView.{statement_behind, closed_by}
 use Rattle.blog_trans.specs.declared.counts.Counts.{Counts}
 use Rattle.blog_trans.specs.CountsView.{AreCounts}
@@ -125,33 +121,39 @@ no-length f xs none = sym (length-map xs f) ∙ ap length none
 as-open : (k : Progress) (o : Open) → k.current ≡ Some o → k ≡ record { done = k.done; current = Some o }
 as-open k o current = λ i. record { done = k.done; current = current i }
 
-pub kept-counts : {A : Type 0} (counts : Counts A) (k : Progress) (o : Open) (r : PlacedRows) → k.current ≡ Some o
-    → AreCounts (progress_changes k ++ changes_of_rows (rows_value r)) (progress_tables k) counts
-    → AreCounts (progress_changes (record { done = k.done; current = Some (with_rows (Some r) o) })) (progress_tables (record { done = k.done; current = Some (with_rows (Some r) o) })) counts
-kept-counts counts k o r current are =
-    subst (λ cs. AreCounts cs (progress_tables (record { done = k.done; current = Some (with_rows (Some r) o) })) counts)
+pub kept-counts : {A : Type 0} (tables : List Table) (counts : Counts A) (k : Progress) (o : Open) (r : PlacedRows) → k.current ≡ Some o
+    → AreCounts tables (progress_changes k ++ changes_of_rows (rows_value r)) (progress_tables k) counts
+    → AreCounts tables (progress_changes (record { done = k.done; current = Some (with_rows (Some r) o) })) (progress_tables (record { done = k.done; current = Some (with_rows (Some r) o) })) counts
+kept-counts tables counts k o r current are =
+    subst (λ cs. AreCounts tables cs (progress_tables (record { done = k.done; current = Some (with_rows (Some r) o) })) counts)
     (ap (λ l. progress_changes l ++ changes_of_rows (rows_value r)) (as-open k o current) ∙ changes-rows k.done o r)
-    (subst (λ ts. AreCounts (progress_changes k ++ changes_of_rows (rows_value r)) ts counts) (ap progress_tables (as-open k o current)) are)
+    (subst (λ ts. AreCounts tables (progress_changes k ++ changes_of_rows (rows_value r)) ts counts) (ap progress_tables (as-open k o current)) are)
 
-pub closed-counts : {A : Type 0} (counts : Counts A) (k : Progress) (o : Open) (ms : List Placed) → (o.rows ≡ [] → ms ≡ []) → k.current ≡ Some o
-    → AreCounts (progress_changes k) (progress_tables k ++ map (λ m. table_of m.event.body) ms) counts
-    → AreCounts (progress_changes (record { done = k.done; current = Some (closed_by ms o) })) (progress_tables (record { done = k.done; current = Some (closed_by ms o) })) counts
-closed-counts counts k o ms none current are =
-    subst (λ cs. AreCounts cs (progress_tables (record { done = k.done; current = Some (closed_by ms o) })) counts)
+pub closed-counts : {A : Type 0} (tables : List Table) (counts : Counts A) (k : Progress) (o : Open) (ms : List Placed) → (o.rows ≡ [] → ms ≡ []) → k.current ≡ Some o
+    → AreCounts tables (progress_changes k) (progress_tables k ++ map (λ m. table_of m.event.body) ms) counts
+    → AreCounts tables (progress_changes (record { done = k.done; current = Some (closed_by ms o) })) (progress_tables (record { done = k.done; current = Some (closed_by ms o) })) counts
+closed-counts tables counts k o ms none current are =
+    subst (λ cs. AreCounts tables cs (progress_tables (record { done = k.done; current = Some (closed_by ms o) })) counts)
     (ap progress_changes (as-open k o current) ∙ changes-closed k.done o ms)
-    (subst (λ ts. AreCounts (progress_changes k) ts counts) (ap (λ l. progress_tables l ++ map (λ (m : Placed). table_of m.event.body) ms) (as-open k o current) ∙ tables-closed k.done o ms none) are)
+    (subst (λ ts. AreCounts tables (progress_changes k) ts counts) (ap (λ l. progress_tables l ++ map (λ (m : Placed). table_of m.event.body) ms) (as-open k o current) ∙ tables-closed k.done o ms none) are)
 
-pub ended-counts : {A : Type 0} (counts : Counts A) (k : Progress) (o : Open) (p : Placed) → o.rows ≡ [] → k.current ≡ Some o
-    → AreCounts (progress_changes k) (progress_tables k) counts → AreCounts (progress_changes (ended p k.done o)) (progress_tables (ended p k.done o)) counts
-ended-counts counts k o p none current are =
-    subst (λ cs. AreCounts cs (progress_tables (ended p k.done o)) counts)
+pub ended-counts : {A : Type 0} (tables : List Table) (counts : Counts A) (k : Progress) (o : Open) (p : Placed) → o.rows ≡ [] → k.current ≡ Some o
+    → AreCounts tables (progress_changes k) (progress_tables k) counts → AreCounts tables (progress_changes (ended p k.done o)) (progress_tables (ended p k.done o)) counts
+ended-counts tables counts k o p none current are =
+    subst (λ cs. AreCounts tables cs (progress_tables (ended p k.done o)) counts)
     (ap progress_changes (as-open k o current) ∙ changes-ended p k.done o none)
-    (subst (λ ts. AreCounts (progress_changes k) ts counts) (ap progress_tables (as-open k o current) ∙ tables-ended p k.done o) are)
+    (subst (λ ts. AreCounts tables (progress_changes k) ts counts) (ap progress_tables (as-open k o current) ∙ tables-ended p k.done o) are)
 
 -- a transaction that begins has no changes yet
-pub begun-counts : {A : Type 0} (counts : Counts A) (k : Progress) (p : Placed) → k.current ≡ None
-    → AreCounts (progress_changes k) (progress_tables k) counts
-    → AreCounts (progress_changes (record { done = k.done; current = Some (record { begin = p; statements = []; rows = [] }) }))
+pub begun-counts : {A : Type 0} (tables : List Table) (counts : Counts A) (k : Progress) (p : Placed) → k.current ≡ None
+    → AreCounts tables (progress_changes k) (progress_tables k) counts
+    → AreCounts tables (progress_changes (record { done = k.done; current = Some (record { begin = p; statements = []; rows = [] }) }))
     (progress_tables (record { done = k.done; current = Some (record { begin = p; statements = []; rows = [] }) })) counts
-begun-counts counts k p none are =
-    subst (λ (l : Progress). AreCounts (progress_changes l) (progress_tables l) counts) (λ i. record { done = k.done; current = none i }) are
+begun-counts tables counts k p none are =
+    subst (λ (l : Progress). AreCounts tables (progress_changes l) (progress_tables l) counts) (λ i. record { done = k.done; current = none i }) are
+
+-- ---- lists of tables
+
+pub some-mapped : {A B : Type 0} (f : A → B) (xs : List A) → map (λ x. Some (f x)) xs ≡ map Some (map f xs)
+some-mapped f [] = refl
+some-mapped f (x ∷ xs) = ap (λ ys. Some (f x) ∷ ys) (some-mapped f xs)

@@ -1,15 +1,14 @@
 -- One more event, and what the walker's parts hold.
-use Rattle.std.proofs.Common.{◌≡◌, ℕ, Bool, true, false, not, if◌then◌else◌, ◌&&◌, ◌==◌, List, [], ◌∷◌, ◌++◌, map, length, filter, reverse, Option, Some, None, option_map, is_some, refl, sym, ap, ◌∙◌, subst}
-use Rattle.std.specs.List.{list_any}
+use Rattle.std.proofs.Common.{◌≡◌, Bool, true, false, not, if◌then◌else◌, ◌&&◌, ◌==◌, List, [], ◌∷◌, map, length, filter, reverse, Option, Some, None, option_map, is_some, refl, sym, ap, ◌∙◌, subst}
+use Rattle.std.specs.List.{list_any, AllByRecursion}
 use Rattle.std.specs.Option.{option_map_or}
 use Rattle.std.proofs.lemmas.Bool.{false≢true}
-use Rattle.std.proofs.lemmas.Option.{none-some}
 use Rattle.blog_event.specs.declared.fault.Fault.TheVariants.{OutOfPlace, Unended, BadBody}
 use Rattle.blog_event.specs.Fault.{Cause, needs, first_failing}
 use Rattle.blog_event.specs.File.{Placed}
 use Rattle.blog_row.specs.declared.kind.RowsKind.{RowsKind}
 use Rattle.blog_row.specs.RowsEvent.{has_end_flag}
-use Rattle.blog_trans.specs.declared.counts.Counts.{Counts}
+use Rattle.blog_row.specs.TableMap.{Table}
 use Rattle.blog_trans.specs.declared.judge.Judge.{Judge}
 use Rattle.blog_trans.specs.declared.kind.EventKind.{EventKind}
 use Rattle.blog_trans.specs.declared.kind.EventKind.TheVariants as kind
@@ -19,21 +18,22 @@ use Rattle.blog_trans.specs.Selection.{Selection}
 use Rattle.blog_trans.specs.Kinds.{is_begin_kind, is_end_kind, rows_of_kind}
 use Rattle.blog_trans.specs.Places.{kind_at, is_begin, is_map, is_rows, place, is_inside, since}
 use Rattle.blog_trans.specs.Acceptance.{end_checks, checks, event_fault}
-use Rattle.blog_trans.specs.Groups.{PlacedRows, PlacedStatement, kept_rows, first_maps}
+use Rattle.blog_trans.specs.Groups.{PlacedRows, kept_rows, first_maps}
 use Rattle.blog_trans.specs.Changes.{table_of}
-use Rattle.blog_trans.specs.Progress.{Open, Progress, appended_if, with_rows, closed, ended, ended_if, rows_taken, advance, advance_by, progress}
-use Rattle.blog_trans.specs.StatementMaps.{MapFacts, first_of_ids, facts_of, facts_held, used_maps, is_used}
-use Rattle.blog_trans.specs.TableNameView.{table_named}
+use Rattle.blog_trans.specs.Progress.{Open, Progress, appended_if, with_rows, closed, ended, ended_if, rows_taken, advance_by, progress}
+use Rattle.blog_trans.specs.StatementMaps.{first_of_ids, used_maps, is_used}
+use Rattle.blog_trans.specs.TablesView.{tables_known, HaveGrown, table_at, IsNumbered}
 use Rattle.blog_trans.specs.TakenView.{IsKept, is_other_kind, statement_with}
 use Rattle.blog_trans.specs.Passing.{HavePassed}
 use Rattle.blog_trans.specs.JudgeView.{Knows}
-use Rattle.blog_trans.specs.KeeperView.{Holds, statement_behind, closed_by}
-use Rattle.blog_trans.specs.WalkerView.{Walks, Keeps}
-use Rattle.indexmap.specs.IndexMap.{IndexMap, values}
+use Rattle.blog_trans.specs.KeeperView.{statement_behind, closed_by}
+use Rattle.blog_trans.specs.WalkerView.{Walks, Keeps, progress_changes, progress_tables}
+use Rattle.indexmap.specs.IndexMap.{values}
 use Rattle.blog_trans.specs.declared.maps.MapSeen.{MapSeen}
+use Rattle.blog_trans.specs.declared.layouts.SelectedTable.{SelectedTable}
+use Rattle.blog_trans.proofs.Growing.{counts-grown}
 use Rattle.blog_trans.proofs.ProgressSteps.{Step, begins, ends, rows, other, step-of, needs-passed, not-holds}
-use Rattle.blog_trans.proofs.ProgressState.{open-inside, open-no-rows, since-other, since-rows, since-last}
-use Rattle.blog_trans.proofs.ProgressGroups.{none-open}
+use Rattle.blog_trans.proofs.ProgressState.{open-inside, since-other, since-rows, since-last}
 use Rattle.blog_trans.proofs.ProgressMaps.{used_statement, taken-maps, taken-closed}
 use Rattle.blog_trans.proofs.ProgressFirsts.{ids_of}
 use Rattle.blog_trans.proofs.WalkerCode.{used-held, held-facts, log-facts}
@@ -107,13 +107,13 @@ pub with-rows-event : (earlier : List Placed) (p : Placed) (k : RowsKind) → ki
 with-rows-event earlier p k is = ap (λ j. if is_begin_kind j then [] else p ∷ since earlier) is
 
 -- a rows event that is kept
-pub kept-there : (k : KeptRows) (x : Option PlacedRows) → IsKept (Some k) x → (r : PlacedRows) × (x ≡ Some r) × IsKept (Some k) (Some r)
-kept-there k (Some r) kept = (r, refl, kept)
-kept-there k None kept = absurd kept
+pub kept-there : (tables : List Table) (k : KeptRows) (x : Option PlacedRows) → IsKept tables (Some k) x → (r : PlacedRows) × (x ≡ Some r) × IsKept tables (Some k) (Some r)
+kept-there tables k (Some r) kept = (r, refl, kept)
+kept-there tables k None kept = absurd kept
 
-pub kept-none : (x : Option PlacedRows) → IsKept None x → x ≡ None
-kept-none None kept = refl
-kept-none (Some r) kept = absurd kept
+pub kept-none : (tables : List Table) (x : Option PlacedRows) → IsKept tables None x → x ≡ None
+kept-none tables None kept = refl
+kept-none tables (Some r) kept = absurd kept
 
 -- ---- what one more event makes of the progress
 
@@ -168,14 +168,41 @@ used-ats judge sel statement earlier knows =
     ∙ used-held (λ x. x.at) sel statement judge.maps.entries (first_of_ids statement) knows.maps_are
     ∙ log-facts (λ x. x.at) (λ m. m.pos) sel statement (λ m. refl) (first_of_ids statement)
 
+-- a used map's table stands at its number
+at-number : (tables : List Table) (m : MapSeen) → IsNumbered tables m → m.used ≡ true → table_at tables m ≡ Some (table_of m.body.now)
+at-number tables m numbered used = numbered.number ∙ some-mapped m.table (numbered.selected used)
+  where
+    some-mapped : (t : Option SelectedTable) → is_some t ≡ true → option_map (λ x. table_of m.body.now) t ≡ Some (table_of m.body.now)
+    some-mapped (Some t) e = refl
+    some-mapped None e = absurd (false≢true e)
+
+at-numbers : (tables : List Table) (maps : List MapSeen) → AllByRecursion (IsNumbered tables) maps
+    → map (table_at tables) (used_maps maps) ≡ map (λ m. Some (table_of m.body.now)) (used_maps maps)
+at-numbers tables [] numbered = refl
+at-numbers tables (m ∷ maps) numbered = at m.used refl (at-numbers tables maps numbered.1)
+  where
+    at : (b : Bool) → m.used ≡ b → map (table_at tables) (used_maps maps) ≡ map (λ x. Some (table_of x.body.now)) (used_maps maps)
+        → map (table_at tables) (if b then m ∷ used_maps maps else used_maps maps) ≡ map (λ x. Some (table_of x.body.now)) (if b then m ∷ used_maps maps else used_maps maps)
+    at true used rest = λ i. at-number tables m numbered.0 used i ∷ rest i
+    at false used rest = rest
+
 pub used-tables : {A : Type 0} (judge : Judge A) (sel : Selection) (statement earlier : List Placed) → Knows sel statement earlier judge
-    → map (λ m. table_named m.name) (used_maps (values judge.maps)) ≡ map (λ m. table_of m.event.body) (filter (is_used sel statement) (first_of_ids statement))
+    → map (table_at (tables_known judge.layouts)) (used_maps (values judge.maps)) ≡ map (λ m. Some (table_of m.event.body)) (filter (is_used sel statement) (first_of_ids statement))
 used-tables judge sel statement earlier knows =
-    sym (held-facts (λ x. x.table) (λ m. table_named m.name) (λ e. refl) judge.maps.entries)
-    ∙ used-held (λ x. x.table) sel statement judge.maps.entries (first_of_ids statement) knows.maps_are
-    ∙ log-facts (λ x. x.table) (λ m. table_of m.event.body) sel statement (λ m. refl) (first_of_ids statement)
+    at-numbers (tables_known judge.layouts) (values judge.maps) knows.numbered
+    ∙ sym (held-facts (λ x. Some (table_of x.body)) (λ m. Some (table_of m.body.now)) (λ e. refl) judge.maps.entries)
+    ∙ used-held (λ x. Some (table_of x.body)) sel statement judge.maps.entries (first_of_ids statement) knows.maps_are
+    ∙ log-facts (λ x. Some (table_of x.body)) (λ m. Some (table_of m.event.body)) sel statement (λ m. refl) (first_of_ids statement)
 
 -- ---- what the walker holds after an event
+
+-- one more table among the selected ones changes nothing that is kept
+pub keeps-grown : {A : Type 0} (k : Progress) (w : Walker A) (judge : Judge A) → HaveGrown (tables_known w.judge.layouts) (tables_known judge.layouts)
+    → Keeps k w → Keeps k (record { judge = judge; keeper = w.keeper; counts = w.counts })
+keeps-grown k w judge grown keeps = record {
+  keeper = keeps.keeper;
+  counts = counts-grown (tables_known w.judge.layouts) (tables_known judge.layouts) (progress_changes k) (progress_tables k) w.counts grown keeps.counts;
+}
 
 module _ {A : Type 0} (w : Walker A) (sel : Selection) (earlier : List Placed) (p : Placed) (passed : HavePassed sel (p ∷ earlier)) where
   -- one that is nothing to the groups

@@ -4,7 +4,7 @@ use Rattle.std.specs.Prelude.{◌≡◌, ◌&&◌, ℕ, Bool, true, false, not, 
 use Rattle.std.specs.Option.{option_map_or}
 use Rattle.std.specs.Result.{result_ok}
 use Rattle.std.specs.List.{list_any, AllByRecursion}
-use Rattle.indexmap.specs.IndexMap.{IndexMap, get}
+use Rattle.indexmap.specs.IndexMap.{IndexMap, get, values}
 use Rattle.blog_event.specs.declared.fault.Fault.{Fault}
 use Rattle.blog_event.specs.declared.fault.Fault.TheVariants.{MapClash}
 use Rattle.blog_event.specs.Fault.{Cause, fault_at, first_failing}
@@ -17,6 +17,7 @@ use Rattle.blog_row.specs.LayoutView.{layout_columns}
 use Rattle.blog_row.specs.TableMap.{names_of, layout_of}
 use Rattle.blog_row.specs.RowsEvent.{RowsBody, rows_of, table_id}
 use Rattle.blog_trans.specs.declared.judge.Judge.{Judge}
+use Rattle.blog_trans.specs.declared.layouts.SelectedTable.{SelectedTable}
 use Rattle.blog_trans.specs.declared.maps.MapSeen.{MapSeen}
 use Rattle.blog_trans.specs.declared.taken.KeptRows.{KeptRows}
 use Rattle.blog_trans.specs.declared.table_name.TableName.{TableName}
@@ -26,6 +27,7 @@ use Rattle.blog_trans.specs.Places.{is_map, is_rows, is_map_of, map_in, place, s
 use Rattle.blog_trans.specs.Acceptance.{is_selected, clashes_by_id, clashes_by_layout, have_same_layout, cause_of_row, selected_map_checks, event_fault}
 use Rattle.blog_trans.specs.StatementMaps.{first_of_ids, facts_of, facts_held}
 use Rattle.blog_trans.specs.TableNameView.{table_named}
+use Rattle.blog_trans.specs.TablesView.{tables_known, IsNumbered}
 use Rattle.blog_trans.specs.Refusals.{IsRefusal}
 use Rattle.blog_trans.specs.TakenView.{statement_with, IsTaken}
 
@@ -74,9 +76,9 @@ LayoutsAgree sel earlier layouts =
     → list_any (clashes_by_layout p) earlier ≡ has_other_layout (get is_same_name layouts name) p.event.body
 
 -- what is told of the map of a selected table: its columns, or why it is refused
-abbrev pub AreSelectedColumns : {S : Type 0} → Selection → List Placed → Placed → Result told.Layout Fault → IndexMap TableName told.Layout S → Type 0
+abbrev pub AreSelectedColumns : {S : Type 0} → Selection → List Placed → Placed → Result SelectedTable Fault → IndexMap TableName told.Layout S → Type 0
 AreSelectedColumns sel earlier p result layouts =
-    MatchResult result (λ layout. (layout_of p.event.body ≡ Ok (layout_columns layout)) × (first_failing (selected_map_checks earlier p) ≡ None) × LayoutsAgree sel (p ∷ earlier) layouts)
+    MatchResult result (λ table. (layout_of p.event.body ≡ Ok (layout_columns table.layout)) × (first_failing (selected_map_checks earlier p) ≡ None) × LayoutsAgree sel (p ∷ earlier) layouts)
     (λ fault. IsRefusal (fault_at p.pos (first_failing (selected_map_checks earlier p))) fault)
 
 -- the checks of a map's columns
@@ -88,9 +90,9 @@ abbrev pub columns_known : Selection → Placed → Option Layout
 columns_known sel p = if is_selected sel p.event.body then result_ok (layout_of p.event.body) else None
 
 -- what is told of any map: its columns, where its table is selected, or why it is refused
-abbrev pub AreColumns : {S : Type 0} → Selection → List Placed → Placed → Result (Option told.Layout) Fault → IndexMap TableName told.Layout S → Type 0
+abbrev pub AreColumns : {S : Type 0} → Selection → List Placed → Placed → Result (Option SelectedTable) Fault → IndexMap TableName told.Layout S → Type 0
 AreColumns sel earlier p result layouts =
-    MatchResult result (λ layout. (option_map layout_columns layout ≡ columns_known sel p) × (is_selected sel p.event.body ≡ true → IsOk (layout_of p.event.body))
+    MatchResult result (λ table. (option_map (λ t. layout_columns t.layout) table ≡ columns_known sel p) × (is_selected sel p.event.body ≡ true → IsOk (layout_of p.event.body))
     × (first_failing (column_checks sel earlier p) ≡ None) × LayoutsAgree sel (p ∷ earlier) layouts)
     (λ fault. IsRefusal (fault_at p.pos (first_failing (column_checks sel earlier p))) fault)
 
@@ -100,7 +102,7 @@ AreColumns sel earlier p result layouts =
 abbrev pub IsReadBy : RowsKind → Layout → Placed → MapSeen → Result (Option KeptRows) Fault → Type 0
 IsReadBy kind layout p map result =
     MatchResult result (λ kept. (k : KeptRows) × (body : RowsBody) × (kept ≡ Some k) × (rows_of kind layout p.event.body ≡ Ok body)
-    × (k.map ≡ map.at) × (k.name ≡ map.name) × (k.kind ≡ kind) × (k.images ≡ length body.images))
+    × (k.map ≡ map.at) × (option_map (λ t. t.number) map.table ≡ Some k.table) × (k.kind ≡ kind) × (k.images ≡ length body.images))
     (λ fault. (cause : RowFault) × (rows_of kind layout p.event.body ≡ Err cause) × (fault ≡ cause_of_row cause p.pos))
 
 -- ---- all of it
@@ -112,11 +114,12 @@ pub record Knows {A : Type 0} (sel : Selection) (statement earlier : List Placed
   pub maps_are : map facts_held judge.maps.entries ≡ map (facts_of sel statement) (first_of_ids statement)
   pub passed : IsPassedStatement sel statement
   pub layouts_agree : LayoutsAgree sel earlier judge.layouts
+  pub numbered : AllByRecursion (IsNumbered (tables_known judge.layouts)) (values judge.maps)
 
 -- what is told of an event whose checks are these: it passed and is known, or it is refused
 abbrev pub IsJudgedBy : {A : Type 0} → Option Cause → Selection → List Placed → Placed → Result Taken Fault → Judge A → Type 0
 IsJudgedBy wanted sel earlier p result judge =
-    MatchResult result (λ taken. (wanted ≡ None) × IsTaken sel earlier p taken × Knows sel (statement_with p earlier) (p ∷ earlier) judge)
+    MatchResult result (λ taken. (wanted ≡ None) × IsTaken (tables_known judge.layouts) sel earlier p taken × Knows sel (statement_with p earlier) (p ∷ earlier) judge)
     (λ fault. IsRefusal (fault_at p.pos wanted) fault)
 
 abbrev pub IsJudged : {A : Type 0} → Selection → Placed → Judge A → Result Taken Fault → Judge A → Type 0

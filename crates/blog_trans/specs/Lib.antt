@@ -9,6 +9,7 @@ pub mod Entries
 pub mod EntryView
 pub mod KeeperView
 pub mod TableNameView
+pub mod TablesView
 pub mod StatementMaps
 pub mod TakenView
 pub mod Refusals

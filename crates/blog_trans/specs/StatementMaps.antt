@@ -6,14 +6,12 @@ use Rattle.byteorder.specs.Endian.{little_number}
 use Rattle.blog_event.specs.File.{Placed}
 use Rattle.blog_row.specs.Column.{Layout}
 use Rattle.blog_row.specs.LayoutView.{layout_columns}
-use Rattle.blog_row.specs.TableMap.{Table, layout_of}
+use Rattle.blog_row.specs.TableMap.{layout_of}
 use Rattle.blog_row.specs.RowsEvent.{table_id}
 use Rattle.blog_trans.specs.declared.maps.MapSeen.{MapSeen}
 use Rattle.blog_trans.specs.Selection.{Selection}
 use Rattle.blog_trans.specs.Places.{is_map, is_rows, is_map_of}
 use Rattle.blog_trans.specs.Acceptance.{is_selected}
-use Rattle.blog_trans.specs.Changes.{table_of}
-use Rattle.blog_trans.specs.TableNameView.{table_named}
 
 -- the first map of each table id, in the order of the log
 abbrev pub first_of_ids : List Placed → List Placed
@@ -30,7 +28,6 @@ pub record MapFacts : Type 0 where
   pub id : ℕ
   pub at : ℕ
   pub body : List ℕ
-  pub table : Table
   pub layout : Option Layout
   pub used : Bool
 
@@ -40,7 +37,6 @@ facts_of sel statement m = record {
   id = little_number 6 (table_id m.event.body);
   at = m.pos;
   body = m.event.body;
-  table = table_of m.event.body;
   layout = if is_selected sel m.event.body then result_ok (layout_of m.event.body) else None;
   used = is_used sel statement m;
 }
@@ -51,8 +47,7 @@ facts_held e = record {
   id = e.0;
   at = e.1.at;
   body = e.1.body.now;
-  table = table_named e.1.name;
-  layout = option_map layout_columns e.1.layout;
+  layout = option_map (λ t. layout_columns t.layout) e.1.table;
   used = e.1.used;
 }
 

@@ -1,5 +1,5 @@
 -- What a walk over a log tells.
-use Rattle.std.specs.Prelude.{◌≡◌, ◌+◌, ℕ, not, ◌&&◌, nat_lt, List, [], ◌∷◌, reverse, Option, None, Result, Ok, Err, MatchResult}
+use Rattle.std.specs.Prelude.{◌≡◌, ℕ, not, ◌&&◌, nat_lt, List, [], ◌∷◌, reverse, Option, None, Result, MatchResult}
 use Rattle.blog_event.specs.declared.fault.Fault.{Fault}
 use Rattle.blog_event.specs.declared.fault.Fault.TheVariants.{CutEvent, NoEventAt, Unended}
 use Rattle.blog_event.specs.Fault.{needs, first_failing, fault_at}

@@ -11,6 +11,7 @@ pub use Rattle.blog_trans.specs.Places.{placed}
 use Rattle.blog_trans.specs.declared.taken.KeptRows.{KeptRows}
 use Rattle.blog_trans.specs.declared.walker.Walker.{Walker}
 use Rattle.blog_trans.specs.Selection.{Selection}
+use Rattle.blog_trans.specs.TablesView.{tables_known}
 use Rattle.blog_trans.specs.Places.{since}
 use Rattle.blog_trans.specs.Groups.{PlacedRows, PlacedStatement, rows_value}
 use Rattle.blog_trans.specs.Changes.{Change, table_of, changes_of_rows}
@@ -50,7 +51,7 @@ images_of kept = option_map_or (λ rows. rows.images) kept 0
 -- what is kept is this
 pub record Keeps {A : Type 0} (k : Progress) (walker : Walker A) : Type 0 where
   pub keeper : Holds walker.keeper k
-  pub counts : AreCounts (progress_changes k) (progress_tables k) walker.counts
+  pub counts : AreCounts (tables_known walker.judge.layouts) (progress_changes k) (progress_tables k) walker.counts
 
 -- the events passed, and the walker's parts hold what they are to the groups
 pub record Walks {A : Type 0} (sel : Selection) (earlier : List Placed) (walker : Walker A) : Type 0 where
@@ -61,6 +62,7 @@ pub record Walks {A : Type 0} (sel : Selection) (earlier : List Placed) (walker 
 -- no number of the walker is above n
 pub record IsWithin {A : Type 0} (n : ℕ) (walker : Walker A) : Type 0 where
   pub entries : vec_len walker.keeper.entries + index_map_len walker.judge.maps ≤ n
+  pub tables : index_map_len walker.judge.layouts ≤ n
   pub numbers : AreFew n walker.counts
 
 -- what is told of an event whose first failing check is this one: it passed and is walked, or the log is refused at it

@@ -1,13 +1,10 @@
 //! Counting the rows of the groups by table.
 
 use crate::maps::Maps;
-use crate::table_name::TableName;
 use crate::taken::KeptRows;
 use blog_event::Fault;
 use blog_row::RowsKind;
-use indexmap::{IndexMap, IndexSet};
 use std::alloc::Allocator;
-use std::hash::{BuildHasherDefault, FoldHasher};
 
 /// How many rows of a table are inserted, updated and deleted.
 #[derive(Clone, Copy, Debug, PartialEq, Eq)]
@@ -15,15 +12,17 @@ pub(crate) struct Count {
     pub(crate) inserts: u64,
     pub(crate) updates: u64,
     pub(crate) deletes: u64,
+    /// Whether the table has a map in the groups.
+    pub(crate) kept: bool,
 }
 
 /// The numbers of rows by table, of what is kept so far.
 #[derive(Drop)]
-pub(crate) struct Counts<'a, A: Allocator> {
-    // The numbers, of each table that has a kept rows event.
-    rows: IndexMap<TableName<'a>, Count, BuildHasherDefault<FoldHasher>, A>,
-    // The tables of the kept maps, in the order of the groups.
-    tables: IndexSet<TableName<'a>, BuildHasherDefault<FoldHasher>, A>,
+pub(crate) struct Counts<A: Allocator> {
+    // Those of the selected tables; tables with higher numbers have no rows.
+    rows: Vec<Count, A>,
+    // The numbers of the tables of the kept maps, in the order of the groups.
+    tables: Vec<u32, A>,
 }
 
 impl Count {
@@ -35,6 +34,7 @@ impl Count {
         inserts: 0,
         updates: 0,
         deletes: 0,
+        kept: false,
     };
 
     /// These, and the rows of one more rows event, which has so many images.
@@ -62,98 +62,118 @@ impl Count {
     }
 }
 
-impl<'a, A: Allocator + Copy> Counts<'a, A> {
-    ghost use Rattle.std.specs.Prelude.{◌≡◌, ◌+◌, ◌≤◌, ◌++◌, ℕ, List, [], length, map, OnOk, IfErr};
+impl<A: Allocator + Copy> Counts<A> {
+    ghost use Rattle.std.specs.Prelude.{◌≡◌, ◌+◌, ◌<◌, ◌≤◌, ◌++◌, ℕ, List, [], ◌∷◌, Some, length, map, slice_get, vec_len, OnOk, IfErr};
     ghost use Rattle.blog_event.specs.declared.fault.Fault.TheVariants.{OutOfMemory};
     ghost use Rattle.indexmap.specs.IndexMap.{values};
     ghost use Rattle.blog_row.specs.TableMap.{Table};
     ghost use Rattle.blog_trans.specs.Groups.{RowsEvent};
     ghost use Rattle.blog_trans.specs.Changes.{Change, table_of, changes_of_rows};
-    ghost use Rattle.blog_trans.specs.TableNameView.{table_named};
+    ghost use Rattle.blog_trans.specs.TablesView.{table_at};
     ghost use Rattle.blog_trans.specs.StatementMaps.{used_maps};
     ghost use Rattle.blog_trans.specs.CountsView.{AreCounts, AreFew};
 
     /// Nothing is kept yet.
     pub(crate) fn new(alloc: A) -> Self
-        ensures counts { AreCounts [] [] result }
+        ensures counts { AreCounts [] [] [] result }
         ensures few { AreFew 0 result }
     {
         Counts {
-            rows: IndexMap::new(alloc),
-            tables: IndexSet::new(alloc),
+            rows: Vec::new(alloc),
+            tables: Vec::new(alloc),
         }
     }
 
+    /// Makes room for the numbers of a table.
+    fn reach(&mut self, table: u32) -> Result<(), Fault>
+        ensures counts { (tables : List Table) (cs : List Change) (ts : List Table) → table < length tables → AreCounts tables cs ts self.old → OnOk result (AreCounts tables cs ts self.new) }
+        ensures reached { OnOk result (table < vec_len self.new.rows) }
+        ensures few { (n : ℕ) → AreFew n self.old → OnOk result (AreFew n self.new) }
+        ensures refused { IfErr result (λ fault. fault ≡ OutOfMemory) }
+    {
+        let len = table as usize + 1;
+        if self.rows.len() < len {
+            let Ok(_) = self.rows.resize(len, Count::NONE) else {
+                return Err(Fault::OutOfMemory);
+            };
+        }
+        Ok(())
+    }
+
     /// Counts the rows of a kept rows event.
-    pub(crate) fn count(&mut self, kept: &KeptRows<'a>) -> Result<(), Fault>
+    pub(crate) fn count(&mut self, kept: &KeptRows) -> Result<(), Fault>
         requires few { AreFew 4294967295 self.old }
         requires images { kept.now.images ≤ 4294967295 }
-        ensures counts { (cs : List Change) (ts : List Table) (r : RowsEvent) → AreCounts cs ts self.old →
-            r.kind ≡ kept.now.kind → table_of r.map ≡ table_named kept.now.name → length r.images ≡ kept.now.images →
-            OnOk result (AreCounts (cs ++ changes_of_rows r) ts self.new) }
+        ensures counts { (tables : List Table) (cs : List Change) (ts : List Table) (r : RowsEvent) → AreCounts tables cs ts self.old →
+            r.kind ≡ kept.now.kind → slice_get tables kept.now.table ≡ Some (table_of r.map) → length r.images ≡ kept.now.images →
+            OnOk result (AreCounts tables (cs ++ changes_of_rows r) ts self.new) }
         ensures few { (n : ℕ) → AreFew n self.old → OnOk result (AreFew (n + kept.now.images) self.new) }
         ensures refused { IfErr result (λ fault. fault ≡ OutOfMemory) }
     {
-        let before = self.held(kept.name);
-        let count = before.with(kept.kind, kept.images);
-        let Ok(_) = self.rows.insert(kept.name, count) else {
-            return Err(Fault::OutOfMemory);
-        };
+        self.reach(kept.table)?;
+        let before = self.rows[kept.table as usize];
+        self.rows[kept.table as usize] = before.with(kept.kind, kept.images);
+        Ok(())
+    }
+
+    /// Takes the table of a kept map.
+    fn keep_table(&mut self, table: u32) -> Result<(), Fault>
+        ensures counts { (tables : List Table) (cs : List Change) (ts : List Table) (t : Table) → slice_get tables table ≡ Some t → AreCounts tables cs ts self.old →
+            OnOk result (AreCounts tables cs (ts ++ t ∷ []) self.new) }
+        ensures few { (n : ℕ) → AreFew n self.old → OnOk result (AreFew n self.new) }
+        ensures refused { IfErr result (λ fault. fault ≡ OutOfMemory) }
+    {
+        self.reach(table)?;
+        if !self.rows[table as usize].kept {
+            let Ok(_) = self.tables.push(table) else {
+                return Err(Fault::OutOfMemory);
+            };
+            self.rows[table as usize].kept = true;
+        }
         Ok(())
     }
 
     /// Takes the tables of the maps that are kept of a statement.
-    pub(crate) fn keep(&mut self, maps: &Maps<'a, A>) -> Result<(), Fault>
-        ensures counts { (cs : List Change) (ts : List Table) → AreCounts cs ts self.old →
-            OnOk result (AreCounts cs (ts ++ map (λ m. table_named m.name) (used_maps (values maps.now))) self.new) }
+    pub(crate) fn keep<'a>(&mut self, maps: &Maps<'a, A>) -> Result<(), Fault>
+        ensures counts { (tables : List Table) (cs : List Change) (ts us : List Table) → map (table_at tables) (used_maps (values maps.now)) ≡ map Some us → AreCounts tables cs ts self.old →
+            OnOk result (AreCounts tables cs (ts ++ us) self.new) }
         ensures few { (n : ℕ) → AreFew n self.old → OnOk result (AreFew n self.new) }
         ensures refused { IfErr result (λ fault. fault ≡ OutOfMemory) }
     {
         for map in maps.values() {
             if map.used {
-                let Ok(_) = self.tables.insert(map.name) else {
-                    return Err(Fault::OutOfMemory);
-                };
+                if let Some(table) = &map.table {
+                    self.keep_table(table.number)?;
+                }
             }
         }
         Ok(())
     }
 }
 
-impl<'a, A: Allocator> Counts<'a, A> {
-    ghost use Rattle.std.specs.Prelude.{◌≡◌, ◌<◌, ◌≤◌, ℕ, List, [], Some, length, slice_get, option_map};
+impl<A: Allocator> Counts<A> {
+    ghost use Rattle.std.specs.Prelude.{◌≡◌, ◌<◌, ◌≤◌, ℕ, List, [], Some, length, slice_get, option_map, vec_len};
     ghost use Rattle.blog_row.specs.TableMap.{Table};
     ghost use Rattle.blog_trans.specs.Changes.{Change, count_of, first_tables};
-    ghost use Rattle.blog_trans.specs.TableNameView.{table_named};
-    ghost use Rattle.blog_trans.specs.CountsView.{AreCounts, AreFew, counted, held_of};
-
-    /// The numbers of a table, none where it has no kept rows event.
-    fn held(&self, name: TableName<'a>) -> Count
-        ensures held { counted (table_named name.entry) (Some result) ≡ counted (table_named name.entry) (held_of self.now.rows.entries (table_named name.entry)) }
-        ensures few { (n : ℕ) → AreFew n self.now → (result.inserts ≤ n) × (result.updates ≤ n) × (result.deletes ≤ n) }
-    {
-        match self.rows.get(&name) {
-            Some(count) => *count,
-            None => Count::NONE,
-        }
-    }
+    ghost use Rattle.blog_trans.specs.CountsView.{AreCounts, counted};
 
     /// How many tables there are.
     pub(crate) fn len(&self) -> usize
-        ensures { (cs : List Change) (ts : List Table) → AreCounts cs ts self.now → result ≡ length (first_tables [] ts) }
+        ensures { (tables : List Table) (cs : List Change) (ts : List Table) → AreCounts tables cs ts self.now → result ≡ length (first_tables [] ts) }
     {
         self.tables.len()
     }
 
-    /// A table, and its numbers.
-    pub(crate) fn table(&self, n: usize) -> (TableName<'a>, Count)
-        requires { n < length self.now.tables.keys }
-        ensures { (cs : List Change) (ts : List Table) → AreCounts cs ts self.now →
-            option_map (count_of cs) (slice_get (first_tables [] ts) n) ≡ Some (counted (table_named result.0) (Some result.1)) }
+    /// The number of a table, and how many of its rows are changed.
+    pub(crate) fn table(&self, n: usize) -> (u32, Count)
+        requires { n < vec_len self.now.tables }
+        ensures { (tables : List Table) (cs : List Change) (ts : List Table) → AreCounts tables cs ts self.now →
+            (t : Table) × (slice_get tables result.0 ≡ Some t) × (option_map (count_of cs) (slice_get (first_tables [] ts) n) ≡ Some (counted t (Some result.1))) }
     {
-        let Some(name) = self.tables.get_index(n) else {
-            unreachable!();
-        };
-        (*name, self.held(*name))
+        let table = self.tables[n];
+        match self.rows.get(table as usize) {
+            Some(count) => (table, *count),
+            None => (table, Count::NONE),
+        }
     }
 }

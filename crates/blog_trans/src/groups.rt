@@ -1,6 +1,7 @@
 //! The index of a log: its groups under a selection.
 
 ghost use Rattle.std.specs.Prelude.{◌≡◌, ◌+◌, length, map, take, None};
+ghost use Rattle.std.proofs.Props.{props};
 ghost use Rattle.blog_event.specs.Event.{event_size};
 ghost use Rattle.blog_event.specs.LogView.{log_bytes};
 ghost use Rattle.blog_trans.specs.Selection.{selection_of};
@@ -8,12 +9,14 @@ ghost use Rattle.blog_trans.specs.Acceptance.{fault};
 ghost use Rattle.blog_trans.specs.Groups.{placed_groups};
 ghost use Rattle.blog_trans.specs.PlacedChanges.{placed_changes, placed_tables};
 ghost use Rattle.blog_trans.specs.CountsView.{AreCounts};
+ghost use Rattle.blog_trans.specs.TablesView.{tables_known};
 ghost use Rattle.blog_trans.specs.Entries.{ats_of, links_from, statement_starts, statements_in, transaction_starts};
 
 use crate::counts::Counts;
 use crate::entry::Entry;
 use crate::keeper::Keeper;
 use crate::kind::{EventKind, event_kind};
+use crate::layouts::Layouts;
 use crate::selection::Selection;
 use blog_event::{Event, Log};
 use blog_row::{Layout, RowsEvent, TableMap};
@@ -28,7 +31,8 @@ pub struct Index<'a, 's, A: Allocator = Global> {
     entries: Vec<Entry, A>,
     transactions: u32,
     statements: u32,
-    counts: Counts<'a, A>,
+    layouts: Layouts<'a, A>,
+    counts: Counts<A>,
     pub ghost accepted: { fault (log_bytes log) (selection_of sel) ≡ None },
     ghost ats: { map (λ e. e.at) entries.items ≡ ats_of (placed_groups (log_bytes log) (selection_of sel)) },
     ghost links: { map (λ e. e.link) entries.items ≡ links_from 0 (placed_groups (log_bytes log) (selection_of sel)) },
@@ -38,8 +42,8 @@ pub struct Index<'a, 's, A: Allocator = Global> {
         ≡ transaction_starts 0 (placed_groups (log_bytes log) (selection_of sel)) },
     ghost statement_column: { take statements (map (λ e. e.statement) entries.items)
         ≡ statement_starts 0 (placed_groups (log_bytes log) (selection_of sel)) },
-    ghost tallied: { AreCounts (placed_changes (placed_groups (log_bytes log) (selection_of sel)))
-        (placed_tables (placed_groups (log_bytes log) (selection_of sel))) counts },
+    ghost tallied: { AreCounts (tables_known layouts) (placed_changes (placed_groups (log_bytes log) (selection_of sel)))
+        (placed_tables (placed_groups (log_bytes log) (selection_of sel))) counts } by { Prim.hlevel props },
 }
 
 /// A table, and how many of its rows the groups insert, update and delete.
@@ -75,11 +79,12 @@ impl<'a, 's, A: Allocator> Index<'a, 's, A> {
         log: Log<'a>,
         sel: Selection<'s>,
         keeper: Keeper<A>,
-        counts: Counts<'a, A>,
+        layouts: Layouts<'a, A>,
+        counts: Counts<A>,
     ) -> Self
         requires accepted { fault (log_bytes log) (selection_of sel) ≡ None }
         requires kept { ShowsGroups keeper.entries.items keeper.transactions keeper.statements (placed_groups (log_bytes log) (selection_of sel)) }
-        requires counted { AreCounts (placed_changes (placed_groups (log_bytes log) (selection_of sel)))
+        requires counted { AreCounts (tables_known layouts) (placed_changes (placed_groups (log_bytes log) (selection_of sel)))
             (placed_tables (placed_groups (log_bytes log) (selection_of sel))) counts }
         ensures bytes { index_bytes result ≡ log_bytes log.entry }
         ensures selection { index_selection result ≡ selection_of sel.entry }
@@ -90,6 +95,7 @@ impl<'a, 's, A: Allocator> Index<'a, 's, A> {
             entries: keeper.entries,
             transactions: keeper.transactions,
             statements: keeper.statements,
+            layouts,
             counts,
         }
     }
@@ -303,7 +309,10 @@ impl<'a, 's, A: Allocator> Index<'a, 's, A> {
         requires { n < length (counts_of (groups (index_bytes self.now) (index_selection self.now))) }
         ensures { slice_get (counts_of (groups (index_bytes self.now) (index_selection self.now))) n ≡ Some (table_counted result) }
     {
-        let (name, count) = self.counts.table(n);
+        let (number, count) = self.counts.table(n);
+        let Some((name, _)) = self.layouts.get_index(number as usize) else {
+            unreachable!();
+        };
         TableCount {
             schema: name.schema,
             table: name.table,

@@ -1,8 +1,8 @@
 //! Judging events: whether one may stand where it stands, and what the groups take of it.
 
-ghost use Rattle.std.specs.Prelude.{◌≡◌, ◌≤◌, ◌+◌, true, List, [], length, None, Some, Ok, OnOk, IfOk, is_some, option_map, nat_eq};
+ghost use Rattle.std.specs.Prelude.{◌≡◌, ◌<◌, ◌≤◌, ◌+◌, ◌^◌, true, List, [], length, None, Some, Ok, OnOk, IfOk, is_some, option_map, nat_eq};
 ghost use Rattle.std.specs.Option.{option_map_or};
-ghost use Rattle.indexmap.specs.IndexMap.{index_map_len, get};
+ghost use Rattle.indexmap.specs.IndexMap.{index_map_len, get, IsEmpty};
 ghost use Rattle.byteorder.specs.Endian.{little_number};
 ghost use Rattle.blog_event.specs.Event.{Event as Fields, event_of};
 ghost use Rattle.blog_event.specs.Fault.{first_failing};
@@ -16,11 +16,12 @@ ghost use Rattle.blog_trans.specs.Kinds.{kind_of, is_end_kind};
 ghost use Rattle.blog_trans.specs.declared.kind.EventKind.TheVariants as told;
 ghost use Rattle.blog_trans.specs.JudgeView.{Knows, IsJudged, IsJudgedBy, IsReadBy, IsMapCompared};
 ghost use Rattle.blog_trans.specs.Places.{since};
+ghost use Rattle.blog_trans.specs.TablesView.{tables_known, HaveGrown};
 ghost use Rattle.blog_trans.specs.TakenView.{images_taken};
 ghost use Rattle.blog_trans.specs.Selection.{Selection as Sel, selection_of};
 
 use crate::kind::{EventKind, event_kind};
-use crate::layouts::{Layouts, body_fault, take_layout};
+use crate::layouts::{Layouts, body_fault, take_table};
 use crate::maps::{MapSeen, Maps};
 use crate::place::Place;
 use crate::selection::Selection;
@@ -43,7 +44,7 @@ pub(crate) struct Judge<'a, A: Allocator> {
     // The first table map of each table id in the open statement.
     maps: Maps<'a, A>,
     // The first columns of each selected table in the range.
-    layouts: Layouts<'a, A>,
+    pub(crate) layouts: Layouts<'a, A>,
 }
 
 /// A body is a list of bytes: nothing is done, but the proofs of its callers know it then.
@@ -56,22 +57,22 @@ fn kept_rows<'a>(
     map: &MapSeen<'a>,
     kind: RowsKind,
     event: &Event<'a>,
-) -> Result<Option<KeptRows<'a>>, Fault>
-    ensures unselected { map.now.layout ≡ None → result ≡ Ok None }
-    ensures read { (layout : Layout) → option_map layout_columns map.now.layout ≡ Some layout → IsReadBy kind layout (record { pos = event.now.pos; event = event_of event.now }) map.now result }
-    ensures selected { IfOk result (λ kept. is_some kept ≡ is_some map.now.layout) }
+) -> Result<Option<KeptRows>, Fault>
+    ensures unselected { map.now.table ≡ None → result ≡ Ok None }
+    ensures read { (layout : Layout) → option_map (λ t. layout_columns t.layout) map.now.table ≡ Some layout → IsReadBy kind layout (record { pos = event.now.pos; event = event_of event.now }) map.now result }
+    ensures selected { IfOk result (λ kept. is_some kept ≡ is_some map.now.table) }
     ensures images { IfOk result (λ kept. option_map_or (λ rows. rows.images) kept 0 ≤ length event.now.body.now) }
 {
-    let Some(layout) = map.layout else {
+    let Some(table) = &map.table else {
         return Ok(None);
     };
-    let read = match RowsEvent::read_counted(kind, event.body, &layout) {
+    let read = match RowsEvent::read_counted(kind, event.body, &table.layout) {
         Ok(read) => read,
         Err(fault) => return Err(body_fault(fault, event.pos)),
     };
     Ok(Some(KeptRows {
         map: map.at,
-        name: map.name,
+        table: table.number,
         kind,
         images: read.1,
     }))
@@ -82,6 +83,7 @@ impl<'a, A: Allocator + Copy> Judge<'a, A> {
     pub(crate) fn new(alloc: A) -> Self
         ensures known { (sel : Sel) → Knows sel [] [] result }
         ensures empty { index_map_len result.maps ≡ 0 }
+        ensures layouts { IsEmpty result.layouts }
     {
         Judge {
             place: Place::Outside,
@@ -105,15 +107,21 @@ impl<'a, A: Allocator + Copy> Judge<'a, A> {
         &self.maps
     }
 
+    /// The columns of the selected tables, when no more events are judged.
+    pub(crate) fn into_layouts(self) -> Layouts<'a, A>
+        ensures { result ≡ self.entry.layouts }
+    {
+        self.layouts
+    }
+
     /// Judges the next event of the range: what the groups take of it, or the first check that it fails.
-    pub(crate) fn judge(
-        &mut self,
-        sel: &Selection<'_>,
-        event: &Event<'a>,
-    ) -> Result<Taken<'a>, Fault>
+    pub(crate) fn judge(&mut self, sel: &Selection<'_>, event: &Event<'a>) -> Result<Taken, Fault>
+        requires few { index_map_len self.old.layouts < 2 ^ 32 }
         ensures judged { IsJudged (selection_of sel.now) (record { pos = event.now.pos; event = event_of event.now }) self.old result self.new }
         ensures len { OnOk result (index_map_len self.new.maps ≤ index_map_len self.old.maps + 1) }
         ensures images { IfOk result (λ taken. images_taken taken ≤ length event.now.body.now) }
+        ensures grown { OnOk result (HaveGrown (tables_known self.old.layouts) (tables_known self.new.layouts)) }
+        ensures tables { OnOk result (index_map_len self.new.layouts ≤ index_map_len self.old.layouts + 1) }
     {
         let pos = event.pos;
         match event_kind(event) {
@@ -138,10 +146,11 @@ impl<'a, A: Allocator + Copy> Judge<'a, A> {
     }
 
     /// A `BEGIN`: a transaction begins, and with it a statement.
-    fn begin(&mut self, pos: u32) -> Result<Taken<'a>, Fault>
+    fn begin(&mut self, pos: u32) -> Result<Taken, Fault>
         ensures judged { (sel : Sel) (e : Fields) → kind_of e ≡ told.Begin → IsJudged sel (record { pos = pos; event = e }) self.old result self.new }
         ensures len { OnOk result (index_map_len self.new.maps ≡ 0) }
         ensures images { IfOk result (λ taken. images_taken taken ≡ 0) }
+        ensures layouts { OnOk result (self.new.layouts ≡ self.old.layouts) }
     {
         if self.place.is_inside() {
             return Err(Fault::OutOfPlace { pos });
@@ -152,10 +161,11 @@ impl<'a, A: Allocator + Copy> Judge<'a, A> {
     }
 
     /// The end of a transaction.
-    fn end(&mut self, pos: u32) -> Result<Taken<'a>, Fault>
+    fn end(&mut self, pos: u32) -> Result<Taken, Fault>
         ensures judged { (sel : Sel) (e : Fields) (earlier : List Placed) → is_end_kind (kind_of e) ≡ true → Knows sel (since earlier) earlier self.old → IsJudgedBy (first_failing (end_checks earlier)) sel earlier (record { pos = pos; event = e }) result self.new }
         ensures maps { self.new.maps ≡ self.old.maps }
         ensures images { IfOk result (λ taken. images_taken taken ≡ 0) }
+        ensures layouts { self.new.layouts ≡ self.old.layouts }
     {
         if !self.place.is_inside() {
             return Err(Fault::OutOfPlace { pos });
@@ -168,10 +178,11 @@ impl<'a, A: Allocator + Copy> Judge<'a, A> {
     }
 
     /// The id of a transaction.
-    fn announce(&mut self, pos: u32) -> Result<Taken<'a>, Fault>
+    fn announce(&mut self, pos: u32) -> Result<Taken, Fault>
         ensures judged { (sel : Sel) (e : Fields) → kind_of e ≡ told.Announcement → IsJudged sel (record { pos = pos; event = e }) self.old result self.new }
         ensures maps { self.new.maps ≡ self.old.maps }
         ensures images { IfOk result (λ taken. images_taken taken ≡ 0) }
+        ensures layouts { self.new.layouts ≡ self.old.layouts }
     {
         if !self.place.is_outside() {
             return Err(Fault::OutOfPlace { pos });
@@ -195,11 +206,14 @@ impl<'a, A: Allocator + Copy> Judge<'a, A> {
     }
 
     /// A table map.
-    fn take_map(&mut self, sel: &Selection<'_>, event: &Event<'a>) -> Result<Taken<'a>, Fault>
-        requires { kind_of (event_of event.now) ≡ told.TableMap }
+    fn take_map(&mut self, sel: &Selection<'_>, event: &Event<'a>) -> Result<Taken, Fault>
+        requires kind { kind_of (event_of event.now) ≡ told.TableMap }
+        requires few { index_map_len self.old.layouts < 2 ^ 32 }
         ensures judged { IsJudged (selection_of sel.now) (record { pos = event.now.pos; event = event_of event.now }) self.old result self.new }
         ensures len { OnOk result (index_map_len self.new.maps ≤ index_map_len self.old.maps + 1) }
         ensures images { IfOk result (λ taken. images_taken taken ≡ 0) }
+        ensures grown { OnOk result (HaveGrown (tables_known self.old.layouts) (tables_known self.new.layouts)) }
+        ensures tables { OnOk result (index_map_len self.new.layouts ≤ index_map_len self.old.layouts + 1) }
     {
         let pos = event.pos;
         if !self.place.is_inside() {
@@ -214,14 +228,13 @@ impl<'a, A: Allocator + Copy> Judge<'a, A> {
             schema: map.schema(),
             table: map.table(),
         };
-        let layout = take_layout(&mut self.layouts, sel, name, &map, pos)?;
+        let table = take_table(&mut self.layouts, sel, name, &map, pos)?;
         are_bytes(event.body);
         if first {
             let seen = MapSeen {
                 at: pos,
                 body: event.body,
-                name,
-                layout,
+                table,
                 used: false,
             };
             let Ok(_) = self.maps.insert(map.id(), seen) else {
@@ -232,11 +245,12 @@ impl<'a, A: Allocator + Copy> Judge<'a, A> {
     }
 
     /// A rows event.
-    fn take_rows(&mut self, kind: RowsKind, event: &Event<'a>) -> Result<Taken<'a>, Fault>
+    fn take_rows(&mut self, kind: RowsKind, event: &Event<'a>) -> Result<Taken, Fault>
         requires { kind_of (event_of event.now) ≡ told.Rows kind }
         ensures judged { (sel : Sel) → IsJudged sel (record { pos = event.now.pos; event = event_of event.now }) self.old result self.new }
         ensures len { OnOk result (index_map_len self.new.maps ≡ index_map_len self.old.maps) }
         ensures images { IfOk result (λ taken. images_taken taken ≤ length event.now.body.now) }
+        ensures layouts { OnOk result (self.new.layouts ≡ self.old.layouts) }
     {
         let pos = event.pos;
         if !self.place.is_inside() {
@@ -264,6 +278,7 @@ impl<'a, A: Allocator + Copy> Judge<'a, A> {
         ensures known { (sel : Sel) (statement earlier : List Placed) → Knows sel statement earlier self.old → Knows sel [] earlier self.new }
         ensures empty { index_map_len self.new.maps ≡ 0 }
         ensures place { self.new.place ≡ self.old.place }
+        ensures layouts { self.new.layouts ≡ self.old.layouts }
     {
         self.has_rows = false;
         self.maps.clear();

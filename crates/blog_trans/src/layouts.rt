@@ -1,6 +1,7 @@
 //! The columns of the selected tables of the range.
 
-ghost use Rattle.std.specs.Prelude.{◌≡◌, ◌&&◌, true, List, Some, None, option_map};
+ghost use Rattle.std.specs.Prelude.{◌≡◌, ◌&&◌, ◌+◌, ◌<◌, ◌≤◌, ◌^◌, true, List, Some, None, IfOk, IfSome, OnOk, option_map, slice_get};
+ghost use Rattle.indexmap.specs.IndexMap.{index_map_len};
 ghost use Rattle.blog_event.specs.Event.{Event as Fields};
 ghost use Rattle.blog_event.specs.File.{Placed};
 ghost use Rattle.blog_row.specs.TableMap.{names_of};
@@ -11,6 +12,7 @@ ghost use Rattle.blog_trans.specs.Kinds.{kind_of};
 ghost use Rattle.blog_trans.specs.declared.kind.EventKind.TheVariants as kind;
 ghost use Rattle.blog_trans.specs.Selection.{Selection as Sel, selection_of, is_wanted};
 ghost use Rattle.blog_trans.specs.TableNameView.{table_named};
+ghost use Rattle.blog_trans.specs.TablesView.{tables_known, HaveGrown};
 
 use crate::selection::Selection;
 use crate::table_name::TableName;
@@ -20,13 +22,22 @@ use indexmap::IndexMap;
 use std::alloc::Allocator;
 use std::hash::{BuildHasherDefault, FoldHasher};
 
-/// The first columns of each selected table, by its name.
+/// The first columns of each selected table, by its name. A table's number is its place among them.
 pub(crate) type Layouts<'a, A> = IndexMap<
     TableName<'a>,
     Layout<'a>,
     BuildHasherDefault<FoldHasher>,
     A,
 >;
+
+/// A selected table, as a table map tells of it.
+#[derive(Clone, Copy, Debug)]
+pub(crate) struct SelectedTable<'a> {
+    /// Its number.
+    pub(crate) number: u32,
+    /// Its columns.
+    pub(crate) layout: Layout<'a>,
+}
 
 /// The fault of a body at an event.
 pub(crate) fn body_fault(fault: RowFault, pos: u32) -> Fault
@@ -56,46 +67,58 @@ fn is_selected(sel: &Selection<'_>, name: &TableName<'_>) -> bool
     is_wanted(sel.database, name.schema) && is_wanted(sel.table, name.table)
 }
 
-/// Takes the columns of a selected table's map; they are those of the table's first map in the range.
+/// Takes a selected table's map: its columns are those of the table's first map in the range.
 fn take_selected<'a, A: Allocator>(
     layouts: &mut Layouts<'a, A>,
     name: TableName<'a>,
     map: &TableMap<'a>,
     pos: u32,
-) -> Result<Layout<'a>, Fault>
-    requires { table_named name ≡ (map_names map.now).table }
-    ensures { (sel : Sel) (e : Fields) (earlier : List Placed) → kind_of e ≡ kind.TableMap → names_of e.body ≡ Some (map_names map.now) → is_selected sel e.body ≡ true → LayoutsAgree sel earlier layouts.old → AreSelectedColumns sel earlier (record { pos = pos; event = e }) result layouts.new }
+) -> Result<SelectedTable<'a>, Fault>
+    requires name { table_named name ≡ (map_names map.now).table }
+    requires few { index_map_len layouts.old < 2 ^ 32 }
+    ensures columns { (sel : Sel) (e : Fields) (earlier : List Placed) → kind_of e ≡ kind.TableMap → names_of e.body ≡ Some (map_names map.now) → is_selected sel e.body ≡ true → LayoutsAgree sel earlier layouts.old → AreSelectedColumns sel earlier (record { pos = pos; event = e }) result layouts.new }
+    ensures number { IfOk result (λ table. slice_get (tables_known layouts.new) table.number ≡ Some (table_named name.entry)) }
+    ensures grown { OnOk result (HaveGrown (tables_known layouts.old) (tables_known layouts.new)) }
+    ensures few { OnOk result (index_map_len layouts.new ≤ index_map_len layouts.old + 1) }
 {
     let layout = match map.layout() {
         Ok(layout) => layout,
         Err(fault) => return Err(body_fault(fault, pos)),
     };
-    match layouts.get(&name) {
-        Some(first) if !first.same(&layout) => Err(Fault::MapClash { pos }),
-        Some(_) => Ok(layout),
+    match layouts.get_full(&name) {
+        Some((_, _, first)) if !first.same(&layout) => Err(Fault::MapClash { pos }),
+        Some((number, _, _)) => Ok(SelectedTable {
+            number: number as u32,
+            layout,
+        }),
         None => {
+            let number = layouts.len() as u32;
             let Ok(_) = layouts.insert(name, layout) else {
                 return Err(Fault::OutOfMemory);
             };
-            Ok(layout)
+            Ok(SelectedTable { number, layout })
         }
     }
 }
 
-/// Takes the columns of a table map, where its table is selected.
-pub(crate) fn take_layout<'a, A: Allocator>(
+/// Takes a table map's table, where it is selected.
+pub(crate) fn take_table<'a, A: Allocator>(
     layouts: &mut Layouts<'a, A>,
     sel: &Selection<'_>,
     name: TableName<'a>,
     map: &TableMap<'a>,
     pos: u32,
-) -> Result<Option<Layout<'a>>, Fault>
-    requires { table_named name ≡ (map_names map.now).table }
-    ensures { (e : Fields) (earlier : List Placed) → kind_of e ≡ kind.TableMap → names_of e.body ≡ Some (map_names map.now) → LayoutsAgree (selection_of sel.now) earlier layouts.old → AreColumns (selection_of sel.now) earlier (record { pos = pos; event = e }) result layouts.new }
+) -> Result<Option<SelectedTable<'a>>, Fault>
+    requires name { table_named name ≡ (map_names map.now).table }
+    requires few { index_map_len layouts.old < 2 ^ 32 }
+    ensures columns { (e : Fields) (earlier : List Placed) → kind_of e ≡ kind.TableMap → names_of e.body ≡ Some (map_names map.now) → LayoutsAgree (selection_of sel.now) earlier layouts.old → AreColumns (selection_of sel.now) earlier (record { pos = pos; event = e }) result layouts.new }
+    ensures number { IfOk result (λ table. IfSome table (λ t. slice_get (tables_known layouts.new) t.number ≡ Some (table_named name.entry))) }
+    ensures grown { OnOk result (HaveGrown (tables_known layouts.old) (tables_known layouts.new)) }
+    ensures few { OnOk result (index_map_len layouts.new ≤ index_map_len layouts.old + 1) }
 {
     if !is_selected(sel, &name) {
         return Ok(None);
     }
-    let layout = take_selected(layouts, name, map, pos)?;
-    Ok(Some(layout))
+    let table = take_selected(layouts, name, map, pos)?;
+    Ok(Some(table))
 }

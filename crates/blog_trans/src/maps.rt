@@ -1,21 +1,18 @@
 //! The table maps of the open statement.
 
-use crate::table_name::TableName;
-use blog_row::Layout;
+use crate::layouts::SelectedTable;
 use indexmap::IndexMap;
 use std::hash::{BuildHasherDefault, FoldHasher};
 
 /// A table map of the open statement, the first of its table id.
 #[derive(Clone, Copy, Debug)]
 pub(crate) struct MapSeen<'a> {
-    /// Where its event begins, in bytes from the file's start.
-    pub(crate) at: u32,
     /// The event's body.
     pub(crate) body: &'a [u8],
-    /// The table.
-    pub(crate) name: TableName<'a>,
-    /// The columns, where the table is selected.
-    pub(crate) layout: Option<Layout<'a>>,
+    /// The table, where it is selected.
+    pub(crate) table: Option<SelectedTable<'a>>,
+    /// Where its event begins, in bytes from the file's start.
+    pub(crate) at: u32,
     /// Whether a rows event of a selected table goes by it.
     pub(crate) used: bool,
 }

@@ -1,15 +1,14 @@
 //! What the groups take of an event.
 
-use crate::table_name::TableName;
 use blog_row::RowsKind;
 
 /// A rows event of a selected table.
 #[derive(Clone, Copy, Debug)]
-pub(crate) struct KeptRows<'a> {
+pub(crate) struct KeptRows {
     /// Where its table map begins, in bytes from the file's start.
     pub(crate) map: u32,
-    /// The table.
-    pub(crate) name: TableName<'a>,
+    /// The number of its table.
+    pub(crate) table: u32,
     /// What is done to the rows.
     pub(crate) kind: RowsKind,
     /// How many images it has.
@@ -18,7 +17,7 @@ pub(crate) struct KeptRows<'a> {
 
 /// What an event is to the groups.
 #[derive(Clone, Copy, Debug)]
-pub(crate) enum Taken<'a> {
+pub(crate) enum Taken {
     /// Nothing.
     Nothing,
     /// The `BEGIN` of a transaction.
@@ -28,7 +27,7 @@ pub(crate) enum Taken<'a> {
     /// A rows event.
     Rows {
         /// The event, where its table is selected.
-        kept: Option<KeptRows<'a>>,
+        kept: Option<KeptRows>,
         /// Whether it is the last of its statement.
         last: bool,
     },

@@ -13,7 +13,7 @@ use std::alloc::Allocator;
 pub(crate) struct Walker<'a, A: Allocator> {
     pub(crate) judge: Judge<'a, A>,
     pub(crate) keeper: Keeper<A>,
-    pub(crate) counts: Counts<'a, A>,
+    pub(crate) counts: Counts<A>,
 }
 
 impl<'a, A: Allocator + Copy> Walker<'a, A> {
@@ -29,7 +29,7 @@ impl<'a, A: Allocator + Copy> Walker<'a, A> {
     ghost use Rattle.blog_trans.specs.Groups.{PlacedRows};
     ghost use Rattle.blog_trans.specs.Changes.{table_of};
     ghost use Rattle.blog_trans.specs.Progress.{Open, Progress, with_rows};
-    ghost use Rattle.blog_trans.specs.TableNameView.{table_named};
+    ghost use Rattle.blog_trans.specs.TablesView.{tables_known, table_at};
     ghost use Rattle.blog_trans.specs.StatementMaps.{used_maps};
     ghost use Rattle.blog_row.specs.declared.kind.RowsKind.{RowsKind};
     ghost use Rattle.blog_trans.specs.declared.taken.Taken.TheVariants as taken;
@@ -55,10 +55,10 @@ impl<'a, A: Allocator + Copy> Walker<'a, A> {
     }
 
     /// Keeps a rows event that begins at `at`.
-    fn keep(&mut self, at: u32, kept: &KeptRows<'a>) -> Result<(), Fault>
+    fn keep(&mut self, at: u32, kept: &KeptRows) -> Result<(), Fault>
         requires few { AreFew 4294967295 self.old.counts }
         requires images { kept.now.images ≤ 4294967295 }
-        ensures kept { (k : Progress) (o : Open) (r : PlacedRows) → r.event.pos ≡ at → IsKept (Some kept.now) (Some r) → k.current ≡ Some o
+        ensures kept { (k : Progress) (o : Open) (r : PlacedRows) → r.event.pos ≡ at → IsKept (tables_known self.old.judge.layouts) (Some kept.now) (Some r) → k.current ≡ Some o
             → Keeps k self.old → OnOk result (Keeps (record { done = k.done; current = Some (with_rows (Some r) o) }) self.new) }
         ensures judge { self.new.judge ≡ self.old.judge }
         ensures few { vec_len self.new.keeper.entries ≤ vec_len self.old.keeper.entries + 1 }
@@ -74,10 +74,11 @@ impl<'a, A: Allocator + Copy> Walker<'a, A> {
     fn close(&mut self) -> Result<(), Fault>
         requires { vec_len self.old.keeper.entries + index_map_len self.old.judge.maps < 2 ^ 32 }
         ensures kept { (k : Progress) (o : Open) (ms : List Placed) → map (λ m. m.at) (used_maps (values self.old.judge.maps)) ≡ map (λ m. m.pos) ms
-            → map (λ m. table_named m.name) (used_maps (values self.old.judge.maps)) ≡ map (λ m. table_of m.event.body) ms
+            → map (table_at (tables_known self.old.judge.layouts)) (used_maps (values self.old.judge.maps)) ≡ map (λ m. Some (table_of m.event.body)) ms
             → (o.rows ≡ [] → ms ≡ []) → k.current ≡ Some o → Keeps k self.old
             → OnOk result (Keeps (record { done = k.done; current = Some (closed_by ms o) }) self.new) }
         ensures judge { (sel : Sel) (statement earlier : List Placed) → Knows sel statement earlier self.old.judge → OnOk result (Knows sel [] earlier self.new.judge) }
+        ensures layouts { OnOk result (self.new.judge.layouts ≡ self.old.judge.layouts) }
         ensures few { OnOk result (vec_len self.new.keeper.entries + index_map_len self.new.judge.maps ≤ vec_len self.old.keeper.entries + index_map_len self.old.judge.maps) }
         ensures numbers { (n : ℕ) → AreFew n self.old.counts → OnOk result (AreFew n self.new.counts) }
         ensures refused { IfErr result (λ fault. fault ≡ OutOfMemory) }
@@ -89,14 +90,14 @@ impl<'a, A: Allocator + Copy> Walker<'a, A> {
     }
 
     /// Keeps a rows event that begins at `at`, if its table is selected.
-    fn keep_if(&mut self, at: u32, kept: Option<KeptRows<'a>>) -> Result<(), Fault>
+    fn keep_if(&mut self, at: u32, kept: Option<KeptRows>) -> Result<(), Fault>
         requires few { AreFew 4294967295 self.old.counts }
         requires images { IfSome kept (λ rows. rows.images ≤ 4294967295) }
-        ensures kept { (k : Progress) (o : Open) (x : Option PlacedRows) → ((r : PlacedRows) → x ≡ Some r → r.event.pos ≡ at) → IsKept kept.entry x → k.current ≡ Some o
+        ensures kept { (k : Progress) (o : Open) (x : Option PlacedRows) → ((r : PlacedRows) → x ≡ Some r → r.event.pos ≡ at) → IsKept (tables_known self.old.judge.layouts) kept x → k.current ≡ Some o
             → Keeps k self.old → OnOk result (Keeps (record { done = k.done; current = Some (with_rows x o) }) self.new) }
         ensures judge { self.new.judge ≡ self.old.judge }
         ensures few { vec_len self.new.keeper.entries ≤ vec_len self.old.keeper.entries + 1 }
-        ensures numbers { (n : ℕ) → AreFew n self.old.counts → OnOk result (AreFew (n + images_of kept.entry) self.new.counts) }
+        ensures numbers { (n : ℕ) → AreFew n self.old.counts → OnOk result (AreFew (n + images_of kept) self.new.counts) }
         ensures refused { IfErr result (λ fault. fault ≡ OutOfMemory) }
     {
         match &kept {
@@ -106,14 +107,15 @@ impl<'a, A: Allocator + Copy> Walker<'a, A> {
     }
 
     /// A rows event that begins at `at`, which is kept if its table is selected, and may be the last of its statement.
-    fn take_rows(&mut self, at: u32, kept: Option<KeptRows<'a>>, last: bool) -> Result<(), Fault>
+    fn take_rows(&mut self, at: u32, kept: Option<KeptRows>, last: bool) -> Result<(), Fault>
         requires few { AreFew 4294967295 self.old.counts }
         requires images { IfSome kept (λ rows. rows.images ≤ 4294967295) }
         requires room { vec_len self.old.keeper.entries + index_map_len self.old.judge.maps + 1 < 2 ^ 32 }
-        ensures walks { (sel : Sel) (earlier : List Placed) (p : Placed) → p.pos ≡ at → IsTaken sel earlier p (taken.Rows kept.entry last) → HavePassed sel (p ∷ earlier)
+        ensures walks { (sel : Sel) (earlier : List Placed) (p : Placed) → p.pos ≡ at → IsTaken (tables_known self.old.judge.layouts) sel earlier p (taken.Rows kept last) → HavePassed sel (p ∷ earlier)
             → Knows sel (p ∷ since earlier) (p ∷ earlier) self.old.judge → Keeps (progress sel earlier) self.old → OnOk result (Walks sel (p ∷ earlier) self.new) }
+        ensures layouts { OnOk result (self.new.judge.layouts ≡ self.old.judge.layouts) }
         ensures few { OnOk result (vec_len self.new.keeper.entries + index_map_len self.new.judge.maps ≤ vec_len self.old.keeper.entries + index_map_len self.old.judge.maps + 1) }
-        ensures numbers { (n : ℕ) → AreFew n self.old.counts → OnOk result (AreFew (n + images_of kept.entry) self.new.counts) }
+        ensures numbers { (n : ℕ) → AreFew n self.old.counts → OnOk result (AreFew (n + images_of kept) self.new.counts) }
         ensures refused { IfErr result (λ fault. fault ≡ OutOfMemory) }
     {
         self.keep_if(at, kept)?;

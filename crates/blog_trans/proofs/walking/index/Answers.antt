@@ -1,9 +1,12 @@
-use Rattle.std.proofs.Common.{◌≡◌, ◌∙◌, ap, sym, subst, inr, Some}
+use Rattle.std.proofs.Common.{◌∙◌, sym, subst, inr}
 use Rattle.blog_event.specs.LogView.{log_bytes}
 use Rattle.blog_event.proofs.Opened.{log-opened}
 use Rattle.blog_trans.specs.Selection.{selection_of}
 use Rattle.blog_trans.specs.Entries.{Shows}
 use Rattle.blog_trans.specs.Progress.{Progress}
+use Rattle.blog_trans.specs.Groups.{placed_groups}
+use Rattle.blog_trans.specs.PlacedChanges.{placed_changes, placed_tables}
+use Rattle.blog_trans.specs.TablesView.{tables_known}
 use Rattle.blog_trans.specs.CountsView.{AreCounts}
 use Rattle.blog_trans.specs.WalkerView.{progress_changes, progress_tables}
 use Rattle.blog_trans.proofs.IndexCode.{walk-refused, end-refused, last-is, progress-is}
@@ -53,4 +56,6 @@ new-requires-clause-counted g c =
     let accepted = end-refused bytes sel (log-opened c.args.log.now) through.0
     ∙ last-is bytes sel c.end.result c.in-Ok.at c.place.result c.end.ensures.len through.1 (c.place.ensures ∙ through.2.judge.place_is)
     ∙ sym c.end_fault.ensures ∙ c.in_default.is in
-    subst (λ (k : Progress). AreCounts (progress_changes k) (progress_tables k) c.walk.new.walker.counts) (progress-is bytes sel accepted through.2.passed) through.2.keeps.counts
+    let known = tables_known c.walk.new.walker.judge.layouts in
+    subst (λ layouts. AreCounts (tables_known layouts) (placed_changes (placed_groups bytes sel)) (placed_tables (placed_groups bytes sel)) c.walk.new.walker.counts) (sym c.into_layouts.ensures)
+    (subst (λ (k : Progress). AreCounts known (progress_changes k) (progress_tables k) c.walk.new.walker.counts) (progress-is bytes sel accepted through.2.passed) through.2.keeps.counts)

@@ -1,13 +1,12 @@
-use Rattle.std.proofs.Common.{◌≡◌, ◌∙◌, ◌∷◌, ◌&&◌, ◌==◌, not, List, None, true, false, ◌+◌, ◌<◌, ◌≤◌, ℕ, ap, sym, subst, length, refl, arith, inl, inr, Some, drop, option_map}
-use Rattle.blog_event.specs.Event.{Event, event_of, event_at, event_size}
+use Rattle.std.proofs.Common.{◌≡◌, ◌∙◌, ◌∷◌, ◌&&◌, ◌==◌, not, None, true, false, ◌+◌, ℕ, ap, sym, subst, length, arith, inl, inr, Some, drop, option_map}
+use Rattle.blog_event.specs.Event.{event_of, event_at, event_size}
 use Rattle.blog_event.specs.File.{Placed, is_below}
 use Rattle.blog_event.specs.LogView.{log_bytes}
 use Rattle.blog_event.proofs.Opened.{log-reads}
 use Rattle.blog_trans.specs.Selection.{selection_of}
 use Rattle.blog_trans.specs.Acceptance.{is_start_inside, range, read_fault}
 use Rattle.blog_trans.specs.Refusals.{IsRefusal}
-use Rattle.blog_trans.specs.WalkerView.{Walks, IsWithin, placed}
-use Rattle.blog_trans.specs.WalkView.{walk_fault}
+use Rattle.blog_trans.specs.WalkerView.{Walks, placed}
 use Rattle.blog_trans.proofs.WalkCode.{within-more, below-the-end, at-the-end, none-at-end, left-start, inside-format, left-on, left-refused, left-cut, left-over}
 use Rattle.blog_trans.proofs.walking.walk.Goals as goal
 

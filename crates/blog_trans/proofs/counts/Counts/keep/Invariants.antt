@@ -1,14 +1,14 @@
-use Rattle.std.proofs.Common.{◌≡◌, ◌++◌, List, [], map}
+use Rattle.std.proofs.Common.{◌≡◌, ◌++◌, ℕ, List, Some, map}
 use Rattle.blog_row.specs.TableMap.{Table}
-use Rattle.blog_trans.specs.Changes.{first_tables}
-use Rattle.blog_trans.specs.TableNameView.{table_named}
+use Rattle.blog_trans.specs.Changes.{Change}
+use Rattle.blog_trans.specs.TablesView.{table_at}
 use Rattle.blog_trans.specs.StatementMaps.{used_maps}
+use Rattle.blog_trans.specs.CountsView.{AreCounts, AreFew}
 use Rattle.blog_trans.proofs.counts.Counts.keep.Given as goal
 
--- the tables of the maps so far are taken, and no number has changed
+-- the tables of the maps so far are taken
 abbrev pub invariant-loop-map : goal.invariant-loop-map
 invariant-loop-map g l = record {
-  rows : l.self.rows ≡ l.fn.self.rows;
-  tables : (ts : List Table) → map table_named l.fn.self.tables.keys ≡ first_tables [] ts
-      → map table_named l.self.tables.keys ≡ first_tables [] (ts ++ map (λ m. table_named m.name) (used_maps (map (λ m. m.now) l.yielded)));
+  counts : (tables : List Table) (cs : List Change) (ts us : List Table) → map (table_at tables) (used_maps (map (λ m. m.now) l.yielded)) ≡ map Some us → AreCounts tables cs ts l.fn.self → AreCounts tables cs (ts ++ us) l.self;
+  few : (n : ℕ) → AreFew n l.fn.self → AreFew n l.self;
 }

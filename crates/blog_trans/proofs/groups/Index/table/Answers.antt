@@ -1,19 +1,29 @@
-use Rattle.std.proofs.Common.{Some, length, ap, arith}
-use Rattle.std.proofs.lemmas.List.{length-map}
+use Rattle.std.proofs.Common.{◌≡◌, Some, None, sym, ap, ◌∙◌, arith}
+use Rattle.std.proofs.lemmas.Option.{none-some, same_Some}
 use Rattle.blog_trans.specs.IndexView.{index_bytes, index_groups, index_selection}
 use Rattle.blog_trans.specs.PlacedChanges.{placed_changes, placed_tables}
 use Rattle.blog_trans.specs.TableNameView.{table_named}
+use Rattle.blog_trans.specs.TablesView.{tables_known}
 use Rattle.blog_trans.specs.CountsView.{counted}
-use Rattle.blog_trans.proofs.IndexTables.{many_same, counts_same}
+use Rattle.blog_trans.proofs.IndexTables.{many_same, counts_same, many_firsts, named_at}
 use Rattle.blog_trans.proofs.groups.Index.table.Goals as goal
 
-pub table-requires : goal.table-requires
-table-requires g c =
+pub table-number-requires : goal.table-number-requires
+table-number-requires g c =
     let x = c.args.self.now in
-    omega (arith, ap length x.tallied.tables, length-map x.counts.tables.keys table_named, many_same (index_bytes x) (index_selection x))
+    omega (arith, x.counts.tables.ok.0, many_firsts (tables_known x.layouts) x.counts.tables.items (placed_tables (index_groups x)) x.tallied.firsts, many_same (index_bytes x) (index_selection x))
+
+pub unreachable-requires : goal.unreachable-requires
+unreachable-requires g c =
+    let x = c.args.self.now in
+    let told = c.table-number.ensures (tables_known x.layouts) (placed_changes (index_groups x)) (placed_tables (index_groups x)) x.tallied in
+    none-some told.0 (sym (named_at x.layouts c.table-number.result.0 None (sym c.in_default.ensures.entry)) ∙ told.1)
 
 pub returns : goal.returns
 returns g c =
     let x = c.args.self.now in
-    counts_same (index_bytes x) (index_selection x) c.args.n (counted (table_named c.table.result.0) (Some c.table.result.1))
-    (c.table.ensures (placed_changes (index_groups x)) (placed_tables (index_groups x)) x.tallied)
+    let told = c.table-number.ensures (tables_known x.layouts) (placed_changes (index_groups x)) (placed_tables (index_groups x)) x.tallied in
+    let name = table_named c.in-Some.name.now in
+    let named : name ≡ told.0 = same_Some name told.0 (sym (named_at x.layouts c.table-number.result.0 (Some (c.in-Some.name.now, c.in-Some.field-0-1.now)) (sym c.in-Some.ensures.entry)) ∙ told.1) in
+    counts_same (index_bytes x) (index_selection x) c.args.n (counted name (Some c.table-number.result.1))
+    (told.2 ∙ ap (λ t. Some (counted t (Some c.table-number.result.1))) (sym named))

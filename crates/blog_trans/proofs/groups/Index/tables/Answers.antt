@@ -1,4 +1,5 @@
 use Rattle.std.proofs.Common.{◌∙◌}
+use Rattle.blog_trans.specs.TablesView.{tables_known}
 use Rattle.blog_trans.specs.IndexView.{index_bytes, index_groups, index_selection}
 use Rattle.blog_trans.specs.PlacedChanges.{placed_changes, placed_tables}
 use Rattle.blog_trans.proofs.IndexTables.{many_same}
@@ -7,4 +8,4 @@ use Rattle.blog_trans.proofs.groups.Index.tables.Goals as goal
 pub returns : goal.returns
 returns g c =
     let x = c.args.self.now in
-    c.len.ensures (placed_changes (index_groups x)) (placed_tables (index_groups x)) x.tallied ∙ many_same (index_bytes x) (index_selection x)
+    c.len.ensures (tables_known x.layouts) (placed_changes (index_groups x)) (placed_tables (index_groups x)) x.tallied ∙ many_same (index_bytes x) (index_selection x)

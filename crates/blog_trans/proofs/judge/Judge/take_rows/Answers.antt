@@ -9,10 +9,11 @@ use Rattle.blog_event.specs.Fault.{fault_at}
 use Rattle.blog_event.specs.File.{Placed}
 use Rattle.blog_row.specs.RowsEvent.{table_id}
 use Rattle.blog_trans.specs.declared.maps.MapSeen.{MapSeen}
+use Rattle.blog_trans.specs.TablesView.{tables_known, IsNumbered}
 use Rattle.blog_trans.specs.Acceptance.{rows_check, event_fault}
 use Rattle.blog_trans.specs.Places.{is_inside, map_in, place, since}
 use Rattle.blog_trans.proofs.JudgingMaps.{body-id, held-none}
-use Rattle.blog_trans.proofs.JudgingRows.{long-id, map-held, alone, rows-passed, rows-failed, head-long, rows-fault, knows-rows}
+use Rattle.blog_trans.proofs.JudgingRows.{value-all, long-id, map-held, alone, rows-passed, rows-failed, head-long, rows-fault, knows-rows}
 use Rattle.blog_trans.proofs.judge.Judge.take_rows.Goals as goal
 
 pub returns-in_default-clause-judged : goal.returns-in_default-clause-judged
@@ -57,10 +58,12 @@ returns-clause-judged g c = λ sel earlier h.
     let v : MapSeen = c.in-Some.map.now in
     let found : get nat_eq c.args.self.now.maps c.table_id.result ≡ Some v = sym c.in-Some.ensures.value in
     let held = map-held sel (since earlier) (table_id e.body) c.table_id.result v c.args.self.now.maps.entries id number h.passed h.maps_are found in
-    let passed = rows-passed sel (since earlier) p c.args.kind v held.0 c.in_ok-kept.kept c.requires held.1 c.in_ok-kept.ensures.unselected c.in_ok-kept.ensures.read in
+    let tables = tables_known c.args.self.now.layouts in
+    let numbered = value-all (IsNumbered tables) (nat_eq c.table_id.result) c.args.self.now.maps.entries v h.numbered found in
+    let passed = rows-passed tables sel (since earlier) p c.args.kind v held.0 c.in_ok-kept.kept c.requires numbered held.1 c.in_ok-kept.ensures.unselected c.in_ok-kept.ensures.read in
     let check = rows-fault sel p earlier c.args.kind c.requires inside long ∙ alone (rows_check sel c.args.kind e.body (map_in (reverse (since earlier)) (table_id e.body))) in
     let w : MapSeen = record v { used = c.is_some-map.result } in
-    let w_is : w ≡ record v { used = is_some v.layout } = ap (λ (u : Bool). record v { used = u }) (c.is_some-map.ensures ∙ c.in_ok-kept.ensures.selected) in (
+    let w_is : w ≡ record v { used = is_some v.table } = ap (λ (u : Bool). record v { used = u }) (c.is_some-map.ensures ∙ c.in_ok-kept.ensures.selected) in (
       check ∙ passed.0,
       (c.args.kind, c.requires, sym (c.ends.ensures.body e.body (sym c.in-Ok.ensures)), passed.1),
       knows-rows sel p earlier c.args.self.now _ c.args.kind c.table_id.result v w held.0 c.requires id number held.1 c.get_mut.ensures.unique found w_is refl refl (c.get_mut.follows.holds w).0 refl h,

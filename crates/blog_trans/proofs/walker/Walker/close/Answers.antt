@@ -1,16 +1,23 @@
-use Rattle.std.proofs.Common.{◌≡◌, ◌++◌, ◌∙◌, ap, subst, map}
+use Rattle.std.proofs.Common.{◌∙◌, sym, ap, subst, map, Some}
 use Rattle.indexmap.specs.IndexMap.{values}
-use Rattle.blog_trans.specs.TableNameView.{table_named}
+use Rattle.blog_trans.specs.Changes.{table_of}
+use Rattle.blog_trans.specs.TablesView.{tables_known, table_at}
 use Rattle.blog_trans.specs.StatementMaps.{used_maps}
+use Rattle.blog_trans.specs.Progress.{Progress}
+use Rattle.blog_trans.specs.KeeperView.{closed_by}
 use Rattle.blog_trans.specs.CountsView.{AreCounts}
 use Rattle.blog_trans.specs.WalkerView.{progress_changes, progress_tables}
-use Rattle.blog_trans.proofs.WalkerCode.{closed-counts}
+use Rattle.blog_trans.proofs.WalkerCode.{closed-counts, some-mapped}
 use Rattle.blog_trans.proofs.walker.Walker.close.Goals as goal
 
 pub returns-clause-kept : goal.returns-clause-kept
-returns-clause-kept g c = λ k o ms ats tables none current keeps. record {
-  keeper = c.in_ok-close.ensures.kept k o ms (ap (λ maps. map (λ m. m.at) (used_maps (values maps))) c.maps.ensures ∙ ats) current keeps.keeper;
-  counts = closed-counts c.keep.new.self k o ms none current
-      (subst (λ ts. AreCounts (progress_changes k) (progress_tables k ++ ts) c.keep.new.self) (ap (λ maps. map (λ m. table_named m.name) (used_maps (values maps))) c.maps-2.ensures ∙ tables)
-      (c.in_ok-keep.ensures.counts (progress_changes k) (progress_tables k) keeps.counts));
-}
+returns-clause-kept g c = λ k o ms ats tables none current keeps.
+    let known = tables_known c.args.self.now.judge.layouts in
+    let after : Progress = record { done = k.done; current = Some (closed_by ms o) } in
+    record {
+      keeper = c.in_ok-close.ensures.kept k o ms (ap (λ maps. map (λ m. m.at) (used_maps (values maps))) c.maps.ensures ∙ ats) current keeps.keeper;
+      counts = subst (λ layouts. AreCounts (tables_known layouts) (progress_changes after) (progress_tables after) c.keep.new.self) (sym c.close-2.ensures.layouts)
+          (closed-counts known c.keep.new.self k o ms none current
+          (c.in_ok-keep.ensures.counts known (progress_changes k) (progress_tables k) (map (λ m. table_of m.event.body) ms)
+          (ap (λ maps. map (table_at known) (used_maps (values maps))) c.maps-2.ensures ∙ tables ∙ some-mapped (λ m. table_of m.event.body) ms) keeps.counts));
+    }

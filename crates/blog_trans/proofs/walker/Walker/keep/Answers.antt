@@ -1,12 +1,15 @@
-use Rattle.std.proofs.Common.{◌≡◌, sym}
+use Rattle.std.proofs.Common.{sym}
+use Rattle.blog_trans.specs.TablesView.{tables_known}
 use Rattle.blog_trans.specs.Groups.{rows_value}
 use Rattle.blog_trans.specs.WalkerView.{progress_changes, progress_tables}
 use Rattle.blog_trans.proofs.WalkerCode.{kept-counts}
 use Rattle.blog_trans.proofs.walker.Walker.keep.Goals as goal
 
 pub returns-clause-kept : goal.returns-clause-kept
-returns-clause-kept g c = λ k o r at kept current keeps. record {
-  keeper = c.in_ok-rows.ensures.kept k o r at (sym kept.0) current keeps.keeper;
-  counts = kept-counts c.count.new.self k o r current
-      (c.in_ok-count.ensures.counts (progress_changes k) (progress_tables k) (rows_value r) keeps.counts (sym kept.2) (sym kept.1) (sym kept.3));
-}
+returns-clause-kept g c = λ k o r at kept current keeps.
+    let known = tables_known c.args.self.now.judge.layouts in
+    record {
+      keeper = c.in_ok-rows.ensures.kept k o r at (sym kept.0) current keeps.keeper;
+      counts = kept-counts known c.count.new.self k o r current
+          (c.in_ok-count.ensures.counts known (progress_changes k) (progress_tables k) (rows_value r) keeps.counts (sym kept.2) kept.1 (sym kept.3));
+    }

@@ -1,4 +1,7 @@
-use Rattle.std.proofs.Common.{◌≡◌, arith}
+use Rattle.std.proofs.Common.{List, [], map, length, sym, ap, subst, arith}
+use Rattle.blog_row.specs.TableMap.{Table}
+use Rattle.blog_trans.specs.TableNameView.{table_named}
+use Rattle.blog_trans.specs.CountsView.{AreCounts}
 use Rattle.blog_trans.proofs.WalkerCode.{no-length}
 use Rattle.blog_trans.proofs.walker.Walker.new.Goals as goal
 
@@ -6,8 +9,15 @@ pub returns-clause-walks : goal.returns-clause-walks
 returns-clause-walks g c = λ sel. record {
   passed = tt;
   judge = c.new.ensures.known sel;
-  keeps = record { keeper = record { shows = c.new-2.ensures.shows; marked = c.new-2.ensures.marked }; counts = c.new-3.ensures.counts };
+  keeps = record {
+    keeper = record { shows = c.new-2.ensures.shows; marked = c.new-2.ensures.marked };
+    counts = subst (λ (tables : List Table). AreCounts tables [] [] c.new-3.result) (sym (ap (λ entries. map table_named (map (λ e. e.0) entries)) c.new.ensures.layouts)) c.new-3.ensures.counts;
+  };
 }
 
 pub returns-clause-within : goal.returns-clause-within
-returns-clause-within g c = record { entries = omega (arith, c.new.ensures.empty, no-length (λ e. e.at) c.new-2.result.entries.items c.new-2.ensures.shows.ats); numbers = c.new-3.ensures.few }
+returns-clause-within g c = record {
+  entries = omega (arith, c.new.ensures.empty, no-length (λ e. e.at) c.new-2.result.entries.items c.new-2.ensures.shows.ats);
+  tables = omega (arith, ap length c.new.ensures.layouts);
+  numbers = c.new-3.ensures.few;
+}

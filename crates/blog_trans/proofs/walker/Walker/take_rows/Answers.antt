@@ -1,4 +1,4 @@
-use Rattle.std.proofs.Common.{◌≡◌, ◌∙◌, ◌∷◌, ap, sym, subst, refl, reverse, filter, Some, arith}
+use Rattle.std.proofs.Common.{◌∙◌, ◌∷◌, ap, sym, subst, refl, reverse, filter, Some}
 use Rattle.blog_event.specs.File.{Placed}
 use Rattle.blog_trans.specs.Places.{since}
 use Rattle.blog_trans.specs.Groups.{kept_rows}

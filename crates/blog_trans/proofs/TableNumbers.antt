@@ -1,0 +1,91 @@
+-- The numbers of the selected tables: their places among the tables whose layouts are known.
+use Rattle.std.proofs.Common.{◌≡◌, ℕ, false, ◌||◌, List, [], ◌∷◌, ◌++◌, map, length, slice_get, Option, Some, None, option_map, is_some, refl, sym, ap, ◌∙◌, inl, inr}
+use Rattle.std.specs.Prelude.{IfSome, option_and_then}
+use Rattle.std.specs.List.{list_any, AllByRecursion}
+use Rattle.std.specs.Map.{keys_of}
+use Rattle.std.proofs.lemmas.Bool.{false≢true}
+use Rattle.std.proofs.lemmas.List.{map-append, length-map}
+use Rattle.std.proofs.lemmas.Option.{slice_get-map}
+use Rattle.std.proofs.lemmas.Map.Made.{is_some-lookup, lookup_key_passes}
+use Rattle.indexmap.specs.IndexMap.{IndexMap, get, get_key, keys, index_map_len, insert_entry}
+use Rattle.indexmap.proofs.CallerLemmas.{insert_entry-new}
+use Rattle.blog_row.specs.declared.layout.Layout.{Layout}
+use Rattle.blog_row.specs.TableMap.{Table, Names, names_of}
+use Rattle.blog_trans.specs.declared.layouts.SelectedTable.{SelectedTable}
+use Rattle.blog_trans.specs.declared.maps.MapSeen.{MapSeen}
+use Rattle.blog_trans.specs.declared.table_name.TableName.{TableName}
+use Rattle.blog_trans.specs.Acceptance.{is_same_table}
+use Rattle.blog_trans.specs.Changes.{table_of}
+use Rattle.blog_trans.specs.JudgeView.{is_same_name}
+use Rattle.blog_trans.specs.TableNameView.{table_named}
+use Rattle.blog_trans.specs.TablesView.{tables_known, HaveGrown, IsNumbered}
+use Rattle.blog_trans.proofs.Growing.{front-place}
+use Rattle.blog_trans.proofs.Tables.{same-table}
+
+-- ---- the number of a name
+
+-- an entry that was found by its name stands at its table's number
+pub known-number : {S : Type 0} (layouts : IndexMap TableName Layout S) (name : TableName) (n : ℕ) (key : TableName) (layout : Layout) → get_key is_same_name layouts name ≡ Some key
+    → slice_get layouts.entries n ≡ Some (key, layout) → slice_get (tables_known layouts) n ≡ Some (table_named name)
+known-number layouts name n key layout found entry =
+    slice_get-map table_named (keys layouts) n
+    ∙ ap (option_map table_named) (slice_get-map (λ (e : TableName × Layout). e.0) layouts.entries n ∙ ap (option_map (λ (e : TableName × Layout). e.0)) entry)
+    ∙ ap Some (sym (same-table (table_named name) (table_named key) (lookup_key_passes (is_same_name name) layouts.entries key found)))
+
+-- the last of a list
+get-last : (ts : List Table) (t : Table) → slice_get (ts ++ t ∷ []) (length ts) ≡ Some t
+get-last [] t = refl
+get-last (u ∷ ts) t = get-last ts t
+
+-- a new table has the next number
+pub new-number : {S : Type 0} (layouts : IndexMap TableName Layout S) (t : Table) → slice_get (tables_known layouts ++ t ∷ []) (index_map_len layouts) ≡ Some t
+new-number layouts t =
+    ap (slice_get (tables_known layouts ++ t ∷ [])) (sym (length-map (keys layouts) table_named ∙ length-map layouts.entries (λ (e : TableName × Layout). e.0))) ∙ get-last (tables_known layouts) t
+
+any-named : (names : List TableName) (name : TableName) → list_any (is_same_table (table_named name)) (map table_named names) ≡ list_any (is_same_name name) names
+any-named [] name = refl
+any-named (n ∷ names) name = ap (λ b. is_same_name name n || b) (any-named names name)
+
+-- and stands behind the others, of which it is none
+pub tables-more : {S : Type 0} (layouts after : IndexMap TableName Layout S) (name : TableName) (layout : Layout) → get is_same_name layouts name ≡ None
+    → after.entries ≡ insert_entry is_same_name layouts.entries name layout
+    → (tables_known after ≡ tables_known layouts ++ table_named name ∷ []) × (list_any (is_same_table (table_named name)) (tables_known layouts) ≡ false)
+tables-more layouts after name layout none entries = (
+  ap (λ es. map table_named (keys_of es)) (entries ∙ insert_entry-new is_same_name layouts name layout none)
+      ∙ ap (map table_named) (map-append (λ (e : TableName × Layout). e.0) layouts.entries ((name, layout) ∷ []))
+      ∙ map-append table_named (keys layouts) (name ∷ []),
+  any-named (keys layouts) name ∙ sym (is_some-lookup (is_same_name name) layouts.entries) ∙ ap is_some none,
+)
+
+-- ---- one more table
+
+-- a table keeps its number
+get-grown : (before after : List Table) (n : ℕ) (t : Table) → HaveGrown before after → slice_get before n ≡ Some t → slice_get after n ≡ Some t
+get-grown before after n t (inl same) found = ap (λ ts. slice_get ts n) same ∙ found
+get-grown before after n t (inr more) found = ap (λ ts. slice_get ts n) more.1 ∙ front-place before more.0 t n found
+
+one-grown : (before after : List Table) (m : MapSeen) → HaveGrown before after → IsNumbered before m → IsNumbered after m
+one-grown before after m grown is = record { number = by m.table is.number; selected = is.selected }
+  where
+    by : (o : Option SelectedTable) → option_and_then (λ (t : SelectedTable). slice_get before t.number) o ≡ option_map (λ (t : SelectedTable). table_of m.body.now) o
+        → option_and_then (λ (t : SelectedTable). slice_get after t.number) o ≡ option_map (λ (t : SelectedTable). table_of m.body.now) o
+    by None number = refl
+    by (Some t) number = get-grown before after t.number (table_of m.body.now) grown number
+
+pub numbered-grown : (before after : List Table) (ms : List MapSeen) → HaveGrown before after → AllByRecursion (IsNumbered before) ms → AllByRecursion (IsNumbered after) ms
+numbered-grown before after [] grown all = tt
+numbered-grown before after (m ∷ ms) grown all = (one-grown before after m grown all.0, numbered-grown before after ms grown all.1)
+
+-- ---- the map of a selected table
+
+-- a new map has its table's number, and isn't used yet
+pub new-numbered : (tables : List Table) (v : MapSeen) (n : Names) → names_of v.body.now ≡ Some n → IfSome v.table (λ t. slice_get tables t.number ≡ Some n.table) → v.used ≡ false → IsNumbered tables v
+new-numbered tables v n names number unused = record { number = by v.table number; selected = λ used. absurd (false≢true (sym unused ∙ used)) }
+  where
+    table_is : n.table ≡ table_of v.body.now
+    table_is = rw names refl
+
+    by : (o : Option SelectedTable) → IfSome o (λ t. slice_get tables t.number ≡ Some n.table)
+        → option_and_then (λ (t : SelectedTable). slice_get tables t.number) o ≡ option_map (λ (t : SelectedTable). table_of v.body.now) o
+    by None number = refl
+    by (Some t) number = number ∙ ap Some table_is
