@@ -14,8 +14,9 @@ import sys
 
 from measure import Best, run
 
-CASES = ["maps", "shuffled_maps", "tables", "transactions", "statements"]
-SIZES = [(10_000, 40_000, 160_000), (10_000, 40_000, 160_000), (25_000, 100_000, 400_000), (250_000, 1_000_000, 4_000_000), (250_000, 1_000_000, 4_000_000)]
+MAPS, TABLES, MANY = (10_000, 40_000, 160_000), (25_000, 100_000, 400_000), (250_000, 1_000_000, 4_000_000)
+CASES = {"maps": MAPS, "tables": TABLES, "transactions": MANY, "statements": MANY,
+         "shuffled_maps": MAPS, "small_maps": MAPS, "small_tables": TABLES}
 # each index gets its memory anew from the system, as in a run of flashback, however large it is
 FRESH_MEMORY = "glibc.malloc.mmap_threshold=131072"
 TIME = re.compile(r"(\w+): (\d+) ns by the clock, (\d+) ns on the processor")
@@ -105,7 +106,7 @@ def print_index(program, settings):
 def print_growth(program, settings):
     print("\nGrowth of the index, milliseconds by the clock and on the processor:\n\n"
           "| Case | n | at n | at 4n | times | at n, on the processor | at 4n | times |\n|---|---|---|---|---|---|---|---|")
-    for case, sizes in zip(CASES, SIZES):
+    for case, sizes in CASES.items():
         seconds = [Measured(program, "index", case, size, settings).seconds["indexing"] for size in sizes]
         for size, less, more in zip(sizes, seconds, seconds[1:]):
             cells = " | ".join(f"{a * 1e3:,.1f} | {b * 1e3:,.1f} | {b / a:.2f}" for a, b in zip(less, more))

@@ -12,11 +12,16 @@ LAYERS=${LAYERS:-bin/bench_layers} RUNS=${RUNS:-3} TIMES=${TIMES:-5} LIMIT=${LIM
 mkdir -p "$OUT"
 [ -x "$LAYERS" ] || { echo "layers.sh: $LAYERS isn't there, so it isn't measured; make $LAYERS builds it" >&2; exit 0; }
 
-set -- small_events 100 large_events 100 columns_10 100 columns_512 100 columns_4096 100 mixed 1000 \
-    maps 10000 maps 40000 maps 160000 shuffled_maps 10000 shuffled_maps 40000 shuffled_maps 160000 \
-    tables 25000 tables 100000 tables 400000 \
-    transactions 250000 transactions 1000000 transactions 4000000 \
-    statements 250000 statements 1000000 statements 4000000
+set -- small_events 100 large_events 100 columns_10 100 columns_512 100 columns_4096 100 mixed 1000
+for case in maps shuffled_maps small_maps; do
+    set -- "$@" $case 10000 $case 40000 $case 160000
+done
+for case in tables small_tables; do
+    set -- "$@" $case 25000 $case 100000 $case 400000
+done
+for case in transactions statements; do
+    set -- "$@" $case 250000 $case 1000000 $case 4000000
+done
 while [ $# -gt 0 ]; do
     make_log "$1" "$2"
     shift 2

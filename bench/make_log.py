@@ -208,14 +208,16 @@ def many_statements(source, part, size, count=0):
         put_statement(part, source, tables[number % 8], [WRITE, UPDATE, DELETE][number % 3], 1)
 
 
-def small_tables(count):
-    columns = [LONG, NULL_LONG]
+TWO = [LONG, NULL_LONG]
+
+
+def small_tables(count, columns):
     return [Table(1000 + i, b"many", b"table_%06d" % i, columns) for i in range(count)]
 
 
-def rows_for(size, count, source):
+def rows_for(size, count, source, columns):
     """Images for each of count rows events, which are to have size bytes together, but none more than a server's."""
-    images, table = [], Table(0, b"", b"", [LONG, NULL_LONG])
+    images, table = [], Table(0, b"", b"", columns)
     held = min(size // count - 31, EVENT_SIZE)
     while held > 0 or not images:
         images.append(table.image(source))
@@ -223,14 +225,14 @@ def rows_for(size, count, source):
     return images
 
 
-def many_maps(source, part, size, count=40_000, shuffled=True):
+def many_maps(source, part, size, count=40_000, columns=TWO, shuffled=True):
     """One statement of 40,000 table maps, and then rows events that use them all, shuffled or in the order of the maps."""
-    tables = small_tables(count)
+    tables = small_tables(count, columns)
     part.query(b"many", b"BEGIN")
     for table in tables:
         part.map(table)
     left = max(size - len(part.bytes), 1)
-    images = rows_for(left, count, source)
+    images = rows_for(left, count, source, columns)
     while left > 0:
         if shuffled:
             source.shuffle(tables)
@@ -242,10 +244,10 @@ def many_maps(source, part, size, count=40_000, shuffled=True):
     part.xid(1)
 
 
-def many_tables(source, part, size, count=100_000):
+def many_tables(source, part, size, count=100_000, columns=TWO):
     """Transactions of one statement, each of the next of 100,000 tables."""
-    tables = small_tables(count)
-    images = rows_for(size - count * 147, count, source)
+    tables = small_tables(count, columns)
+    images = rows_for(size - count * 147, count, source, columns)
     while len(part.bytes) < max(size, 1):
         for number, table in enumerate(tables):
             part.query(b"many", b"BEGIN")
@@ -281,7 +283,9 @@ REPEATED = {"mixed": mixed, "one_row": one_row, "wide": wide, "many_statements":
 WHOLE = {"many_maps": many_maps, "many_tables": many_tables}
 # these take a number of maps, tables, transactions or statements
 COUNTED_REPEATED = {"transactions": one_row, "statements": many_statements}
-COUNTED_WHOLE = {"maps": partial(many_maps, shuffled=False), "shuffled_maps": many_maps, "tables": many_tables}
+COUNTED_WHOLE = {"maps": partial(many_maps, columns=TEN, shuffled=False), "shuffled_maps": partial(many_maps, columns=TEN),
+                 "tables": partial(many_tables, columns=TEN),
+                 "small_maps": partial(many_maps, shuffled=False), "small_tables": many_tables}
 SHAPES = REPEATED | WHOLE | COUNTED_REPEATED | COUNTED_WHOLE
 ONE_TRANSACTION = ("many_statements", "statements")  # of all copies
 
