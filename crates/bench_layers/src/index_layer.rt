@@ -9,7 +9,7 @@ use std::rt::Runtime;
 use std::time::CpuClock;
 
 /// Bytes to go over between two rounds: more than the caches of a processor hold.
-const COLD: usize = 128 << 20;
+const COLD: usize = 1 << 30;
 
 /// What an index has.
 #[derive(Drop, PartialEq)]

@@ -1,19 +1,14 @@
 -- The numbers by table of an index are those of its groups.
-use Rattle.std.proofs.Common.{◌≡◌, ℕ, List, [], ◌∷◌, ◌++◌, map, length, Option, Some, None, option_map, refl, sym, ap, ◌∙◌}
+use Rattle.std.proofs.Common.{◌≡◌, ℕ, List, [], ◌∷◌, ◌++◌, map, length, Some, option_map, refl, sym, ap, ◌∙◌}
 use Rattle.std.specs.List.{flat_map, slice_get}
 use Rattle.std.proofs.lemmas.List.{append-nil, length-map}
 use Rattle.std.proofs.lemmas.List.Folds.{flat_map-map}
 use Rattle.std.proofs.lemmas.Option.{slice_get-map}
 use Rattle.blog_event.specs.File.{Placed}
-use Rattle.indexmap.specs.IndexMap.{IndexMap, keys}
-use Rattle.blog_row.specs.declared.layout.Layout.{Layout}
 use Rattle.blog_row.specs.TableMap.{Table}
-use Rattle.blog_trans.specs.declared.table_name.TableName.{TableName}
 use Rattle.blog_trans.specs.Selection.{Selection}
 use Rattle.blog_trans.specs.Groups.{PlacedStatement, PlacedTransaction, Transaction, placed_groups, groups, event_value, rows_value, statement_value, transaction_value}
 use Rattle.blog_trans.specs.Changes.{Change, TableCount, table_of, changes_of_rows, changes_of_statement, changes_of, count_of, first_tables, tables_of, counts_of}
-use Rattle.blog_trans.specs.TableNameView.{table_named}
-use Rattle.blog_trans.specs.TablesView.{tables_known}
 use Rattle.blog_trans.specs.WalkerView.{statements_changes, statements_tables}
 use Rattle.blog_trans.specs.PlacedChanges.{placed_changes, placed_tables}
 
@@ -81,15 +76,3 @@ counts_same bytes sel n c told =
 -- how many tables the maps of the groups have
 pub many_firsts : (tables : List Table) (numbers : List ℕ) (ts : List Table) → map (λ n. slice_get tables n) numbers ≡ map Some (first_tables [] ts) → length numbers ≡ length (first_tables [] ts)
 many_firsts tables numbers ts are = sym (length-map numbers (λ n. slice_get tables n)) ∙ ap length are ∙ length-map (first_tables [] ts) Some
-
--- what stands at a number among the selected tables
-pub named_at : {S : Type 0} (layouts : IndexMap TableName Layout S) (n : ℕ) (e : Option (TableName × Layout)) → slice_get layouts.entries n ≡ e
-    → slice_get (tables_known layouts) n ≡ option_map (λ x. table_named x.0) e
-named_at layouts n e at =
-    slice_get-map table_named (keys layouts) n
-    ∙ ap (option_map table_named) (slice_get-map (λ (x : TableName × Layout). x.0) layouts.entries n ∙ ap (option_map (λ (x : TableName × Layout). x.0)) at)
-    ∙ named e
-  where
-    named : (o : Option (TableName × Layout)) → option_map table_named (option_map (λ x. x.0) o) ≡ option_map (λ x. table_named x.0) o
-    named (Some x) = refl
-    named None = refl

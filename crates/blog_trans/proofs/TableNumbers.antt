@@ -24,12 +24,23 @@ use Rattle.blog_trans.proofs.Tables.{same-table}
 
 -- ---- the number of a name
 
+-- what stands at a number among the selected tables
+pub named_at : {S : Type 0} (layouts : IndexMap TableName Layout S) (n : ℕ) (e : Option (TableName × Layout)) → slice_get layouts.entries n ≡ e
+    → slice_get (tables_known layouts) n ≡ option_map (λ x. table_named x.0) e
+named_at layouts n e at =
+    slice_get-map table_named (keys layouts) n
+    ∙ ap (option_map table_named) (slice_get-map (λ (x : TableName × Layout). x.0) layouts.entries n ∙ ap (option_map (λ (x : TableName × Layout). x.0)) at)
+    ∙ named e
+  where
+    named : (o : Option (TableName × Layout)) → option_map table_named (option_map (λ x. x.0) o) ≡ option_map (λ x. table_named x.0) o
+    named (Some x) = refl
+    named None = refl
+
 -- an entry that was found by its name stands at its table's number
 pub known-number : {S : Type 0} (layouts : IndexMap TableName Layout S) (name : TableName) (n : ℕ) (key : TableName) (layout : Layout) → get_key is_same_name layouts name ≡ Some key
     → slice_get layouts.entries n ≡ Some (key, layout) → slice_get (tables_known layouts) n ≡ Some (table_named name)
 known-number layouts name n key layout found entry =
-    slice_get-map table_named (keys layouts) n
-    ∙ ap (option_map table_named) (slice_get-map (λ (e : TableName × Layout). e.0) layouts.entries n ∙ ap (option_map (λ (e : TableName × Layout). e.0)) entry)
+    named_at layouts n (Some (key, layout)) entry
     ∙ ap Some (sym (same-table (table_named name) (table_named key) (lookup_key_passes (is_same_name name) layouts.entries key found)))
 
 -- the last of a list

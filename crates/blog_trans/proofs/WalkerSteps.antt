@@ -12,7 +12,6 @@ use Rattle.blog_row.specs.TableMap.{Table}
 use Rattle.blog_trans.specs.declared.judge.Judge.{Judge}
 use Rattle.blog_trans.specs.declared.kind.EventKind.{EventKind}
 use Rattle.blog_trans.specs.declared.kind.EventKind.TheVariants as kind
-use Rattle.blog_trans.specs.declared.taken.KeptRows.{KeptRows}
 use Rattle.blog_trans.specs.declared.walker.Walker.{Walker}
 use Rattle.blog_trans.specs.Selection.{Selection}
 use Rattle.blog_trans.specs.Kinds.{is_begin_kind, is_end_kind, rows_of_kind}
@@ -23,7 +22,7 @@ use Rattle.blog_trans.specs.Changes.{table_of}
 use Rattle.blog_trans.specs.Progress.{Open, Progress, appended_if, with_rows, closed, ended, ended_if, rows_taken, advance_by, progress}
 use Rattle.blog_trans.specs.StatementMaps.{first_of_ids, used_maps, is_used}
 use Rattle.blog_trans.specs.TablesView.{tables_known, HaveGrown, table_at, IsNumbered}
-use Rattle.blog_trans.specs.TakenView.{IsKept, is_other_kind, statement_with}
+use Rattle.blog_trans.specs.TakenView.{is_other_kind, statement_with}
 use Rattle.blog_trans.specs.Passing.{HavePassed}
 use Rattle.blog_trans.specs.JudgeView.{Knows}
 use Rattle.blog_trans.specs.KeeperView.{statement_behind, closed_by}
@@ -105,15 +104,6 @@ begin-outside sel earlier p is fault = at (step-of sel earlier p fault)
 -- a statement with a rows event
 pub with-rows-event : (earlier : List Placed) (p : Placed) (k : RowsKind) → kind_at p ≡ kind.Rows k → statement_with p earlier ≡ p ∷ since earlier
 with-rows-event earlier p k is = ap (λ j. if is_begin_kind j then [] else p ∷ since earlier) is
-
--- a rows event that is kept
-pub kept-there : (tables : List Table) (k : KeptRows) (x : Option PlacedRows) → IsKept tables (Some k) x → (r : PlacedRows) × (x ≡ Some r) × IsKept tables (Some k) (Some r)
-kept-there tables k (Some r) kept = (r, refl, kept)
-kept-there tables k None kept = absurd kept
-
-pub kept-none : (tables : List Table) (x : Option PlacedRows) → IsKept tables None x → x ≡ None
-kept-none tables None kept = refl
-kept-none tables (Some r) kept = absurd kept
 
 -- ---- what one more event makes of the progress
 

@@ -1,4 +1,5 @@
 pub mod Selection
+pub mod TableIdHash
 pub mod Kinds
 pub mod Places
 pub mod Acceptance

@@ -31,6 +31,7 @@ use blog_event::{Event, Fault};
 use blog_row::{RowsEvent, RowsHead, RowsKind, TableMap};
 use indexmap::IndexMap;
 use std::alloc::Allocator;
+use std::hash::BuildHasherDefault;
 
 /// The size of an Xid event's body in bytes.
 const XID_LEN: usize = 8;
@@ -88,7 +89,7 @@ impl<'a, A: Allocator + Copy> Judge<'a, A> {
         Judge {
             place: Place::Outside,
             has_rows: false,
-            maps: IndexMap::new(alloc),
+            maps: IndexMap::with_hasher(alloc, BuildHasherDefault::new()),
             layouts: IndexMap::new(alloc),
         }
     }

@@ -12,6 +12,7 @@ mod layouts;
 mod maps;
 mod place;
 mod selection;
+mod table_ids;
 mod table_name;
 mod taken;
 mod walker;

@@ -1,8 +1,9 @@
 //! The table maps of the open statement.
 
 use crate::layouts::SelectedTable;
+use crate::table_ids::TableIdHasher;
 use indexmap::IndexMap;
-use std::hash::{BuildHasherDefault, FoldHasher};
+use std::hash::BuildHasherDefault;
 
 /// A table map of the open statement, the first of its table id.
 #[derive(Clone, Copy, Debug)]
@@ -18,4 +19,4 @@ pub(crate) struct MapSeen<'a> {
 }
 
 /// The table maps of the open statement by their table ids, in the order of the log.
-pub(crate) type Maps<'a, A> = IndexMap<u64, MapSeen<'a>, BuildHasherDefault<FoldHasher>, A>;
+pub(crate) type Maps<'a, A> = IndexMap<u64, MapSeen<'a>, BuildHasherDefault<TableIdHasher>, A>;

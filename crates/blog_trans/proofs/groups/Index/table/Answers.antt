@@ -5,7 +5,8 @@ use Rattle.blog_trans.specs.PlacedChanges.{placed_changes, placed_tables}
 use Rattle.blog_trans.specs.TableNameView.{table_named}
 use Rattle.blog_trans.specs.TablesView.{tables_known}
 use Rattle.blog_trans.specs.CountsView.{counted}
-use Rattle.blog_trans.proofs.IndexTables.{many_same, counts_same, many_firsts, named_at}
+use Rattle.blog_trans.proofs.IndexTables.{many_same, counts_same, many_firsts}
+use Rattle.blog_trans.proofs.TableNumbers.{named_at}
 use Rattle.blog_trans.proofs.groups.Index.table.Goals as goal
 
 pub table-number-requires : goal.table-number-requires
