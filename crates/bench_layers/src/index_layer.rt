@@ -30,8 +30,8 @@ fn numbers_of<A: Allocator>(index: &Index<'_, '_, A>) -> Indexed {
     }
 }
 
-/// Changes other bytes, so that the caches of the processor have nothing of the log. A run of `flashback` has one index
-/// alone, and doesn't find the log in them either.
+/// Changes other bytes, so that the caches of the processor have nothing of the log, be it large or small. A run of
+/// `flashback` has read the log just before, and finds in them what fits.
 fn cool(bytes: &mut [u8]) {
     for byte in bytes.iter_mut() {
         *byte = !*byte;

@@ -75,22 +75,21 @@ like a b (Ok c) h =
     ap (λ (t : List ℕ). bytes_eq t (types_of c) && bytes_eq (metadata_of b) (metadata_of c)) (sym types)
     ∙ ap (λ (t : List ℕ). bytes_eq (types_of a) (types_of c) && bytes_eq t (metadata_of c)) (sym metadata)
 
--- a map of the same table, whose layout is the known one or becomes it
+-- a map of the same table, whose layout is the same as the known one, or is the first
 has-other : (f l : told.Layout) (body : List ℕ) (o : Option told.Layout) (any : Bool) → any ≡ has_other_layout o body → (o ≡ Some f) ⊎ (o ≡ None)
-    → is_same_layout (layout_columns f) (layout_columns l) ≡ true → (not (have_same_layout (Ok (layout_columns l)) (layout_of body)) || any) ≡ has_other_layout (Some f) body
+    → is_same_layout (layout_columns f) (layout_columns l) ≡ true → (not (have_same_layout (Ok (layout_columns l)) (layout_of body)) || any) ≡ has_other_layout (Some l) body
 has-other f l body o any any_is (inl known) same =
-    let is : any ≡ has_other_layout (Some f) body = any_is ∙ ap (λ (p : Option told.Layout). has_other_layout p body) known in
-    ap (λ (b : Bool). not (have_same_layout (Ok (layout_columns l)) (layout_of body)) || b) is
-    ∙ twice _ _ (ap not (like (layout_columns f) (layout_columns l) (layout_of body) same))
+    let is : any ≡ not (have_same_layout (Ok (layout_columns l)) (layout_of body)) =
+    any_is ∙ ap (λ (p : Option told.Layout). has_other_layout p body) known ∙ ap not (sym (like (layout_columns f) (layout_columns l) (layout_of body) same)) in
+    ap (λ (b : Bool). not (have_same_layout (Ok (layout_columns l)) (layout_of body)) || b) is ∙ twice _ _ refl
 has-other f l body o any any_is (inr unknown) same =
     let is : any ≡ false = any_is ∙ ap (λ (p : Option told.Layout). has_other_layout p body) unknown in
-    ap (λ (b : Bool). not (have_same_layout (Ok (layout_columns l)) (layout_of body)) || b) is
-    ∙ or-false _ ∙ ap not (like (layout_columns f) (layout_columns l) (layout_of body) same)
+    ap (λ (b : Bool). not (have_same_layout (Ok (layout_columns l)) (layout_of body)) || b) is ∙ or-false _
 
--- what is known after a map: of its table the layout that was known, or its own; of another what was
+-- what is known after a map: of its table its own layout, with the columns that were known if any were; of another what was
 pub record TakesLayout {S : Type 0} (name : TableName) (f l : told.Layout) (layouts after : IndexMap TableName told.Layout S) : Type 0 where
   pub same : is_same_layout (layout_columns f) (layout_columns l) ≡ true
-  pub here : (q : TableName) → is_same_name name q ≡ true → ((get is_same_name layouts q ≡ Some f) ⊎ (get is_same_name layouts q ≡ None)) × (get is_same_name after q ≡ Some f)
+  pub here : (q : TableName) → is_same_name name q ≡ true → ((get is_same_name layouts q ≡ Some f) ⊎ (get is_same_name layouts q ≡ None)) × (get is_same_name after q ≡ Some l)
   pub others : (q : TableName) → is_same_name name q ≡ false → get is_same_name after q ≡ get is_same_name layouts q
 
 clash-is : (m q : Placed) (n o : Names) (l : told.Layout) (b : Bool) → is_map m ≡ true → names_of m.event.body ≡ Some n → names_of q.event.body ≡ Some o → layout_of m.event.body ≡ Ok (layout_columns l)
@@ -131,17 +130,20 @@ get-same layouts name q h =
     ap (λ (s : List ℕ). lookup (λ (k : TableName). bytes_eq s k.schema.now && bytes_eq q.table.now k.table.now) layouts.entries) (sym schema)
     ∙ ap (λ (s : List ℕ). lookup (λ (k : TableName). bytes_eq name.schema.now k.schema.now && bytes_eq s k.table.now) layouts.entries) (sym table)
 
-pub takes-known : {S : Type 0} (layouts : IndexMap TableName told.Layout S) (name : TableName) (f l : told.Layout) → get is_same_name layouts name ≡ Some f
-    → is_same_layout (layout_columns f) (layout_columns l) ≡ true → TakesLayout name f l layouts layouts
-takes-known layouts name f l known same = record {
-  same = same;
-  here = λ q e. let is = get-same layouts name q e ∙ known in (inl is, is);
-  others = λ q e. refl;
-}
-
 same-itself : (a : Layout) → is_same_layout a a ≡ true
 same-itself a = rw ((bytes_eq-Decides (types_of a) (types_of a)).1 refl, (bytes_eq-Decides (metadata_of a) (metadata_of a)).1 refl) refl
 
+-- a map is inserted whose table's layout is known
+pub takes-known : {S : Type 0} (layouts after : IndexMap TableName told.Layout S) (name : TableName) (f l : told.Layout) → get is_same_name layouts name ≡ Some f
+    → is_same_layout (layout_columns f) (layout_columns l) ≡ true → ((q : TableName) → get is_same_name after q ≡ (if is_same_name name q then Some l else get is_same_name layouts q))
+    → TakesLayout name f l layouts after
+takes-known layouts after name f l known same updates = record {
+  same = same;
+  here = λ q e. (inl (get-same layouts name q e ∙ known), updates q ∙ rw e refl);
+  others = λ q e. updates q ∙ rw e refl;
+}
+
+-- one is inserted whose table is new
 pub takes-new : {S : Type 0} (layouts after : IndexMap TableName told.Layout S) (name : TableName) (l : told.Layout) → get is_same_name layouts name ≡ None
     → ((q : TableName) → get is_same_name after q ≡ (if is_same_name name q then Some l else get is_same_name layouts q)) → TakesLayout name l l layouts after
 takes-new layouts after name l none updates = record {

@@ -1,14 +1,14 @@
 -- The numbers of the selected tables: their places among the tables whose layouts are known.
-use Rattle.std.proofs.Common.{◌≡◌, ℕ, false, ◌||◌, List, [], ◌∷◌, ◌++◌, map, length, slice_get, Option, Some, None, option_map, is_some, refl, sym, ap, ◌∙◌, inl, inr}
+use Rattle.std.proofs.Common.{◌≡◌, ℕ, Bool, true, false, ◌||◌, ◌+◌, suc, arith, List, [], ◌∷◌, ◌++◌, map, slice_get, Option, Some, None, option_map, is_some, refl, sym, ap, ◌∙◌, inl, inr}
 use Rattle.std.specs.Prelude.{IfSome, option_and_then}
-use Rattle.std.specs.List.{list_any, AllByRecursion}
+use Rattle.std.specs.List.{list_any, position_or_len, AllByRecursion}
 use Rattle.std.specs.Map.{keys_of}
 use Rattle.std.proofs.lemmas.Bool.{false≢true}
-use Rattle.std.proofs.lemmas.List.{map-append, length-map}
+use Rattle.std.proofs.lemmas.List.{map-append}
 use Rattle.std.proofs.lemmas.Option.{slice_get-map}
-use Rattle.std.proofs.lemmas.Map.Made.{is_some-lookup, lookup_key_passes}
-use Rattle.indexmap.specs.IndexMap.{IndexMap, get, get_key, keys, index_map_len, insert_entry}
-use Rattle.indexmap.proofs.CallerLemmas.{insert_entry-new}
+use Rattle.std.proofs.lemmas.Map.Made.{is_some-lookup}
+use Rattle.indexmap.specs.IndexMap.{IndexMap, get, keys, insert_entry, insert_index}
+use Rattle.indexmap.proofs.CallerLemmas.{insert_entry-new, keys-insert_entry-present}
 use Rattle.blog_row.specs.declared.layout.Layout.{Layout}
 use Rattle.blog_row.specs.TableMap.{Table, Names, names_of}
 use Rattle.blog_trans.specs.declared.layouts.SelectedTable.{SelectedTable}
@@ -36,22 +36,31 @@ named_at layouts n e at =
     named (Some x) = refl
     named None = refl
 
--- an entry that was found by its name stands at its table's number
-pub known-number : {S : Type 0} (layouts : IndexMap TableName Layout S) (name : TableName) (n : ℕ) (key : TableName) (layout : Layout) → get_key is_same_name layouts name ≡ Some key
-    → slice_get layouts.entries n ≡ Some (key, layout) → slice_get (tables_known layouts) n ≡ Some (table_named name)
-known-number layouts name n key layout found entry =
-    named_at layouts n (Some (key, layout)) entry
-    ∙ ap Some (sym (same-table (table_named name) (table_named key) (lookup_key_passes (is_same_name name) layouts.entries key found)))
+behind : (t : Table) (ts : List Table) (n : ℕ) → slice_get (t ∷ ts) (1 + n) ≡ slice_get ts n
+behind t ts n = let next : 1 + n ≡ suc n = omega arith in ap (slice_get (t ∷ ts)) next
 
--- the last of a list
-get-last : (ts : List Table) (t : Table) → slice_get (ts ++ t ∷ []) (length ts) ≡ Some t
-get-last [] t = refl
-get-last (u ∷ ts) t = get-last ts t
+placed : (es : List (TableName × Layout)) (name : TableName) (layout : Layout)
+    → slice_get (map table_named (keys_of (insert_entry is_same_name es name layout))) (position_or_len (is_same_name name) (keys_of es)) ≡ Some (table_named name)
+placed [] name layout = refl
+placed (e ∷ es) name layout = by (is_same_name name e.0) refl (placed es name layout)
+  where
+    by : (b : Bool) → is_same_name name e.0 ≡ b
+        → slice_get (map table_named (keys_of (insert_entry is_same_name es name layout))) (position_or_len (is_same_name name) (keys_of es)) ≡ Some (table_named name)
+        → slice_get (map table_named (keys_of (insert_entry is_same_name (e ∷ es) name layout))) (position_or_len (is_same_name name) (keys_of (e ∷ es))) ≡ Some (table_named name)
+    by true same rest = rw same (ap Some (sym (same-table (table_named name) (table_named e.0) same)))
+    by false other rest = rw other (behind (table_named e.0) (map table_named (keys_of (insert_entry is_same_name es name layout))) (position_or_len (is_same_name name) (keys_of es)) ∙ rest)
 
--- a new table has the next number
-pub new-number : {S : Type 0} (layouts : IndexMap TableName Layout S) (t : Table) → slice_get (tables_known layouts ++ t ∷ []) (index_map_len layouts) ≡ Some t
-new-number layouts t =
-    ap (slice_get (tables_known layouts ++ t ∷ [])) (sym (length-map (keys layouts) table_named ∙ length-map layouts.entries (λ (e : TableName × Layout). e.0))) ∙ get-last (tables_known layouts) t
+-- a name stands where it was inserted
+pub inserted-number : {S : Type 0} (layouts after : IndexMap TableName Layout S) (name : TableName) (layout : Layout) → after.entries ≡ insert_entry is_same_name layouts.entries name layout
+    → slice_get (tables_known after) (insert_index is_same_name layouts name) ≡ Some (table_named name)
+inserted-number layouts after name layout entries =
+    ap (λ es. slice_get (map table_named (keys_of es)) (insert_index is_same_name layouts name)) entries ∙ placed layouts.entries name layout
+
+-- the tables stay where it was there
+pub tables-stay : {S : Type 0} (layouts after : IndexMap TableName Layout S) (name : TableName) (layout known : Layout) → get is_same_name layouts name ≡ Some known
+    → after.entries ≡ insert_entry is_same_name layouts.entries name layout → tables_known after ≡ tables_known layouts
+tables-stay layouts after name layout known there entries =
+    ap (λ es. map table_named (keys_of es)) entries ∙ ap (map table_named) (keys-insert_entry-present is_same_name layouts name layout (ap is_some there))
 
 any-named : (names : List TableName) (name : TableName) → list_any (is_same_table (table_named name)) (map table_named names) ≡ list_any (is_same_name name) names
 any-named [] name = refl

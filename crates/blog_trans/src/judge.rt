@@ -44,7 +44,7 @@ pub(crate) struct Judge<'a, A: Allocator> {
     has_rows: bool,
     // The first table map of each table id in the open statement.
     maps: Maps<'a, A>,
-    // The first columns of each selected table in the range.
+    // The columns of each selected table in the range.
     pub(crate) layouts: Layouts<'a, A>,
 }
 

@@ -22,7 +22,8 @@ use indexmap::IndexMap;
 use std::alloc::Allocator;
 use std::hash::{BuildHasherDefault, FoldHasher};
 
-/// The first columns of each selected table, by its name. A table's number is its place among them.
+/// The columns of each selected table, by its name; all its maps in the range have the same. A table's number is its
+/// place among them, which are in the order of their first maps.
 pub(crate) type Layouts<'a, A> = IndexMap<
     TableName<'a>,
     Layout<'a>,
@@ -67,7 +68,7 @@ fn is_selected(sel: &Selection<'_>, name: &TableName<'_>) -> bool
     is_wanted(sel.database, name.schema) && is_wanted(sel.table, name.table)
 }
 
-/// Takes a selected table's map: its columns are those of the table's first map in the range.
+/// Takes a selected table's map: its columns are those of the table's earlier maps in the range.
 fn take_selected<'a, A: Allocator>(
     layouts: &mut Layouts<'a, A>,
     name: TableName<'a>,
@@ -85,19 +86,15 @@ fn take_selected<'a, A: Allocator>(
         Ok(layout) => layout,
         Err(fault) => return Err(body_fault(fault, pos)),
     };
-    match layouts.get_full(&name) {
-        Some((_, _, first)) if !first.same(&layout) => Err(Fault::MapClash { pos }),
-        Some((number, _, _)) => Ok(SelectedTable {
+    let Ok((number, known)) = layouts.insert_full(name, layout) else {
+        return Err(Fault::OutOfMemory);
+    };
+    match known {
+        Some(known) if !known.same(&layout) => Err(Fault::MapClash { pos }),
+        _ => Ok(SelectedTable {
             number: number as u32,
             layout,
         }),
-        None => {
-            let number = layouts.len() as u32;
-            let Ok(_) = layouts.insert(name, layout) else {
-                return Err(Fault::OutOfMemory);
-            };
-            Ok(SelectedTable { number, layout })
-        }
     }
 }
 

@@ -103,7 +103,7 @@ fn end_fault(end: u32, sel: &Selection<'_>, place: Place, at: u32) -> Option<Fau
 }
 
 /// Goes through a log once, and answers its groups under a selection. Nothing is copied from the log: the index has 16
-/// bytes for each event of the groups, and for each selected table where its names and first columns lie, and its
+/// bytes for each event of the groups, and for each selected table where its names and columns lie, and its
 /// numbers of rows. Fails with the first fault of the log, at its position; with `OutOfMemory` where a
 /// growth is refused, whatever later events would tell.
 pub fn index<'a, 's, A: Allocator + Copy>(
