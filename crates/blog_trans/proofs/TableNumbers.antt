@@ -36,9 +36,11 @@ named_at layouts n e at =
     named (Some x) = refl
     named None = refl
 
+-- what stands one place behind the first stands there without it
 behind : (t : Table) (ts : List Table) (n : ℕ) → slice_get (t ∷ ts) (1 + n) ≡ slice_get ts n
 behind t ts n = let next : 1 + n ≡ suc n = omega arith in ap (slice_get (t ∷ ts)) next
 
+-- in a list of entries a name that is inserted stands where it was found, or else at the end
 placed : (es : List (TableName × Layout)) (name : TableName) (layout : Layout)
     → slice_get (map table_named (keys_of (insert_entry is_same_name es name layout))) (position_or_len (is_same_name name) (keys_of es)) ≡ Some (table_named name)
 placed [] name layout = refl

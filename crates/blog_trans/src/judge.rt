@@ -90,7 +90,7 @@ impl<'a, A: Allocator + Copy> Judge<'a, A> {
             place: Place::Outside,
             has_rows: false,
             maps: IndexMap::with_hasher(alloc, BuildHasherDefault::new()),
-            layouts: IndexMap::new(alloc),
+            layouts: IndexMap::with_hasher(alloc, BuildHasherDefault::new()),
         }
     }
 

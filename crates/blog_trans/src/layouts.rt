@@ -15,19 +15,19 @@ ghost use Rattle.blog_trans.specs.TableNameView.{table_named};
 ghost use Rattle.blog_trans.specs.TablesView.{tables_known, HaveGrown};
 
 use crate::selection::Selection;
-use crate::table_name::TableName;
+use crate::table_name::{TableName, TableNameHasher};
 use blog_event::Fault;
 use blog_row::{Layout, RowFault, TableMap};
 use indexmap::IndexMap;
 use std::alloc::Allocator;
-use std::hash::{BuildHasherDefault, FoldHasher};
+use std::hash::BuildHasherDefault;
 
 /// The columns of each selected table, by its name; all its maps in the range have the same. A table's number is its
 /// place among them, which are in the order of their first maps.
 pub(crate) type Layouts<'a, A> = IndexMap<
     TableName<'a>,
     Layout<'a>,
-    BuildHasherDefault<FoldHasher>,
+    BuildHasherDefault<TableNameHasher>,
     A,
 >;
 
