@@ -27,12 +27,13 @@ impl Hash for TableName<'_> {
     }
 }
 
-/// How far a name's hash is behind that of a name whose last byte is one less. A hash table goes by the lowest bits to a
-/// group, which is the next one then, and by the upper eight of 32 to one of its names.
+/// How far a name's hash is behind that of a name whose last byte is one less. A hash table takes the exclusive or of a
+/// hash's halves, and goes by its lowest bits to a group and by its upper eight to one of the names there. So a step leads
+/// to another group close by, and to another tag.
 const STEP: u64 = 0x4D00_0001;
 
 /// A hasher of table names. Where tables are many, their names mostly end in numbers and come in order. Those that differ
-/// in the last digit alone are in groups one behind the other, and a processor loads such groups ahead.
+/// in the last digit alone are in groups that lie close together, and a processor loads such groups ahead.
 #[derive(Clone, Copy, Default)]
 pub(crate) struct TableNameHasher {
     // The parts of several bytes, or of none.
