@@ -1,9 +1,9 @@
 //! An allocator for tests, which refuses the request of one number.
 #![tactic(auto)]
 
-mod count;
+mod countdown;
 
-use count::counted;
+use countdown::Countdown;
 use std::alloc::{AllocError, Allocator};
 use std::cell::Cell;
 
@@ -13,12 +13,11 @@ mod tests;
 /// Passes requests on to another allocator, but refuses the request of one number.
 ///
 /// A request is a call that asks for a block: also one that makes a block larger or smaller, which is served by a new
-/// block and a copy. A collection holds a `&` to it.
+/// block and a copy. A collection takes a `&` to it for its allocator.
 #[derive(Drop)]
 pub struct Refusing<A: Allocator> {
     inner: A,
-    number: usize,
-    left: Cell<usize>,
+    countdown: Cell<Countdown>,
 }
 
 impl<A: Allocator> Refusing<A> {
@@ -26,21 +25,21 @@ impl<A: Allocator> Refusing<A> {
     pub fn new(inner: A, number: usize) -> Refusing<A> {
         Refusing {
             inner,
-            number,
-            left: Cell::new(number),
+            countdown: Cell::new(Countdown::new(number)),
         }
     }
 
-    /// Whether the request of that number came, and was refused.
+    /// Whether the request of that number has come, and was refused.
     pub fn has_refused(&self) -> bool {
-        self.number > 0 && self.left.get() == 0
+        self.countdown.get().is_over()
     }
 }
 
-/// Counts a request, and answers whether it is the one to refuse.
-fn is_refused(left: &Cell<usize>) -> bool {
-    let (after, refused) = counted(left.get());
-    left.set(after);
+/// Counts one more request, and answers whether it is the refused one.
+fn is_refused(countdown: &Cell<Countdown>) -> bool {
+    let mut requests = countdown.get();
+    let refused = requests.next();
+    countdown.set(requests);
     refused
 }
 
@@ -48,13 +47,14 @@ unsafe impl<A: Allocator> Allocator for Refusing<A> {
     ghost dealloc_token = { λ heap ty ptr. A.dealloc_token heap.inner ty ptr };
 
     fn allocate(&self, size: usize, align: usize) -> Result<*mut u8, AllocError> {
-        if is_refused(&self.left) {
-            return Err(AllocError);
+        if is_refused(&self.countdown) {
+            Err(AllocError)
+        } else {
+            self.inner.allocate(size, align)
         }
-        self.inner.allocate(size, align)
     }
 
     unsafe fn deallocate(&self, ptr: *mut u8, size: usize, align: usize) {
-        unsafe { self.inner.deallocate(ptr, size, align) }
+        self.inner.deallocate(ptr, size, align);
     }
 }
