@@ -1,15 +1,16 @@
 //! Going through the events of a log.
 
-ghost use Rattle.std.specs.Prelude.{◌≡◌, ◌+◌, ◌-◌, ◌/◌, length};
+ghost use Rattle.std.specs.Prelude.{◌≡◌, ◌≤◌, ◌+◌, ◌-◌, ◌/◌, length, IfSome};
 
 use crate::event::Event;
 use crate::fault::Fault;
 use crate::log::Log;
+use crate::reading::HEADER_LEN;
 
 /// The events of a log that follow each other from a byte position on, each with its start. If they end before the log
 /// does, or the position lies past the log's end, the last item is the fault `CutEvent` where the next event would begin.
 /// Nothing comes after the last item.
-#[derive(Clone, Debug, Drop)]
+#[derive(Debug, Drop)]
 pub struct Events<'a> {
     log: Log<'a>,
     // Where the next event begins; None after the last item.
@@ -37,8 +38,9 @@ impl<'a> Log<'a> {
 impl<'a> Iterator for Events<'a> {
     type Item = Result<Event<'a>, Fault>;
 
-    ghost use Rattle.std.specs.Iterator.{at_most};
-    ghost use Rattle.blog_event.specs.EventsView.{GivesItem, most_left};
+    ghost use Rattle.std.specs.Iterator.{UpTo, at_most};
+    ghost use Rattle.std.specs.Iterator.SizeHint.{IsWithinCount};
+    ghost use Rattle.blog_event.specs.EventsView.{GivesItem, items_left, most_left};
 
     ghost next_gives = { GivesItem };
 
@@ -55,5 +57,19 @@ impl<'a> Iterator for Events<'a> {
             self.at = Some(at + event.header.size);
         }
         Some(item)
+    }
+
+    /// How many items are left is known by going through them alone: at least none, and at most one for each 19 bytes and
+    /// one more.
+    fn size_hint(&self) -> (usize, Option<usize>)
+        ensures least { result.0 ≤ length (items_left self.now) }
+        ensures lower { IsWithinCount result.0 (at_most (most_left self.now)) }
+        ensures upper { IfSome result.1 (UpTo (at_most (most_left self.now))) }
+    {
+        let most = match self.at {
+            Some(at) => 1 + self.log.end().saturating_sub(at) as usize / HEADER_LEN,
+            None => 0,
+        };
+        (0, Some(most))
     }
 }

@@ -48,6 +48,7 @@ fn put_header<A: Allocator>(
     ensures len { OnOk result (vec_len out.new ≡ vec_len out.old + 19) }
     ensures left { OnOk result (vec_len out.new + body_len ≤ vec_capacity out.new) }
     ensures err { OnErr result (out.new.items ≡ out.old.items) }
+    ensures kept { OnErr result (vec_capacity out.new ≡ vec_capacity out.old) }
     ensures refused { IfErr result (λ fault. fault ≡ OutOfMemory) }
     ensures room { vec_len out.old + (19 + body_len) ≤ vec_capacity out.old → IsOk result }
     ensures capacity { vec_capacity out.old ≤ vec_capacity out.new }
@@ -80,7 +81,7 @@ fn put_parts<A: Allocator>(out: &mut Vec<u8, A>, parts: &[&[u8]])
 /// `header` are ignored.
 ///
 /// The new length is to be at most 4,294,967,295 bytes. Fails with `OutOfMemory` if `out` can't grow, and then keeps its
-/// bytes; never if its capacity has room for the event.
+/// bytes and its capacity; never if its capacity has room for the event.
 pub fn put_event<A: Allocator>(
     out: &mut Vec<u8, A>,
     header: Header,
@@ -90,6 +91,7 @@ pub fn put_event<A: Allocator>(
     ensures ok { OnOk result (out.new.items ≡ out.old.items ++ event_text (appended (vec_len out.old) header (joined parts.now))) }
     ensures len { OnOk result (vec_len out.new ≡ vec_len out.old + (19 + length (joined parts.now))) }
     ensures err { OnErr result (out.new.items ≡ out.old.items) }
+    ensures kept { OnErr result (vec_capacity out.new ≡ vec_capacity out.old) }
     ensures refused { IfErr result (λ fault. fault ≡ OutOfMemory) }
     ensures room { vec_len out.old + (19 + length (joined parts.now)) ≤ vec_capacity out.old → IsOk result }
     ensures capacity { vec_capacity out.old ≤ vec_capacity out.new }
@@ -102,7 +104,8 @@ pub fn put_event<A: Allocator>(
 /// Appends an event whose body is `body_len` zero bytes, to be written over. Returns the position at which the body
 /// begins. The rest is as for `put_event`: its size and `log_pos` are computed.
 ///
-/// Fails with `OutOfMemory` if `out` can't grow, and then keeps its bytes; never if its capacity has room for the event.
+/// Fails with `OutOfMemory` if `out` can't grow, and then keeps its bytes and its capacity; never if its capacity has room
+/// for the event.
 pub fn open_event<A: Allocator>(
     out: &mut Vec<u8, A>,
     header: Header,
@@ -113,6 +116,7 @@ pub fn open_event<A: Allocator>(
     ensures body { IfOk result (λ at. at ≡ vec_len out.old + 19) }
     ensures len { OnOk result (vec_len out.new ≡ vec_len out.old + (19 + body_len)) }
     ensures err { OnErr result (out.new.items ≡ out.old.items) }
+    ensures kept { OnErr result (vec_capacity out.new ≡ vec_capacity out.old) }
     ensures refused { IfErr result (λ fault. fault ≡ OutOfMemory) }
     ensures room { vec_len out.old + (19 + body_len) ≤ vec_capacity out.old → IsOk result }
     ensures capacity { vec_capacity out.old ≤ vec_capacity out.new }

@@ -59,6 +59,7 @@ fn reads_each_field_of_a_header(rt: HostRuntime) -> Result<(), Fail> {
 fn goes_from_event_to_event(rt: HostRuntime) -> Result<(), Fail> {
     let log = Log::open(&LOG)?;
     let mut events = log.events(120);
+    assert_eq!(rt; events.size_hint(), (0, Some(8)));
     for (pos, kind, size) in [(120, 2, 39), (159, 19, 37), (196, 30, 36), (232, 16, 27)] {
         let event = events.next().expect(&rt, "an event")?;
         assert_eq!(rt;
@@ -68,6 +69,7 @@ fn goes_from_event_to_event(rt: HostRuntime) -> Result<(), Fail> {
     }
     assert!(rt; events.next().is_none());
     assert!(rt; events.next().is_none());
+    assert_eq!(rt; events.size_hint(), (0, Some(0)));
     Ok(())
 }
 
