@@ -6,22 +6,26 @@ use crate::Watched;
 use std::io;
 use std::io::{Read, Write};
 
-/// What a device does at the call of its number, where calls count from 1.
-#[derive(Clone, Copy, Debug, PartialEq)]
+/// What a device does at the call of its number, where calls count from 1, and by which kind of error it fails.
+#[derive(Clone, Copy)]
 pub enum Failure {
     Never,
-    At(u64),
+    At(u64, io::ErrorKind),
     TakesNothingAt(u64),
-    AtFlush,
+    AtFlush(io::ErrorKind),
 }
+
+/// Kinds of error by which a call fails. Others would try some of these calls again.
+pub const KINDS: [io::ErrorKind; 5] = [
+    io::ErrorKind::Interrupted,
+    io::ErrorKind::WouldBlock,
+    io::ErrorKind::TimedOut,
+    io::ErrorKind::WriteZero,
+    io::ErrorKind::Other,
+];
 
 /// As many bytes as a call asks for.
 pub const ALL: usize = usize::MAX;
-
-/// A failed call, as one that a signal interrupted, which others would try again.
-fn interrupted() -> io::Error {
-    io::Error::from(io::ErrorKind::Interrupted)
-}
 
 /// Gives its bytes, at most `step` a call.
 #[derive(Drop)]
@@ -50,9 +54,12 @@ impl Read for SlowReader<'_> {
 
     fn read(&mut self, buf: &mut [u8]) -> io::Result<usize> {
         self.calls = self.calls.saturating_add(1);
-        if self.failure == Failure::At(self.calls) {
-            self.failed_calls = self.failed_calls.saturating_add(1);
-            return Err(interrupted());
+        match self.failure {
+            Failure::At(call, kind) if call == self.calls => {
+                self.failed_calls = self.failed_calls.saturating_add(1);
+                return Err(io::Error::from(kind));
+            }
+            _ => {}
         }
         let most = buf.len().min(self.step.max(1));
         self.bytes.read(&mut buf[..most])
@@ -86,11 +93,16 @@ impl Write for SlowWriter {
 
     fn write(&mut self, buf: &[u8]) -> io::Result<usize> {
         self.calls = self.calls.saturating_add(1);
-        let fails = self.failure == Failure::At(self.calls);
-        let takes_nothing = self.failure == Failure::TakesNothingAt(self.calls);
-        if fails || takes_nothing {
-            self.failed_calls = self.failed_calls.saturating_add(1);
-            return if fails { Err(interrupted()) } else { Ok(0) };
+        match self.failure {
+            Failure::At(call, kind) if call == self.calls => {
+                self.failed_calls = self.failed_calls.saturating_add(1);
+                return Err(io::Error::from(kind));
+            }
+            Failure::TakesNothingAt(call) if call == self.calls => {
+                self.failed_calls = self.failed_calls.saturating_add(1);
+                return Ok(0);
+            }
+            _ => {}
         }
         let most = buf.len().min(self.step);
         self.taken.extend_from_slice(&buf[..most])?;
@@ -99,10 +111,12 @@ impl Write for SlowWriter {
 
     fn flush(&mut self) -> io::Result<()> {
         self.calls = self.calls.saturating_add(1);
-        if self.failure == Failure::AtFlush {
-            self.failed_calls = self.failed_calls.saturating_add(1);
-            return Err(interrupted());
+        match self.failure {
+            Failure::AtFlush(kind) => {
+                self.failed_calls = self.failed_calls.saturating_add(1);
+                Err(io::Error::from(kind))
+            }
+            _ => Ok(()),
         }
-        Ok(())
     }
 }

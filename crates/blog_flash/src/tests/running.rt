@@ -1,6 +1,6 @@
 //! Runs over devices that move 1, 7 or all bytes a call, and that fail at each of their calls.
 
-use super::devices::{ALL, Failure, SlowReader, SlowWriter};
+use super::devices::{ALL, Failure, KINDS, SlowReader, SlowWriter};
 use super::logs::{INSERT_ONE_ROW, TWO_TRANSACTIONS, TWO_TRANSACTIONS_UNDONE, log_of};
 use crate::runs::read_up_to;
 use crate::{Fault, Mode, RunFault, Selection, Watched, prepare, put, run};
@@ -158,18 +158,25 @@ fn writes_the_output_from_short_reads_by_short_writes(rt: HostRuntime) -> Result
     Ok(())
 }
 
+// Fails a call of the reader by each kind of error.
+fn check_failed_read<R: AllocGlobal + Abort>(rt: &R, logs: &Logs, step: usize, number: u64) {
+    let wanted = Outcome {
+        answer: Err(RunFault::Read),
+        reads: number,
+        writes: 0,
+        taken: 0,
+    };
+    for kind in KINDS {
+        let reader = (step, Failure::At(number, kind));
+        check_run(rt, logs, reader, STEADY, &wanted);
+        check_prepare(rt, logs, reader, &wanted);
+    }
+}
+
 // Fails each call of the reader in turn.
 fn check_failed_reads<R: AllocGlobal + Abort>(rt: &R, logs: &Logs, step: usize, reads: u64) {
     for number in 1..=reads {
-        let reader = (step, Failure::At(number));
-        let wanted = Outcome {
-            answer: Err(RunFault::Read),
-            reads: number,
-            writes: 0,
-            taken: 0,
-        };
-        check_run(rt, logs, reader, STEADY, &wanted);
-        check_prepare(rt, logs, reader, &wanted);
+        check_failed_read(rt, logs, step, number);
     }
 }
 
@@ -186,7 +193,7 @@ fn a_failed_read_leaves_the_writer_alone(rt: HostRuntime) -> Result<(), Fail> {
 fn a_failure_behind_the_last_read_is_not_met(rt: HostRuntime) -> Result<(), Fail> {
     let logs = two_transactions(&rt)?;
     for (step, reads) in READERS {
-        let reader = (step, Failure::At(reads.saturating_add(1)));
+        let reader = (step, Failure::At(reads.saturating_add(1), KINDS[0]));
         let wanted = Outcome {
             answer: Ok(()),
             reads,
@@ -199,13 +206,26 @@ fn a_failure_behind_the_last_read_is_not_met(rt: HostRuntime) -> Result<(), Fail
     Ok(())
 }
 
-// Fails each write in turn: first by an error, then by taking nothing.
+// Fails a write by each kind of error, and then by taking nothing.
+fn check_failed_write<R: AllocGlobal + Abort>(
+    rt: &R,
+    logs: &Logs,
+    step: usize,
+    number: u64,
+    taken: usize,
+) {
+    let wanted = unwritten(number, taken);
+    for kind in KINDS {
+        check_writer(rt, logs, (step, Failure::At(number, kind)), &wanted);
+    }
+    check_writer(rt, logs, (step, Failure::TakesNothingAt(number)), &wanted);
+}
+
+// Fails each write in turn.
 fn check_failed_writes<R: AllocGlobal + Abort>(rt: &R, logs: &Logs, step: usize, writes: u64) {
     let mut taken = 0usize;
     for number in 1..=writes {
-        let wanted = unwritten(number, taken);
-        check_writer(rt, logs, (step, Failure::At(number)), &wanted);
-        check_writer(rt, logs, (step, Failure::TakesNothingAt(number)), &wanted);
+        check_failed_write(rt, logs, step, number, taken);
         taken = taken.saturating_add(step);
     }
 }
@@ -229,29 +249,61 @@ fn a_write_that_takes_nothing_ends_the_run(rt: HostRuntime) -> Result<(), Fail> 
     Ok(())
 }
 
+// Fails the flush by each kind of error.
+fn check_failed_flush<R: AllocGlobal + Abort>(rt: &R, logs: &Logs, step: usize, writes: u64) {
+    let wanted = unwritten(writes.saturating_add(1), 411);
+    for kind in KINDS {
+        check_writer(rt, logs, (step, Failure::AtFlush(kind)), &wanted);
+    }
+}
+
 #[test]
 fn a_failed_flush_comes_after_all_bytes(rt: HostRuntime) -> Result<(), Fail> {
     let logs = two_transactions(&rt)?;
     for (step, writes) in WRITERS {
-        let wanted = unwritten(writes.saturating_add(1), 411);
-        check_writer(&rt, &logs, (step, Failure::AtFlush), &wanted);
+        check_failed_flush(&rt, &logs, step, writes);
+    }
+    Ok(())
+}
+
+// Puts no bytes into a writer: it is called once.
+fn check_put_nothing<R: AllocGlobal + Abort>(
+    rt: &R,
+    failure: Failure,
+    wanted: Result<(), RunFault>,
+) {
+    let mut writer = SlowWriter::new(rt, ALL, failure);
+    assert_eq!(rt; put(&mut writer, b""), wanted);
+    assert_eq!(rt; writer.device().calls, 1);
+    assert!(rt; writer.device().taken.is_empty());
+    assert_eq!(rt; writer.failed(), wanted.is_err());
+    check_mark(rt, writer.failed(), writer.device().failed_calls);
+}
+
+#[test]
+fn no_bytes_are_flushed_once(rt: HostRuntime) -> Result<(), Fail> {
+    check_put_nothing(&rt, Failure::Never, Ok(()));
+    for kind in KINDS {
+        check_put_nothing(&rt, Failure::AtFlush(kind), Err(RunFault::Write));
     }
     Ok(())
 }
 
 #[test]
 fn a_watched_device_answers_its_own_errors(rt: HostRuntime) -> Result<(), Fail> {
-    let mut reader = SlowReader::new(&INSERT_ONE_ROW, 1, Failure::At(1));
-    let error = reader.read(&mut [0; 4]).err().ok_or("read")?;
-    assert_eq!(rt; error.kind(), io::ErrorKind::Interrupted);
+    for kind in KINDS {
+        let mut reader = SlowReader::new(&INSERT_ONE_ROW, 1, Failure::At(1, kind));
+        let error = reader.read(&mut [0; 4]).err().ok_or("read")?;
+        assert_eq!(rt; error.kind(), kind);
 
-    let mut writer = SlowWriter::new(&rt, ALL, Failure::At(1));
-    let error = writer.write(&INSERT_ONE_ROW).err().ok_or("written")?;
-    assert_eq!(rt; error.kind(), io::ErrorKind::Interrupted);
+        let mut writer = SlowWriter::new(&rt, ALL, Failure::At(1, kind));
+        let error = writer.write(&INSERT_ONE_ROW).err().ok_or("written")?;
+        assert_eq!(rt; error.kind(), kind);
 
-    let mut writer = SlowWriter::new(&rt, ALL, Failure::AtFlush);
-    let error = writer.flush().err().ok_or("flushed")?;
-    assert_eq!(rt; error.kind(), io::ErrorKind::Interrupted);
+        let mut writer = SlowWriter::new(&rt, ALL, Failure::AtFlush(kind));
+        let error = writer.flush().err().ok_or("flushed")?;
+        assert_eq!(rt; error.kind(), kind);
+    }
     Ok(())
 }
 
