@@ -84,7 +84,7 @@ fn read_all<'a, A: Allocator>(
 ) -> Result<(), AllocError> {
     read.clear();
     for event in unread {
-        if let Ok(rows) = RowsEvent::read(event.kind, event.body, &event.layout) {
+        if let Ok(rows) = RowsEvent::read_as(event.kind, event.body, &event.layout) {
             read.push(rows)?;
         }
     }

@@ -68,6 +68,22 @@ few_read (column ∷ columns) nulls i bytes = by_mark (is_marked nulls i) refl (
     by_mark false marked None front few = rw (first_there column columns nulls i bytes marked, front) (omega arith)
     by_mark false marked (Some v) front few = rw (first_there column columns nulls i bytes marked, front) (grown (length columns) (Some v.0) (values_front columns nulls (i + 1) v.1) (few v.1))
 
+-- where they are read, there is one for each column
+pub as_many_read : (columns : Layout) (nulls : List ℕ) (i : ℕ) (bytes : List ℕ) → is_some (values_front columns nulls i bytes) ≡ true → length (row_read (values_front columns nulls i bytes)) ≡ length columns
+as_many_read [] nulls i bytes whole = ap length (none_read nulls i bytes)
+as_many_read (column ∷ columns) nulls i bytes whole = by_mark (is_marked nulls i) refl (value_front column bytes) refl (as_many_read columns nulls (i + 1))
+  where
+    by_mark : (b : Bool) → is_marked nulls i ≡ b → (v : Option (List ℕ × List ℕ)) → value_front column bytes ≡ v
+        → ((rest : List ℕ) → is_some (values_front columns nulls (i + 1) rest) ≡ true → length (row_read (values_front columns nulls (i + 1) rest)) ≡ length columns)
+        → length (row_read (values_front (column ∷ columns) nulls i bytes)) ≡ suc (length columns)
+    by_mark true marked v front many =
+        let first = null_first column columns nulls i bytes marked whole in
+        ap length first.row ∙ ap suc (many bytes first.imaged)
+    by_mark false marked None front many = value_there column columns nulls i bytes marked front whole
+    by_mark false marked (Some v) front many =
+        let first = value_first column columns nulls i bytes v.0 v.1 marked front whole in
+        ap length first.row ∙ ap suc (many v.1 first.imaged)
+
 -- ---- an image
 
 -- an image's length is known where it is read

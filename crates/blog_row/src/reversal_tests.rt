@@ -86,7 +86,7 @@ fn check_event(rt: &impl Abort, event: RowsEvent<'_>, case: &Case) {
 fn reads_and_knows_events(rt: HostRuntime) {
     let layout = columns(&rt);
     for case in &CASES {
-        let event = RowsEvent::read(case.kind, case.body, &layout).expect(&rt, "an event");
+        let event = RowsEvent::read_as(case.kind, case.body, &layout).expect(&rt, "an event");
         check_event(&rt, event, case);
         check_event(&rt, RowsEvent::known(case.kind, case.body, &layout), case);
         let (event, len) = RowsEvent::read_counted(case.kind, case.body, &layout).expect(
@@ -101,7 +101,7 @@ fn reads_and_knows_events(rt: HostRuntime) {
 fn puts_images_in_reverse_order(rt: HostRuntime) -> Result<(), Fail> {
     let layout = columns(&rt);
     for case in &CASES {
-        let event = RowsEvent::read(case.kind, case.body, &layout).expect(&rt, "an event");
+        let event = RowsEvent::read_as(case.kind, case.body, &layout).expect(&rt, "an event");
         let mut room = vec![in rt.alloc(); 0xAA; event.rows_len()]?;
         event.put_reversed(&mut room);
         assert_eq!(rt; room.as_slice(), case.reversed);

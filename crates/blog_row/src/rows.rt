@@ -1,6 +1,6 @@
 //! Going through the rows of a rows event.
 
-ghost use Rattle.std.specs.Prelude.{◌≡◌, ◌≤◌, ◌+◌, is_some, true, length, option_to_list};
+ghost use Rattle.std.specs.Prelude.{◌≡◌, ◌≤◌, ◌+◌, is_some, true, length, option_to_list, IfSome};
 ghost use Rattle.blog_row.specs.Image.{images_of};
 ghost use Rattle.blog_row.specs.LayoutView.{layout_columns};
 
@@ -67,7 +67,8 @@ impl<'a> Rows<'a> {
 impl<'a> Iterator for Rows<'a> {
     type Item = RowChange<'a>;
 
-    ghost use Rattle.std.specs.Iterator.{YieldsFirstBy, at_most};
+    ghost use Rattle.std.specs.Iterator.{UpTo, YieldsFirstBy, at_most};
+    ghost use Rattle.std.specs.Iterator.SizeHint.{IsWithinCount};
     ghost use Rattle.blog_row.specs.RowsView.{rows_left, most_left, row_seen};
 
     ghost next_gives = { YieldsFirstBy row_seen rows_left };
@@ -82,5 +83,14 @@ impl<'a> Iterator for Rows<'a> {
             RowsKind::Delete => (Some(image), None),
         };
         Some(RowChange { before, after })
+    }
+
+    /// How many rows are left is known by going through them alone: at least none, and at most one for each byte.
+    fn size_hint(&self) -> (usize, Option<usize>)
+        ensures least { result.0 ≤ length (rows_left self.now) }
+        ensures lower { IsWithinCount result.0 (at_most (most_left self.now)) }
+        ensures upper { IfSome result.1 (UpTo (at_most (most_left self.now))) }
+    {
+        (0, Some(self.rest.len()))
     }
 }

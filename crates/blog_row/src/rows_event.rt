@@ -32,15 +32,31 @@ pub struct RowsEvent<'a> {
 }
 
 impl<'a> RowsEvent<'a> {
-    ghost use Rattle.std.specs.Prelude.{List, ℕ, Ok, IfOk, IsOk};
+    ghost use Rattle.std.specs.Prelude.{List, ℕ, Ok, IfOk, IfSome, IsOk, IsSome};
     ghost use Rattle.std.specs.List.{concat};
     ghost use Rattle.byteorder.specs.Endian.{little_number};
+    ghost use Rattle.blog_row.specs.RowsKind.{rows_kind_of};
     ghost use Rattle.blog_row.specs.RowsEvent.{RowsBody, IsRowsBody, rows_of};
     ghost use Rattle.blog_row.specs.RowsEventView.{rows_kind, rows_layout, rows_body, rows_seen, counted_seen};
 
-    /// Reads a body by its kind and by the layout of its table, or gives the first check that fails: `PartialImage`
-    /// where a column isn't in the images, and otherwise `BadBody`.
-    pub fn read(
+    /// Reads a body by its event type, a number of a kind of rows events, and by the layout of its table, or gives the
+    /// first check that fails: `PartialImage` where a column isn't in the images, and otherwise `BadBody`.
+    pub fn read(kind: u8, body: &'a [u8], layout: &Layout<'a>) -> Result<RowsEvent<'a>, RowFault>
+        requires rows { IsSome (rows_kind_of kind) }
+        ensures exact { IfSome (rows_kind_of kind) (λ k. rows_seen result ≡ rows_of k (layout_columns layout.now) body.now) }
+        ensures found { IfSome (rows_kind_of kind) (λ k. IfOk result (λ event. IsRowsBody k (layout_columns layout.now) body.now (rows_body event))) }
+        ensures only { (fields : RowsBody) → IfSome (rows_kind_of kind) (λ k. IsRowsBody k (layout_columns layout.now) body.now fields → rows_seen result ≡ Ok fields) }
+        ensures of_kind { IfOk result (λ event. rows_kind_of kind ≡ Some (rows_kind event)) }
+        ensures of_layout { IfOk result (λ event. rows_layout event ≡ layout.now) }
+    {
+        let Some(kind) = RowsKind::of_type(kind) else {
+            unreachable!();
+        };
+        RowsEvent::read_as(kind, body, layout)
+    }
+
+    /// Reads a body as `read` does, by what the event does to its rows.
+    pub fn read_as(
         kind: RowsKind,
         body: &'a [u8],
         layout: &Layout<'a>,
@@ -55,7 +71,7 @@ impl<'a> RowsEvent<'a> {
         Ok(event)
     }
 
-    /// Reads a body as `read` does; beside the event it answers how many images that has.
+    /// Reads a body as `read_as` does; beside the event it answers how many images that has.
     pub fn read_counted(
         kind: RowsKind,
         body: &'a [u8],

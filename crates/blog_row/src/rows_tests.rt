@@ -21,7 +21,7 @@ fn event_of<'a>(
 ) -> Result<RowsEvent<'a>, RowFault> {
     let map = TableMap::read(map).expect(rt, "names");
     let layout = map.layout().expect(rt, "a layout");
-    RowsEvent::read(kind, body, &layout)
+    RowsEvent::read_as(kind, body, &layout)
 }
 
 /// A table map, the body of a rows event, and what is read from it.
@@ -179,6 +179,8 @@ fn check_event(rt: &impl Abort, event: &RowsEvent<'_>, want: &Worked) {
     assert_eq!(rt; event.images(), want.images);
     assert_eq!(rt; event.rows_len(), want.images.len());
     assert_eq!(rt; event.layout().columns(), want.columns);
+    let most = want.images.len();
+    assert_eq!(rt; event.rows().size_hint(), (0, Some(most)));
     let mut left = want.rows.iter();
     for row in event.rows() {
         assert_eq!(rt; Some(&row), left.next(), "of {:?}", want.body);
@@ -191,6 +193,22 @@ fn reads_rows_events(rt: HostRuntime) {
     for want in &WORKED {
         let event = event_of(&rt, want.kind, want.map, want.body).expect(&rt, "an event");
         check_event(&rt, &event, want);
+    }
+}
+
+#[test]
+fn reads_by_event_types(rt: HostRuntime) {
+    for want in &WORKED {
+        let map = TableMap::read(want.map).expect(&rt, "names");
+        let layout = map.layout().expect(&rt, "a layout");
+        let read = match want.kind {
+            Write => RowsEvent::read(30, want.body, &layout),
+            Update => RowsEvent::read(31, want.body, &layout),
+            Delete => RowsEvent::read(32, want.body, &layout),
+        };
+        check_event(&rt, &read.expect(&rt, "an event"), want);
+        let cut = RowsEvent::read(31, b"", &layout).err();
+        assert_eq!(rt; cut, Some(RowFault::BadBody));
     }
 }
 

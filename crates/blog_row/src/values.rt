@@ -1,6 +1,6 @@
 //! Going through the values of an image.
 
-ghost use Rattle.std.specs.Prelude.{◌≡◌, ◌≤◌, ◌*◌, drop, is_some, true, length};
+ghost use Rattle.std.specs.Prelude.{◌≡◌, ◌≤◌, ◌*◌, drop, is_some, true, length, Some, IfSome};
 ghost use Rattle.std.specs.List.{list_all};
 ghost use Rattle.blog_row.specs.Column.{columns_of, is_column};
 ghost use Rattle.blog_row.specs.Image.{values_front};
@@ -65,7 +65,8 @@ impl<'l, 'b> Values<'l, 'b> {
 impl<'l, 'b> Iterator for Values<'l, 'b> {
     type Item = Option<&'b [u8]>;
 
-    ghost use Rattle.std.specs.Iterator.{YieldsFirstBy, at_most};
+    ghost use Rattle.std.specs.Iterator.{UpTo, YieldsFirstBy, at_most};
+    ghost use Rattle.std.specs.Iterator.SizeHint.{IsWithinCount};
     ghost use Rattle.blog_row.specs.ValuesView.{values_left, columns_left, value_bytes};
 
     ghost next_gives = { YieldsFirstBy value_bytes values_left };
@@ -99,5 +100,15 @@ impl<'l, 'b> Iterator for Values<'l, 'b> {
             rest,
         };
         Some(Some(value))
+    }
+
+    /// How many values are left: one for each column that is left.
+    fn size_hint(&self) -> (usize, Option<usize>)
+        ensures exact { result ≡ (length (values_left self.now), Some (length (values_left self.now))) }
+        ensures lower { IsWithinCount result.0 (at_most (columns_left self.now)) }
+        ensures upper { IfSome result.1 (UpTo (at_most (columns_left self.now))) }
+    {
+        let left = self.kinds.len().saturating_sub(self.column);
+        (left, Some(left))
     }
 }
