@@ -29,5 +29,6 @@ pub mod LayingOut
 pub mod Headline
 pub mod Stops
 pub mod Printing
+pub mod Quoting
 pub mod PrintedParts
 pub mod Answering

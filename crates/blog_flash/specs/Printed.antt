@@ -11,9 +11,12 @@ use Rattle.blog_trans.specs.Changes.{Change, Inserted, Deleted, Updated, changes
 abbrev pub line : List ℕ → List ℕ
 line text = text ++ 10 ∷ []
 
+abbrev pub between_backticks : List ℕ → List ℕ
+between_backticks text = 96 ∷ (text ++ 96 ∷ [])
+
 -- every backtick doubled, between backticks
 abbrev pub quoted : List ℕ → List ℕ
-quoted name = 96 ∷ (flat_map (λ byte. if byte == 96 then 96 ∷ 96 ∷ [] else byte ∷ []) name ++ 96 ∷ [])
+quoted name = between_backticks (flat_map (λ byte. if byte == 96 then 96 ∷ 96 ∷ [] else byte ∷ []) name)
 
 -- the schema, a point and the table
 abbrev pub quoted_table : Table → List ℕ

@@ -5,11 +5,12 @@ ghost use Rattle.std.specs.Fmt.{decimal};
 ghost use Rattle.blog_row.specs.Image.{row_of};
 ghost use Rattle.blog_row.specs.LayoutView.{layout_columns};
 ghost use Rattle.blog_row.specs.TableMapView.{map_names};
-ghost use Rattle.blog_flash.specs.Printed.{line, quoted, quoted_table, value_text, value_lines, row_lines, change_lines};
+ghost use Rattle.blog_flash.specs.Printed.{line, between_backticks, quoted, quoted_table, value_text, value_lines, row_lines, change_lines};
 ghost use Rattle.blog_flash.specs.PrintedRows.{value_line, table_line, image_lines};
 ghost use Rattle.blog_trans.specs.Changes.{Inserted, Deleted, Updated};
 
 use blog_row::{Layout, RowChange, TableMap};
+use bstr::ByteSlice;
 use itoa::Buffer;
 use std::alloc::{AllocError, Allocator};
 
@@ -36,19 +37,24 @@ pub(crate) fn put_number<A: Allocator>(out: &mut Vec<u8, A>, n: u64) -> Result<(
     put_text(out, buffer.format(n).as_bytes())
 }
 
-/// Appends a name between backticks, with each backtick in it doubled.
+/// Appends a text between backticks.
+fn put_between_backticks<A: Allocator>(out: &mut Vec<u8, A>, text: &[u8]) -> Result<(), AllocError>
+    ensures { OnOk result (out.new.items ≡ out.old.items ++ between_backticks text.now) }
+{
+    put_text(out, b"`")?;
+    put_text(out, text)?;
+    put_text(out, b"`")
+}
+
+/// Appends a name between backticks, with each backtick in it doubled. So the parts that its own backticks leave stand
+/// between backticks.
 fn put_quoted<A: Allocator>(out: &mut Vec<u8, A>, name: &[u8]) -> Result<(), AllocError>
     ensures { OnOk result (out.new.items ≡ out.old.items ++ quoted name.now) }
 {
-    put_text(out, b"`")?;
-    for byte in name {
-        if *byte == b'`' {
-            put_text(out, b"``")?;
-        } else {
-            put_text(out, &[*byte])?;
-        }
+    for part in name.split_str(b"`") {
+        put_between_backticks(out, part)?;
     }
-    put_text(out, b"`")
+    Ok(())
 }
 
 /// Appends the names of a schema and of a table in it.

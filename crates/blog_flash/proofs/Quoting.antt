@@ -1,0 +1,124 @@
+-- A name between backticks, by the parts that its own backticks leave.
+use Rattle.std.proofs.Common.{◌≡◌, ℕ, zero, suc, ◌+◌, ◌-◌, ◌≤◌, ◌==◌, Bool, true, false, ◌&&◌, List, [], ◌∷◌, ◌++◌, length, take, drop, refl, sym, ap, ◌∙◌, append_assoc, append-nil, arith}
+use Rattle.std.specs.Prelude.{if◌then◌else◌, nat_le}
+use Rattle.std.specs.List.{flat_map}
+use Rattle.std.specs.Str.{bytes_eq}
+use Rattle.std.proofs.lemmas.Bool.{eqb-true, le-leb}
+use Rattle.std.proofs.lemmas.List.{drop-drop, length-drop, take_all}
+use Rattle.bstr.specs.Find.{matches, matches_from, occurs_at}
+use Rattle.bstr.specs.Text.{split_at, part}
+use Rattle.blog_flash.specs.Printed.{between_backticks, quoted}
+
+-- a name with its backticks doubled
+abbrev doubled : List ℕ → List ℕ
+doubled name = flat_map (λ byte. if byte == 96 then 96 ∷ 96 ∷ [] else byte ∷ []) name
+
+-- ---- one byte more
+
+take-next : (n : ℕ) (xs : List ℕ) (b : ℕ) (rest : List ℕ) → drop n xs ≡ b ∷ rest → take (suc n) xs ≡ take n xs ++ b ∷ []
+take-next zero [] b rest is = cc
+take-next (suc n) [] b rest is = cc
+take-next zero (x ∷ xs) b rest is = cc
+take-next (suc n) (x ∷ xs) b rest is = ap (λ (ys : List ℕ). x ∷ ys) (take-next n xs b rest is)
+
+drop-next : (n : ℕ) (xs : List ℕ) (b : ℕ) (rest : List ℕ) → drop n xs ≡ b ∷ rest → drop (suc n) xs ≡ rest
+drop-next zero [] b rest is = cc
+drop-next (suc n) [] b rest is = cc
+drop-next zero (x ∷ xs) b rest is = cc
+drop-next (suc n) (x ∷ xs) b rest is = drop-next n xs b rest is
+
+-- ---- backticks found
+
+abbrev tick : List ℕ
+tick = 96 ∷ []
+
+-- the test for a backtick, of the bytes from there on
+abbrev tick_at : Bool → List ℕ → Bool
+tick_at within left = within && bytes_eq (take 1 left) tick
+
+one-tick : (b : ℕ) (test : Bool) → (b == 96) ≡ test → bytes_eq (b ∷ []) tick ≡ test
+one-tick b true is = ap (λ (t : Bool). t && true) is
+one-tick b false is = ap (λ (t : Bool). t && true) is
+
+-- at a byte
+tick-at : (hay : List ℕ) (i b : ℕ) (rest : List ℕ) (test : Bool) → drop i hay ≡ b ∷ rest → i + 1 ≤ length hay → (b == 96) ≡ test → occurs_at hay tick i ≡ test
+tick-at hay i b rest test is within test_is = ap (λ (left : List ℕ). tick_at (nat_le (i + 1) (length hay)) left) is ∙ ap (λ (w : Bool). tick_at w (b ∷ [])) (le-leb (i + 1) (length hay) within) ∙ one-tick b test test_is
+
+none-at : (within : Bool) → tick_at within [] ≡ false
+none-at true = refl
+none-at false = refl
+
+-- behind the last byte
+no-tick-at : (hay : List ℕ) (i : ℕ) → drop i hay ≡ [] → occurs_at hay tick i ≡ false
+no-tick-at hay i is = ap (λ (left : List ℕ). tick_at (nat_le (i + 1) (length hay)) left) is ∙ none-at (nat_le (i + 1) (length hay))
+
+next-match : (hay : List ℕ) (i n : ℕ) (b : Bool) → occurs_at hay tick i ≡ b
+    → matches_from hay tick 0 i (suc n) ≡ (if b then i ∷ matches_from hay tick 0 (i + 1) n else matches_from hay tick 0 (i + 1) n)
+unfolding matches_from
+next-match hay i n b is = ap (λ (t : Bool). if t then i ∷ matches_from hay tick 0 (i + 1) n else matches_from hay tick 0 (i + 1) n) is
+
+-- ---- the parts
+
+abbrev left_quoted : List ℕ → ℕ → ℕ → List ℕ → List ℕ
+left_quoted hay last i rest = 96 ∷ (part last i hay ++ (doubled rest ++ tick))
+
+abbrev parts_quoted : List ℕ → ℕ → List ℕ → List ℕ
+parts_quoted hay last found = flat_map between_backticks (split_at hay 1 last found)
+
+-- none is found any more
+at-end : (hay : List ℕ) (last i : ℕ) → last ≤ i → i ≡ length hay → parts_quoted hay last [] ≡ left_quoted hay last i []
+unfolding split_at
+at-end hay last i before end =
+    let len = length-drop last hay in
+    let all = take_all (i - last) (drop last hay) (omega arith) in
+    ap (λ (p : List ℕ). 96 ∷ p) (append-nil (drop last hay ++ tick) ∙ ap (λ (p : List ℕ). p ++ tick) (sym all))
+
+-- one is found here
+at-tick : (hay : List ℕ) (last i : ℕ) (found rest : List ℕ) → parts_quoted hay (i + 1) found ≡ left_quoted hay (i + 1) (i + 1) rest
+    → parts_quoted hay last (i ∷ found) ≡ left_quoted hay last i (96 ∷ rest)
+unfolding split_at
+at-tick hay last i found rest so_far =
+    let none : i + 1 - (i + 1) ≡ 0 = omega arith in
+    let left : List ℕ = doubled rest ++ tick in
+    ap (λ (p : List ℕ). 96 ∷ p) (append_assoc (part last i hay) tick (parts_quoted hay (i + 1) found)
+    ∙ ap (λ (p : List ℕ). part last i hay ++ (96 ∷ p)) (so_far ∙ ap (λ (n : ℕ). 96 ∷ (take n (drop (i + 1) hay) ++ left)) none))
+
+-- another byte is here
+at-other : (hay : List ℕ) (last i b : ℕ) (found rest : List ℕ) → (b == 96) ≡ false → part last (i + 1) hay ≡ part last i hay ++ b ∷ [] → parts_quoted hay last found ≡ left_quoted hay last (i + 1) rest
+    → parts_quoted hay last found ≡ left_quoted hay last i (b ∷ rest)
+at-other hay last i b found rest other one so_far =
+    let left : List ℕ = doubled rest ++ tick in
+    so_far ∙ ap (λ (p : List ℕ). 96 ∷ (p ++ left)) one ∙ ap (λ (p : List ℕ). 96 ∷ p) (append_assoc (part last i hay) (b ∷ []) left)
+    ∙ ap (λ (t : Bool). 96 ∷ (part last i hay ++ (((if t then 96 ∷ 96 ∷ [] else b ∷ []) ++ doubled rest) ++ tick))) (sym other)
+
+-- either of them
+at-byte : (hay : List ℕ) (last i b : ℕ) (rest : List ℕ) (test : Bool) → (b == 96) ≡ test → drop i hay ≡ b ∷ rest → last ≤ i → i + 1 ≤ length hay
+    → parts_quoted hay (i + 1) (matches_from hay tick 0 (i + 1) (suc (length rest))) ≡ left_quoted hay (i + 1) (i + 1) rest
+    → parts_quoted hay last (matches_from hay tick 0 (i + 1) (suc (length rest))) ≡ left_quoted hay last (i + 1) rest
+    → parts_quoted hay last (matches_from hay tick 0 i (suc (suc (length rest)))) ≡ left_quoted hay last i (b ∷ rest)
+at-byte hay last i b rest true test is before within begun kept =
+    ap (parts_quoted hay last) (next-match hay i (suc (length rest)) true (tick-at hay i b rest true is within test))
+    ∙ at-tick hay last i (matches_from hay tick 0 (i + 1) (suc (length rest))) rest begun ∙ ap (λ (x : ℕ). left_quoted hay last i (x ∷ rest)) (sym (eqb-true b 96 test))
+at-byte hay last i b rest false test is before within begun kept =
+    let place : last + (i - last) ≡ i = omega arith in
+    let there : drop (i - last) (drop last hay) ≡ b ∷ rest = drop-drop (i - last) last hay ∙ ap (λ (n : ℕ). drop n hay) place ∙ is in
+    let more : i + 1 - last ≡ suc (i - last) = omega arith in
+    let one : part last (i + 1) hay ≡ part last i hay ++ b ∷ [] = ap (λ (n : ℕ). take n (drop last hay)) more ∙ take-next (i - last) (drop last hay) b rest there in
+    ap (parts_quoted hay last) (next-match hay i (suc (length rest)) false (tick-at hay i b rest false is within test))
+    ∙ at-other hay last i b (matches_from hay tick 0 (i + 1) (suc (length rest))) rest test one kept
+
+-- from a byte on, where the part that is open begins before it
+parts-from : (hay : List ℕ) (last i : ℕ) (rest : List ℕ) → drop i hay ≡ rest → last ≤ i → i + length rest ≡ length hay
+    → parts_quoted hay last (matches_from hay tick 0 i (suc (length rest))) ≡ left_quoted hay last i rest
+unfolding matches_from
+parts-from hay last i [] is before count = ap (parts_quoted hay last) (next-match hay i 0 false (no-tick-at hay i is)) ∙ at-end hay last i before (omega arith)
+parts-from hay last i (b ∷ rest) is before count =
+    let more : i + 1 ≡ suc i = omega arith in
+    let next : drop (i + 1) hay ≡ rest = ap (λ (n : ℕ). drop n hay) more ∙ drop-next i hay b rest is in
+    at-byte hay last i b rest (b == 96) refl is before (omega arith) (parts-from hay (i + 1) (i + 1) rest next (omega arith) (omega arith)) (parts-from hay last (i + 1) rest next (omega arith) (omega arith))
+
+-- each part stands between backticks
+pub quoted-parts : (name : List ℕ) → flat_map between_backticks (split_at name 1 0 (matches name tick 0)) ≡ quoted name
+quoted-parts name =
+    let all : length name + 1 - 0 ≡ suc (length name) = omega arith in
+    ap (λ (n : ℕ). parts_quoted name 0 (matches_from name tick 0 0 n)) all ∙ parts-from name 0 0 name refl (omega arith) (omega arith)
