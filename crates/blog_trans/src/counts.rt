@@ -63,7 +63,7 @@ impl Count {
 }
 
 impl<A: Allocator + Copy> Counts<A> {
-    ghost use Rattle.std.specs.Prelude.{◌≡◌, ◌+◌, ◌<◌, ◌≤◌, ◌++◌, ℕ, List, [], ◌∷◌, Some, length, map, slice_get, vec_len, OnOk, IfErr};
+    ghost use Rattle.std.specs.Prelude.{◌≡◌, ◌+◌, ◌<◌, ◌≤◌, ◌++◌, ℕ, List, [], ◌∷◌, Some, length, map, slice_get, vec_len, vec_capacity, IsOk, OnOk, IfErr};
     ghost use Rattle.blog_event.specs.declared.fault.Fault.TheVariants.{OutOfMemory};
     ghost use Rattle.indexmap.specs.IndexMap.{values};
     ghost use Rattle.blog_row.specs.TableMap.{Table};
@@ -90,6 +90,9 @@ impl<A: Allocator + Copy> Counts<A> {
         ensures reached { OnOk result (table < vec_len self.new.rows) }
         ensures few { (n : ℕ) → AreFew n self.old → OnOk result (AreFew n self.new) }
         ensures refused { IfErr result (λ fault. fault ≡ OutOfMemory) }
+        ensures room { table < vec_capacity self.old.rows → IsOk result }
+        ensures capacity { vec_capacity self.old.rows ≤ vec_capacity self.new.rows }
+        ensures tables { self.new.tables ≡ self.old.tables }
     {
         let len = table as usize + 1;
         if self.rows.len() < len {
@@ -109,6 +112,7 @@ impl<A: Allocator + Copy> Counts<A> {
             OnOk result (AreCounts tables (cs ++ changes_of_rows r) ts self.new) }
         ensures few { (n : ℕ) → AreFew n self.old → OnOk result (AreFew (n + kept.now.images) self.new) }
         ensures refused { IfErr result (λ fault. fault ≡ OutOfMemory) }
+        ensures room { kept.now.table < vec_capacity self.old.rows → IsOk result }
     {
         self.reach(kept.table)?;
         let before = self.rows[kept.table as usize];
@@ -122,6 +126,10 @@ impl<A: Allocator + Copy> Counts<A> {
             OnOk result (AreCounts tables cs (ts ++ t ∷ []) self.new) }
         ensures few { (n : ℕ) → AreFew n self.old → OnOk result (AreFew n self.new) }
         ensures refused { IfErr result (λ fault. fault ≡ OutOfMemory) }
+        ensures room { table < vec_capacity self.old.rows → vec_len self.old.tables < vec_capacity self.old.tables → IsOk result }
+        ensures capacity { vec_capacity self.old.rows ≤ vec_capacity self.new.rows }
+        ensures tables { vec_len self.new.tables ≤ vec_len self.old.tables + 1 }
+        ensures tables_capacity { vec_capacity self.old.tables ≤ vec_capacity self.new.tables }
     {
         self.reach(table)?;
         if !self.rows[table as usize].kept {

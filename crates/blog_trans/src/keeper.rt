@@ -1,6 +1,6 @@
 //! Keeping the events of the groups: the flat list of entries, as it grows.
 
-ghost use Rattle.std.specs.Prelude.{◌≡◌, ◌+◌, ◌<◌, ◌≤◌, ◌^◌, List, [], ◌∷◌, ◌++◌, map, take, drop, length, Some, None, OnOk, IfErr, vec_len};
+ghost use Rattle.std.specs.Prelude.{◌≡◌, ◌+◌, ◌<◌, ◌≤◌, ◌^◌, List, [], ◌∷◌, ◌++◌, map, take, drop, length, Some, None, IsOk, OnOk, IfErr, vec_len, vec_capacity};
 ghost use Rattle.indexmap.specs.IndexMap.{index_map_len, values};
 ghost use Rattle.blog_event.specs.declared.fault.Fault.TheVariants.{OutOfMemory};
 ghost use Rattle.blog_event.specs.File.{Placed};
@@ -57,6 +57,8 @@ impl<A: Allocator> Keeper<A> {
             → OnOk result (Holds self.new (record { done = k.done; current = Some (record { begin = p; statements = []; rows = [] }) })) }
         ensures refused { IfErr result (λ fault. fault ≡ OutOfMemory) }
         ensures few { vec_len self.new.entries ≤ vec_len self.old.entries + 1 }
+        ensures room { vec_len self.old.entries < vec_capacity self.old.entries → IsOk result }
+        ensures capacity { vec_capacity self.old.entries ≤ vec_capacity self.new.entries }
     {
         self.transaction_start = self.entries.len() as u32;
         self.first_statement = self.statements;
@@ -71,6 +73,8 @@ impl<A: Allocator> Keeper<A> {
             → OnOk result (Holds self.new (record { done = k.done; current = Some (with_rows (Some r) o) })) }
         ensures refused { IfErr result (λ fault. fault ≡ OutOfMemory) }
         ensures few { vec_len self.new.entries ≤ vec_len self.old.entries + 1 }
+        ensures room { vec_len self.old.entries < vec_capacity self.old.entries → IsOk result }
+        ensures capacity { vec_capacity self.old.entries ≤ vec_capacity self.new.entries }
     {
         push(&mut self.entries, at, map)
     }
@@ -82,6 +86,8 @@ impl<A: Allocator> Keeper<A> {
             → k.current ≡ Some o → Holds self.old k → OnOk result (Holds self.new (record { done = k.done; current = Some (closed_by ms o) })) }
         ensures refused { IfErr result (λ fault. fault ≡ OutOfMemory) }
         ensures few { vec_len self.new.entries ≤ vec_len self.old.entries + index_map_len maps.now }
+        ensures room { vec_len self.old.entries + index_map_len maps.now ≤ vec_capacity self.old.entries → IsOk result }
+        ensures capacity { vec_capacity self.old.entries ≤ vec_capacity self.new.entries }
     {
         let start = self.statement_start as usize;
         if self.entries.len() == start {
@@ -101,6 +107,8 @@ impl<A: Allocator> Keeper<A> {
             → OnOk result (Holds self.new (ended p k.done o)) }
         ensures refused { IfErr result (λ fault. fault ≡ OutOfMemory) }
         ensures few { vec_len self.new.entries ≤ vec_len self.old.entries + 1 }
+        ensures room { vec_len self.old.entries < vec_capacity self.old.entries → IsOk result }
+        ensures capacity { vec_capacity self.old.entries ≤ vec_capacity self.new.entries }
     {
         if self.statements == self.first_statement {
             self.statement_start = self.transaction_start;
@@ -115,12 +123,14 @@ impl<A: Allocator> Keeper<A> {
     }
 }
 
-/// Adds an entry of an event.
+/// Adds an entry of an event. That is refused only where there is no room for it.
 fn push<A: Allocator>(entries: &mut Vec<Entry, A>, at: u32, link: u32) -> Result<(), Fault>
     ensures items { OnOk result (entries.new.items ≡ entries.old.items ++ entry_at at link ∷ []) }
     ensures refused { IfErr result (λ fault. fault ≡ OutOfMemory) }
     ensures least { vec_len entries.old ≤ vec_len entries.new }
     ensures few { vec_len entries.new ≤ vec_len entries.old + 1 }
+    ensures room { vec_len entries.old < vec_capacity entries.old → IsOk result }
+    ensures capacity { vec_capacity entries.old ≤ vec_capacity entries.new }
 {
     let entry = Entry {
         at,
@@ -140,6 +150,8 @@ fn push_maps<'a, A: Allocator>(entries: &mut Vec<Entry, A>, maps: &Maps<'a, A>) 
     ensures refused { IfErr result (λ fault. fault ≡ OutOfMemory) }
     ensures least { vec_len entries.old ≤ vec_len entries.new }
     ensures few { vec_len entries.new ≤ vec_len entries.old + index_map_len maps.now }
+    ensures room { vec_len entries.old + index_map_len maps.now ≤ vec_capacity entries.old → IsOk result }
+    ensures capacity { vec_capacity entries.old ≤ vec_capacity entries.new }
 {
     for map in maps.values() {
         if map.used {
@@ -172,6 +184,8 @@ fn put_maps<'a, A: Allocator>(
     ensures refused { IfErr result (λ fault. fault ≡ OutOfMemory) }
     ensures least { vec_len entries.old ≤ vec_len entries.new }
     ensures few { vec_len entries.new ≤ vec_len entries.old + index_map_len maps.now }
+    ensures room { vec_len entries.old + index_map_len maps.now ≤ vec_capacity entries.old → IsOk result }
+    ensures capacity { vec_capacity entries.old ≤ vec_capacity entries.new }
 {
     let before = entries.len();
     push_maps(entries, maps)?;
