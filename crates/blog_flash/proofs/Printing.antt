@@ -1,5 +1,5 @@
 -- Texts that grow part by part.
-use Rattle.std.proofs.Common.{◌≡◌, ℕ, List, [], ◌++◌, Result, Ok, Err, OnOk, sym, ap, ◌∙◌, append_assoc, append-nil}
+use Rattle.std.proofs.Common.{◌≡◌, ℕ, ◌+◌, ◌≤◌, List, [], ◌++◌, length, Result, Ok, Err, OnOk, IsOk, sym, ap, ◌∙◌, append_assoc, append-nil, arith, length-append}
 
 -- a part is appended, and the rest is left
 pub next-part : (items left all part rest more : List ℕ) → items ++ left ≡ all → left ≡ part ++ rest → more ≡ items ++ part → more ++ rest ≡ all
@@ -18,3 +18,18 @@ both-parts old items more one two first second = second ∙ ap (λ (bytes : List
 pub last-part : {T E P Q : Type 0} (r : Result T E) → OnOk r P → (P → Q) → OnOk r Q
 last-part (Ok x) h follows = follows h
 last-part (Err e) h follows = h
+
+-- ---- room
+
+-- a part of a text has room where the text has
+pub part-fits : (items left old text part rest : List ℕ) (len cap old_len old_cap : ℕ) → items ++ left ≡ old ++ text → left ≡ part ++ rest → len ≡ length items → old_len ≡ length old → old_cap ≤ cap
+    → old_len + length text ≤ old_cap → len + length part ≤ cap
+part-fits items left old text part rest len cap old_len old_cap so_far splits here there grown enough =
+    let whole : length items + length left ≡ length old + length text = simp length-append at (ap length so_far) in
+    let parts : length left ≡ length part + length rest = ap length splits ∙ length-append part rest in
+    omega arith
+
+-- what has room isn't refused
+pub not-refused : {T E R : Type 0} (r : Result T E) (e : E) → r ≡ Err e → IsOk r → R
+not-refused (Ok x) e is ok = cc
+not-refused (Err x) e is ok = cc

@@ -1,6 +1,6 @@
-//! Names, values and rows as text.
+//! Names, values and rows as text. Where the capacity has room for a text, appending it is no error.
 
-ghost use Rattle.std.specs.Prelude.{◌≡◌, ◌+◌, ◌≤◌, ◌∷◌, ◌++◌, OnOk, codes, option_map};
+ghost use Rattle.std.specs.Prelude.{◌≡◌, ◌+◌, ◌≤◌, ◌∷◌, ◌++◌, length, OnOk, IsOk, codes, option_map, vec_len, vec_capacity};
 ghost use Rattle.std.specs.Fmt.{decimal};
 ghost use Rattle.blog_row.specs.Image.{row_of};
 ghost use Rattle.blog_row.specs.LayoutView.{layout_columns};
@@ -16,14 +16,18 @@ use std::alloc::{AllocError, Allocator};
 
 /// Appends a text.
 pub(crate) fn put_text<A: Allocator>(out: &mut Vec<u8, A>, text: &[u8]) -> Result<(), AllocError>
-    ensures { OnOk result (out.new.items ≡ out.old.items ++ text.now) }
+    ensures ok { OnOk result (out.new.items ≡ out.old.items ++ text.now) }
+    ensures room { vec_len out.old + length text.now ≤ vec_capacity out.old → IsOk result }
+    ensures capacity { vec_capacity out.old ≤ vec_capacity out.new }
 {
     out.extend_from_slice(text)
 }
 
 /// Appends a text and the end of its line.
 pub(crate) fn put_line<A: Allocator>(out: &mut Vec<u8, A>, text: &[u8]) -> Result<(), AllocError>
-    ensures { OnOk result (out.new.items ≡ out.old.items ++ line text.now) }
+    ensures ok { OnOk result (out.new.items ≡ out.old.items ++ line text.now) }
+    ensures room { vec_len out.old + length (line text.now) ≤ vec_capacity out.old → IsOk result }
+    ensures capacity { vec_capacity out.old ≤ vec_capacity out.new }
 {
     put_text(out, text)?;
     put_text(out, b"\n")
@@ -31,7 +35,9 @@ pub(crate) fn put_line<A: Allocator>(out: &mut Vec<u8, A>, text: &[u8]) -> Resul
 
 /// Appends a number in decimal digits.
 pub(crate) fn put_number<A: Allocator>(out: &mut Vec<u8, A>, n: u64) -> Result<(), AllocError>
-    ensures { OnOk result (out.new.items ≡ out.old.items ++ decimal n) }
+    ensures ok { OnOk result (out.new.items ≡ out.old.items ++ decimal n) }
+    ensures room { vec_len out.old + length (decimal n) ≤ vec_capacity out.old → IsOk result }
+    ensures capacity { vec_capacity out.old ≤ vec_capacity out.new }
 {
     let mut buffer = Buffer::new();
     put_text(out, buffer.format(n).as_bytes())
@@ -39,7 +45,9 @@ pub(crate) fn put_number<A: Allocator>(out: &mut Vec<u8, A>, n: u64) -> Result<(
 
 /// Appends a text between backticks.
 fn put_between_backticks<A: Allocator>(out: &mut Vec<u8, A>, text: &[u8]) -> Result<(), AllocError>
-    ensures { OnOk result (out.new.items ≡ out.old.items ++ between_backticks text.now) }
+    ensures ok { OnOk result (out.new.items ≡ out.old.items ++ between_backticks text.now) }
+    ensures room { vec_len out.old + length (between_backticks text.now) ≤ vec_capacity out.old → IsOk result }
+    ensures capacity { vec_capacity out.old ≤ vec_capacity out.new }
 {
     put_text(out, b"`")?;
     put_text(out, text)?;
@@ -49,7 +57,9 @@ fn put_between_backticks<A: Allocator>(out: &mut Vec<u8, A>, text: &[u8]) -> Res
 /// Appends a name between backticks, with each backtick in it doubled. So the parts that its own backticks leave stand
 /// between backticks.
 fn put_quoted<A: Allocator>(out: &mut Vec<u8, A>, name: &[u8]) -> Result<(), AllocError>
-    ensures { OnOk result (out.new.items ≡ out.old.items ++ quoted name.now) }
+    ensures ok { OnOk result (out.new.items ≡ out.old.items ++ quoted name.now) }
+    ensures room { vec_len out.old + length (quoted name.now) ≤ vec_capacity out.old → IsOk result }
+    ensures capacity { vec_capacity out.old ≤ vec_capacity out.new }
 {
     for part in name.split_str(b"`") {
         put_between_backticks(out, part)?;
@@ -63,7 +73,9 @@ pub(crate) fn put_table<A: Allocator>(
     schema: &[u8],
     table: &[u8],
 ) -> Result<(), AllocError>
-    ensures { OnOk result (out.new.items ≡ out.old.items ++ quoted_table (record { schema = schema.now; name = table.now })) }
+    ensures ok { OnOk result (out.new.items ≡ out.old.items ++ quoted_table (record { schema = schema.now; name = table.now })) }
+    ensures room { vec_len out.old + length (quoted_table (record { schema = schema.now; name = table.now })) ≤ vec_capacity out.old → IsOk result }
+    ensures capacity { vec_capacity out.old ≤ vec_capacity out.new }
 {
     put_quoted(out, schema)?;
     put_text(out, b".")?;
@@ -140,7 +152,9 @@ fn put_table_line<A: Allocator>(
     words: &[u8],
     map: &TableMap<'_>,
 ) -> Result<(), AllocError>
-    ensures { OnOk result (out.new.items ≡ out.old.items ++ table_line words.now (map_names map.now).table) }
+    ensures ok { OnOk result (out.new.items ≡ out.old.items ++ table_line words.now (map_names map.now).table) }
+    ensures room { vec_len out.old + length (table_line words.now (map_names map.now).table) ≤ vec_capacity out.old → IsOk result }
+    ensures capacity { vec_capacity out.old ≤ vec_capacity out.new }
 {
     put_text(out, words)?;
     put_table(out, map.schema(), map.table())?;

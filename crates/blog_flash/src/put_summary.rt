@@ -1,6 +1,6 @@
 //! How many rows of each table groups insert, update and delete, as text.
 
-ghost use Rattle.std.specs.Prelude.{◌≡◌, ◌++◌, IfOk, OnOk};
+ghost use Rattle.std.specs.Prelude.{◌≡◌, ◌+◌, ◌≤◌, ◌++◌, length, IfOk, OnOk, IsOk, vec_len, vec_capacity};
 ghost use Rattle.std.specs.Fmt.{decimal};
 ghost use Rattle.std.specs.List.{flat_map};
 ghost use Rattle.blog_trans.specs.Changes.{counts_of};
@@ -15,7 +15,9 @@ use std::alloc::{AllocError, Allocator};
 
 /// Appends words, a number and the end of the line.
 fn put_total<A: Allocator>(out: &mut Vec<u8, A>, words: &[u8], n: usize) -> Result<(), AllocError>
-    ensures { OnOk result (out.new.items ≡ out.old.items ++ line (words.now ++ decimal n)) }
+    ensures ok { OnOk result (out.new.items ≡ out.old.items ++ line (words.now ++ decimal n)) }
+    ensures room { vec_len out.old + length (line (words.now ++ decimal n)) ≤ vec_capacity out.old → IsOk result }
+    ensures capacity { vec_capacity out.old ≤ vec_capacity out.new }
 {
     put_text(out, words)?;
     put_number(out, n as u64)?;
@@ -24,7 +26,9 @@ fn put_total<A: Allocator>(out: &mut Vec<u8, A>, words: &[u8], n: usize) -> Resu
 
 /// Appends words and a number.
 fn put_count<A: Allocator>(out: &mut Vec<u8, A>, words: &[u8], n: u64) -> Result<(), AllocError>
-    ensures { OnOk result (out.new.items ≡ out.old.items ++ (words.now ++ decimal n)) }
+    ensures ok { OnOk result (out.new.items ≡ out.old.items ++ (words.now ++ decimal n)) }
+    ensures room { vec_len out.old + length (words.now ++ decimal n) ≤ vec_capacity out.old → IsOk result }
+    ensures capacity { vec_capacity out.old ≤ vec_capacity out.new }
 {
     put_text(out, words)?;
     put_number(out, n)
@@ -35,7 +39,9 @@ fn put_table_count<A: Allocator>(
     out: &mut Vec<u8, A>,
     count: &TableCount<'_>,
 ) -> Result<(), AllocError>
-    ensures { OnOk result (out.new.items ≡ out.old.items ++ count_line (table_counted count.now)) }
+    ensures ok { OnOk result (out.new.items ≡ out.old.items ++ count_line (table_counted count.now)) }
+    ensures room { vec_len out.old + length (count_line (table_counted count.now)) ≤ vec_capacity out.old → IsOk result }
+    ensures capacity { vec_capacity out.old ≤ vec_capacity out.new }
 {
     put_table(out, count.schema, count.table)?;
     put_count(out, b" inserts ", count.inserts)?;
@@ -49,7 +55,9 @@ fn put_counts<A: Allocator, B: Allocator>(
     out: &mut Vec<u8, A>,
     index: &Index<'_, '_, B>,
 ) -> Result<(), AllocError>
-    ensures { OnOk result (out.new.items ≡ out.old.items ++ flat_map count_line (counts_of (groups (index_bytes index.now) (index_selection index.now)))) }
+    ensures ok { OnOk result (out.new.items ≡ out.old.items ++ flat_map count_line (counts_of (groups (index_bytes index.now) (index_selection index.now)))) }
+    ensures room { vec_len out.old + length (flat_map count_line (counts_of (groups (index_bytes index.now) (index_selection index.now)))) ≤ vec_capacity out.old → IsOk result }
+    ensures capacity { vec_capacity out.old ≤ vec_capacity out.new }
 {
     for n in 0..index.tables() {
         put_table_count(out, &index.table(n))?;

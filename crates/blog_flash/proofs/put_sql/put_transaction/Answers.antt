@@ -15,7 +15,7 @@ returns g c =
     let ended : List ℕ = c.put_line-2.new.out.items in
     let own : List ℕ = statement_lines_at (index_groups c.args.index.now) c.args.t in
     let parts = transaction-lines (index_groups c.args.index.now) c.args.t c.requires in
-    last-part c.put_line-2.result c.put_line-2.ensures (λ last.
-    both-parts old begun ended (line (codes "BEGIN")) (own ++ line (codes "COMMIT")) c.in_ok-put_line.ensures
+    last-part c.put_line-2.result c.put_line-2.ensures.ok (λ last.
+    both-parts old begun ended (line (codes "BEGIN")) (own ++ line (codes "COMMIT")) c.in_ok-put_line.ensures.ok
     (both-parts begun stated ended own (line (codes "COMMIT")) c.in_ok-put_statements.ensures last)
     ∙ ap (λ (text : List ℕ). old ++ text) (sym parts))

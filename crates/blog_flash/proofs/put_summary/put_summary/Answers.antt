@@ -20,6 +20,6 @@ returns g c =
     let begun : List ℕ = c.put_total.new.out.items in
     let stated : List ℕ = c.put_total-2.new.out.items in
     let counted : List ℕ = c.put_counts.new.out.items in
-    both-parts [] begun counted first (second ++ counts) (c.in_ok-put_total.ensures ∙ ap (λ (items : List ℕ). items ++ first) c.new-out.ensures.items)
-    (both-parts begun stated counted second counts c.in_ok-put_total-2.ensures c.in_ok-put_counts.ensures)
+    both-parts [] begun counted first (second ++ counts) (c.in_ok-put_total.ensures.ok ∙ ap (λ (items : List ℕ). items ++ first) c.new-out.ensures.items)
+    (both-parts begun stated counted second counts c.in_ok-put_total-2.ensures.ok c.in_ok-put_counts.ensures.ok)
     ∙ sym (summary-parts bytes sel c.transactions.result c.all_statements.result c.transactions.ensures c.all_statements.ensures)
