@@ -8,6 +8,8 @@ mod calls;
 #[cfg(test)]
 mod damage_tests;
 #[cfg(test)]
+mod event_refusal_tests;
+#[cfg(test)]
 mod fault_tests;
 #[cfg(test)]
 mod group_tests;
@@ -21,6 +23,8 @@ mod log_tests;
 mod logs;
 #[cfg(test)]
 mod normal_form_tests;
+#[cfg(test)]
+mod printed_logs;
 #[cfg(test)]
 mod refusal_tests;
 #[cfg(test)]
