@@ -1,5 +1,6 @@
 #!/bin/sh
 # Undoes a log that a MySQL server wrote, shows its events before and after, and undoes the undoing.
+# Then tries to undo the log without its last byte, which is refused.
 # Words: the program, the log, and the file for the new log.
 set -eu
 program=$1 log=$2 undo=$3
@@ -33,3 +34,19 @@ if cmp -s "$undo" "$undo.normal"; then
 fi
 echo "Both are the same, byte for byte."
 rm -f "$undo.twice" "$undo.normal"
+
+# the log without its last byte
+cut=$undo.cut
+head -c "$(($(wc -c < "$log") - 1))" "$log" > "$cut"
+status=0
+echo
+echo "\$ $program -B $cut     (the log without its last byte)"
+"$program" -B "$cut" > "$cut.output" 2> "$cut.errors" || status=$?
+cat "$cut.errors"
+if [ "$status" -ne 1 ] || [ -s "$cut.output" ] || [ "$(wc -l < "$cut.errors")" -ne 1 ] \
+    || ! grep -q '^flashback: ' "$cut.errors"; then
+    echo "The demo failed: a log that is refused should write nothing but one line that says why." >&2
+    exit 1
+fi
+echo "Nothing is written, and the exit status is 1."
+rm -f "$cut" "$cut.output" "$cut.errors"

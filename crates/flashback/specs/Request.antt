@@ -1,15 +1,25 @@
 -- What a run is asked to do, by the values of the options.
-use Rattle.std.specs.Prelude.{◌≡◌, ◌⊎◌, ℕ, ◌<◌, ◌^◌, List, [], ⊤, Option, Some, None, Result, Ok, Err, codes, option_map, unwrap_or}
+use Rattle.std.specs.Prelude.{◌≡◌, ◌⊎◌, ℕ, ◌<◌, ◌^◌, Bool, true, false, List, [], ⊤, Option, Some, None, Result, Ok, Err, codes, option_map, unwrap_or}
+use Rattle.std.specs.Option.{option_map_or}
+use Rattle.std.specs.Str.{bytes_eq}
 use Rattle.std.specs.Str.Parse.{IsNumeral, digits_value}
-use Rattle.clap.specs.Words.{first_value, one_text}
+use Rattle.clap.specs.Words.{first_value, found_of, kind_of, one_text}
+use Rattle.clap.specs.declared.error.Error.{Error}
 use Rattle.clap.specs.declared.error.kind.ErrorKind.{ErrorKind}
 use Rattle.clap.specs.declared.error.kind.ErrorKind.TheVariants.{DisplayHelp, DisplayVersion}
+use Rattle.clap.specs.declared.parser.matches.ArgMatches.{ArgMatches}
 use Rattle.clap.specs.declared.parser.matches.Found.{Found}
 use Rattle.blog_flash.specs.declared.modes.Mode.{Mode}
 use Rattle.blog_flash.specs.declared.modes.Mode.TheVariants.{Flashback, Forward, FlashbackSql, ForwardSql, Summary}
+use Rattle.flashback.specs.declared.words.Asked.{Asked}
+use Rattle.flashback.specs.declared.words.Asked.TheVariants.{Help, Run}
+use Rattle.flashback.specs.declared.words.ModeFault.{ModeFault}
+use Rattle.flashback.specs.declared.words.ModeFault.TheVariants.{NotOneMode, SqlOfSummary}
 use Rattle.flashback.specs.declared.words.Task.{Task}
 use Rattle.flashback.specs.declared.words.WordsFault.{WordsFault}
-use Rattle.flashback.specs.declared.words.WordsFault.TheVariants.{Wrong, NotOneMode, SqlOfSummary, NotText, OutOfMemory}
+use Rattle.flashback.specs.declared.words.WordsFault.TheVariants.{Wrong, Mode as NoMode, NotText, OutOfMemory}
+
+-- ---- positions
 
 -- a position: decimal digits and nothing else, below 2^32
 abbrev pub IsPosition : List ℕ → Type 0
@@ -20,38 +30,44 @@ abbrev pub IsPositionOf : Option (List ℕ) → Option ℕ → Type 0
 IsPositionOf None position = position ≡ None
 IsPositionOf (Some word) position = IsPosition word × (position ≡ Some (digits_value 10 word))
 
+-- an option's value means no position
+abbrev pub IsWrongPosition : Option (List ℕ) → Type 0
+IsWrongPosition None = ⊥
+IsWrongPosition (Some word) = ¬ (IsPosition word)
+
 -- why an option has no position: its value means none, or memory was refused
-abbrev pub RefusesPosition : Option (List ℕ) → WordsFault → Type 0
-RefusesPosition value (Wrong text) = (word : List ℕ) × (value ≡ Some word) × ¬ (IsPosition word)
-RefusesPosition value NotOneMode = ⊥
-RefusesPosition value SqlOfSummary = ⊥
+abbrev pub RefusesPosition : {A : Type 0} → Option (List ℕ) → WordsFault A → Type 0
+RefusesPosition value (Wrong text) = IsWrongPosition value
+RefusesPosition value (NoMode fault) = ⊥
 RefusesPosition value NotText = ⊥
 RefusesPosition value OutOfMemory = ⊤
 
+-- ---- modes
+
 -- a flag is among the words
-abbrev pub IsGiven : Found → List ℕ → Type 0
-IsGiven found flag = one_text found flag ≡ Some (codes "true")
+abbrev pub is_given : Found → List ℕ → Bool
+is_given found flag = option_map_or (λ text. bytes_eq text (codes "true")) (one_text found flag) false
 
--- a flag isn't
-abbrev pub IsMissing : Found → List ℕ → Type 0
-IsMissing found flag = one_text found flag ≡ Some (codes "false")
+-- the mode by the flags of the undoing log, the log of the changes, the summary and pseudo-SQL: that of exactly one of the first
+-- three, as pseudo-SQL where the last is there too; a summary has no such form
+abbrev pub mode_of : Bool → Bool → Bool → Bool → Result Mode ModeFault
+mode_of true false false false = Ok Flashback
+mode_of true false false true = Ok FlashbackSql
+mode_of false true false false = Ok Forward
+mode_of false true false true = Ok ForwardSql
+mode_of false false true false = Ok Summary
+mode_of false false true true = Err SqlOfSummary
+mode_of _ _ _ _ = Err NotOneMode
 
--- the mode of exactly one of three flags, as pseudo-SQL where that flag is there too; a summary has no such form
-pub record IsOnlyMode (found : Found) (chosen : Result Mode WordsFault) : Type 0 where
-  pub flashback : IsGiven found (codes "flashback") → IsMissing found (codes "forward") → IsMissing found (codes "summary") → IsMissing found (codes "sql") → chosen ≡ Ok Flashback
-  pub flashback_sql : IsGiven found (codes "flashback") → IsMissing found (codes "forward") → IsMissing found (codes "summary") → IsGiven found (codes "sql") → chosen ≡ Ok FlashbackSql
-  pub forward : IsMissing found (codes "flashback") → IsGiven found (codes "forward") → IsMissing found (codes "summary") → IsMissing found (codes "sql") → chosen ≡ Ok Forward
-  pub forward_sql : IsMissing found (codes "flashback") → IsGiven found (codes "forward") → IsMissing found (codes "summary") → IsGiven found (codes "sql") → chosen ≡ Ok ForwardSql
-  pub summary : IsMissing found (codes "flashback") → IsMissing found (codes "forward") → IsGiven found (codes "summary") → IsMissing found (codes "sql") → chosen ≡ Ok Summary
-  pub summary_sql : IsMissing found (codes "flashback") → IsMissing found (codes "forward") → IsGiven found (codes "summary") → IsGiven found (codes "sql") → chosen ≡ Err SqlOfSummary
-  pub none : IsMissing found (codes "flashback") → IsMissing found (codes "forward") → IsMissing found (codes "summary") → chosen ≡ Err NotOneMode
-  pub flashback_and_forward : IsGiven found (codes "flashback") → IsGiven found (codes "forward") → chosen ≡ Err NotOneMode
-  pub flashback_and_summary : IsGiven found (codes "flashback") → IsGiven found (codes "summary") → chosen ≡ Err NotOneMode
-  pub forward_and_summary : IsGiven found (codes "forward") → IsGiven found (codes "summary") → chosen ≡ Err NotOneMode
+-- the mode that is asked for
+abbrev pub asked_mode : Found → Result Mode ModeFault
+asked_mode found = mode_of (is_given found (codes "flashback")) (is_given found (codes "forward")) (is_given found (codes "summary")) (is_given found (codes "sql"))
+
+-- ---- runs
 
 -- each part of the run is the value of its option; the start is 4 without one
 pub record IsAsked (found : Found) (task : Task) : Type 0 where
-  pub mode : IsOnlyMode found (Ok task.mode)
+  pub mode : asked_mode found ≡ Ok task.mode
   pub start : (position : Option ℕ) × IsPositionOf (first_value found (codes "start-position")) position × (task.selection.start ≡ unwrap_or position 4)
   pub stop : IsPositionOf (first_value found (codes "stop-position")) task.selection.stop
   pub database : option_map (λ name. name.now) task.selection.database ≡ first_value found (codes "database")
@@ -59,6 +75,28 @@ pub record IsAsked (found : Found) (task : Task) : Type 0 where
   pub result_file : option_map (λ path. path.now) task.result_file ≡ first_value found (codes "result-file")
   pub log : task.log.now ≡ unwrap_or (first_value found (codes "LOG")) []
 
--- the parser's answer is the help, or the version
+-- why no run is asked for: a position is wrong, the flags choose no mode, or memory was refused
+abbrev pub RefusesRun : {A : Type 0} → Found → WordsFault A → Type 0
+RefusesRun found (Wrong text) = IsWrongPosition (first_value found (codes "start-position")) ⊎ IsWrongPosition (first_value found (codes "stop-position"))
+RefusesRun found (NoMode fault) = asked_mode found ≡ Err fault
+RefusesRun found NotText = ⊥
+RefusesRun found OutOfMemory = ⊤
+
+-- ---- the parser's answer
+
+-- it is the help, or the version
 abbrev pub AsksForText : ErrorKind → Type 0
 AsksForText kind = (kind ≡ DisplayHelp) ⊎ (kind ≡ DisplayVersion)
+
+-- what is asked for by it: the run by what it found, a text where that is its answer, and else the words are wrong or
+-- memory was refused
+abbrev pub IsRead : {A : Type 0} → Result ArgMatches Error → Result (Asked A) (WordsFault A) → Type 0
+IsRead (Ok matches) (Ok (Run task)) = IsAsked (found_of matches) task
+IsRead (Ok matches) (Ok (Help text)) = ⊥
+IsRead (Ok matches) (Err fault) = RefusesRun (found_of matches) fault
+IsRead (Err error) (Ok (Run task)) = ⊥
+IsRead (Err error) (Ok (Help text)) = AsksForText (kind_of error)
+IsRead (Err error) (Err (Wrong text)) = ¬ (AsksForText (kind_of error))
+IsRead (Err error) (Err (NoMode fault)) = ⊥
+IsRead (Err error) (Err NotText) = ⊥
+IsRead (Err error) (Err OutOfMemory) = ⊤

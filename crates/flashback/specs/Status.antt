@@ -2,13 +2,12 @@
 use Rattle.std.specs.Prelude.{ℕ}
 use Rattle.flashback.specs.declared.commands.Failure.{Failure}
 use Rattle.flashback.specs.declared.commands.Failure.TheVariants.{Words, NoLog, NoResultFile, Run}
-use Rattle.flashback.specs.declared.words.WordsFault.TheVariants.{Wrong, NotOneMode, SqlOfSummary, NotText, OutOfMemory}
+use Rattle.flashback.specs.declared.words.WordsFault.TheVariants.{Wrong, Mode, NotText, OutOfMemory}
 
 -- 2 where the words are wrong, else 1
-abbrev pub status_of : Failure → ℕ
+abbrev pub status_of : {A : Type 0} → Failure A → ℕ
 status_of (Words (Wrong text)) = 2
-status_of (Words NotOneMode) = 2
-status_of (Words SqlOfSummary) = 2
+status_of (Words (Mode fault)) = 2
 status_of (Words NotText) = 2
 status_of (Words OutOfMemory) = 1
 status_of NoLog = 1

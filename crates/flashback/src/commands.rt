@@ -1,22 +1,27 @@
 //! One run of the program, from its words to its exit status.
 
-ghost use Rattle.std.specs.Prelude.{◌≡◌, ◌≤◌, IfErr, IsErr, IsSome, OnErr, false};
-ghost use Rattle.blog_flash.specs.Watched.{has_failed};
+ghost use Rattle.std.specs.Prelude.{◌≡◌, ◌≤◌, ◌||◌, IfErr, IsErr, IsOk, IsSome, OnErr, false, true};
+ghost use Rattle.std.specs.Process.{exit_status};
+ghost use Rattle.blog_trans.specs.Selection.{selection_of};
+ghost use Rattle.blog_flash.specs.Runs.{Prepares, Runs, ends_before_writing, is_write_fault};
+ghost use Rattle.blog_flash.specs.Watched.{device_of, has_failed};
 ghost use Rattle.flashback.specs.Status.{status_of};
 ghost use Rattle.flashback.specs.declared.commands.Failure.TheVariants.{Words, Run};
 
 use crate::words::{Asked, Task, WordsFault, read_words};
 use blog_flash::{RunFault, Watched, prepare, put, run};
+use std::alloc::Allocator;
 use std::fs::File;
 use std::io;
 use std::io::{Read, Write};
+use std::process::ExitCode;
 use std::rt::Files;
 
 /// Why the program didn't do what its words ask for.
-#[derive(Debug, Drop)]
-pub enum Failure {
+#[derive(Drop)]
+pub enum Failure<A: Allocator> {
     /// The words ask for nothing.
-    Words(WordsFault),
+    Words(WordsFault<A>),
     /// The log can't be opened.
     NoLog,
     /// The result file can't be created.
@@ -25,7 +30,7 @@ pub enum Failure {
     Run(RunFault),
 }
 
-impl Failure {
+impl<A: Allocator> Failure<A> {
     /// The exit status: 2 where the words are wrong, else 1.
     pub fn status(&self) -> u8
         ensures { result ≡ status_of self.now }
@@ -38,18 +43,29 @@ impl Failure {
     }
 }
 
-impl From<WordsFault> for Failure {
+impl<A: Allocator> From<WordsFault<A>> for Failure<A> {
     ghost from_gives = { λ fault failure. failure ≡ Words fault };
 
-    fn from(fault: WordsFault) -> Failure {
+    fn from(fault: WordsFault<A>) -> Failure<A> {
         Failure::Words(fault)
     }
 }
 
-impl From<RunFault> for Failure {
+/// The system's answer where it gives no words.
+impl<A: Allocator> From<io::Error> for Failure<A> {
+    fn from(error: io::Error) -> Failure<A> {
+        Failure::Words(if error.kind() == io::ErrorKind::OutOfMemory {
+            WordsFault::OutOfMemory
+        } else {
+            WordsFault::NotText
+        })
+    }
+}
+
+impl<A: Allocator> From<RunFault> for Failure<A> {
     ghost from_gives = { λ fault failure. failure ≡ Run fault };
 
-    fn from(fault: RunFault) -> Failure {
+    fn from(fault: RunFault) -> Failure<A> {
         Failure::Run(fault)
     }
 }
@@ -57,54 +73,72 @@ impl From<RunFault> for Failure {
 /// Does what the words ask for, and answers the exit status: 0 where it is done, 1 where the log is
 /// refused or something failed, 2 where the words are wrong. `words` is the system's answer, whose
 /// first word is the program's name. Where the status isn't 0 the reason is printed to `errors`.
-pub fn command<R: Files + AllocGlobal, O: Write, E: Write>(
+///
+/// Memory is taken from `alloc`; the parser of the words takes it from the system.
+pub fn command<R: Files + AllocGlobal, A: Allocator + Copy, O: Write, E: Write>(
     rt: &R,
+    alloc: A,
     words: io::Result<Vec<String>>,
     output: &mut Watched<O>,
     errors: &mut Watched<E>,
-) -> u8
-    ensures status { result ≤ 2 }
+) -> ExitCode
+    ensures status { exit_status result ≤ 2 }
 
     // Nothing is printed where all is done, and nothing is written where the words are wrong or
     // aren't there.
-    ensures quiet { result ≡ 0 → errors.new ≡ errors.old }
-    ensures unwritten { result ≡ 2 → output.new ≡ output.old }
-    ensures unread { IsErr words → (1 ≤ result) × (output.new ≡ output.old) }
+    ensures quiet { exit_status result ≡ 0 → errors.new ≡ errors.old }
+    ensures unwritten { exit_status result ≡ 2 → output.new ≡ output.old }
+    ensures unread { IsErr words → (1 ≤ exit_status result) × (output.new ≡ output.old) }
 
     // A run that fails where the output doesn't has written nothing.
-    ensures refused { 1 ≤ result → has_failed output.new ≡ false → output.new ≡ output.old }
+    ensures refused { 1 ≤ exit_status result → has_failed output.new ≡ false
+        → output.new ≡ output.old }
 {
-    match carry_out(rt, words, output) {
-        Ok(()) => 0,
+    let outcome = carry_out(rt, alloc, words, output);
+    report(outcome, errors)
+}
+
+/// Prints a failure, and answers the exit status.
+fn report<A: Allocator, E: Write>(
+    outcome: Result<(), Failure<A>>,
+    errors: &mut Watched<E>,
+) -> ExitCode
+    ensures done { IsOk outcome → (exit_status result ≡ 0) × (errors.new ≡ errors.old) }
+    ensures failed { IfErr outcome (λ failure. exit_status result ≡ status_of failure) }
+{
+    match outcome {
+        Ok(()) => ExitCode::from(0),
         Err(failure) => {
             failure.print(errors);
-            failure.status()
+            ExitCode::from(failure.status())
         }
     }
 }
 
-fn carry_out<R: Files + AllocGlobal, O: Write>(
+fn carry_out<R: Files + AllocGlobal, A: Allocator + Copy, O: Write>(
     rt: &R,
+    alloc: A,
     words: io::Result<Vec<String>>,
     output: &mut Watched<O>,
-) -> Result<(), Failure>
+) -> Result<(), Failure<A>>
     ensures unwritten { IfErr result (λ f. status_of f ≡ 2 → output.new ≡ output.old) }
     ensures unread { IsErr words → IsErr result × (output.new ≡ output.old) }
     ensures refused { OnErr result (has_failed output.new ≡ false → output.new ≡ output.old) }
 {
-    let words = words.map_err(WordsFault::from)?;
-    match read_words(rt.alloc(), words.as_slice())? {
+    let words = words?;
+    match read_words(rt.alloc(), alloc, words.as_slice())? {
         Asked::Help(text) => put(output, text.as_bytes())?,
-        Asked::Run(task) => run_task(rt, &task, output)?,
+        Asked::Run(task) => run_task(rt, alloc, &task, output)?,
     }
     Ok(())
 }
 
-fn run_task<R: Files + AllocGlobal, O: Write>(
+fn run_task<R: Files, A: Allocator + Copy, O: Write>(
     rt: &R,
+    alloc: A,
     task: &Task<'_>,
     output: &mut Watched<O>,
-) -> Result<(), Failure>
+) -> Result<(), Failure<A>>
     ensures status { IfErr result (λ f. status_of f ≡ 1) }
     ensures refused { OnErr result (has_failed output.new ≡ false → output.new ≡ output.old) }
     ensures aside { IsSome task.now.result_file → output.new ≡ output.old }
@@ -114,25 +148,54 @@ fn run_task<R: Files + AllocGlobal, O: Write>(
     };
     let mut reader = Watched::new(log);
     match task.result_file {
-        None => run(rt.alloc(), &mut reader, task.mode, &task.selection, output)?,
-        Some(path) => run_to_file(rt, &mut reader, task, path)?,
+        None => run_to_output(alloc, &mut reader, task, output)?,
+        Some(path) => run_to_file(rt, alloc, &mut reader, task, path)?,
     }
     Ok(())
 }
 
+/// Runs the task over the log that is read, to standard output.
+fn run_to_output<A: Allocator + Copy, D: Read, O: Write>(
+    alloc: A,
+    reader: &mut Watched<D>,
+    task: &Task<'_>,
+    output: &mut Watched<O>,
+) -> Result<(), RunFault>
+    ensures runs { Runs (D.remaining (device_of reader.old)) (D.remaining (device_of reader.new))
+        task.now.mode (selection_of task.now.selection)
+        (O.contents (device_of output.old)) (O.contents (device_of output.new)) result }
+    ensures untouched { ends_before_writing result ≡ true → output.new ≡ output.old }
+    ensures mark { has_failed output.new ≡ (has_failed output.old || is_write_fault result) }
+{
+    run(alloc, reader, task.mode, &task.selection, output)
+}
+
 /// The same, to the file of this path. It is created or emptied once the log is accepted.
-fn run_to_file<R: Files + AllocGlobal, D: Read>(
+fn run_to_file<R: Files, A: Allocator + Copy, D: Read>(
     rt: &R,
+    alloc: A,
     reader: &mut Watched<D>,
     task: &Task<'_>,
     path: &str,
-) -> Result<(), Failure>
+) -> Result<(), Failure<A>>
     ensures status { IfErr result (λ f. status_of f ≡ 1) }
 {
-    let text = prepare(rt.alloc(), reader, task.mode, &task.selection)?;
+    let text = text_for_file(alloc, reader, task)?;
     let Ok(file) = File::create(rt, path) else {
         return Err(Failure::NoResultFile);
     };
     put(&mut Watched::new(file), text.as_slice())?;
     Ok(())
+}
+
+/// What the task makes of the log that is read.
+fn text_for_file<A: Allocator + Copy, D: Read>(
+    alloc: A,
+    reader: &mut Watched<D>,
+    task: &Task<'_>,
+) -> Result<Vec<u8, A>, RunFault>
+    ensures prepares { Prepares (D.remaining (device_of reader.old)) (D.remaining (device_of reader.new))
+        task.now.mode (selection_of task.now.selection) result }
+{
+    prepare(alloc, reader, task.mode, &task.selection)
 }

@@ -1,8 +1,9 @@
 //! The lines on standard error.
 
 use crate::commands::Failure;
-use crate::words::WordsFault;
+use crate::words::{ModeFault, WordsFault};
 use blog_flash::{Fault, RunFault, Watched, put};
+use std::alloc::Allocator;
 use std::fmt;
 use std::io::{Cursor, Write};
 
@@ -15,7 +16,7 @@ const SQL_OF_SUMMARY: &str = "--sql goes with -B or --forward";
 /// More bytes than the longest line has, with its end.
 const LINE_ROOM: usize = 64;
 
-impl Failure {
+impl<A: Allocator> Failure<A> {
     /// Prints the failure. What can't be printed is dropped.
     pub fn print<E: Write>(&self, errors: &mut Watched<E>) {
         let _ = match self {
@@ -25,12 +26,11 @@ impl Failure {
     }
 }
 
-impl fmt::Display for Failure {
+impl<A: Allocator> fmt::Display for Failure<A> {
     fn fmt<W: fmt::Write>(&self, f: &mut fmt::Formatter<W>) -> fmt::Result {
         match self {
             Failure::Words(WordsFault::Wrong(text)) => write!(f, "{text}"),
-            Failure::Words(WordsFault::NotOneMode) => f.write_str(CHOOSE_ONE_MODE),
-            Failure::Words(WordsFault::SqlOfSummary) => f.write_str(SQL_OF_SUMMARY),
+            Failure::Words(WordsFault::Mode(fault)) => write!(f, "{fault}"),
             Failure::Words(WordsFault::NotText) => f.write_str("the words are not UTF-8"),
             Failure::Words(WordsFault::OutOfMemory) => write!(f, "{}", Fault::OutOfMemory),
             Failure::NoLog => f.write_str("cannot open the log"),
@@ -42,8 +42,20 @@ impl fmt::Display for Failure {
     }
 }
 
+impl fmt::Display for ModeFault {
+    fn fmt<W: fmt::Write>(&self, f: &mut fmt::Formatter<W>) -> fmt::Result {
+        f.write_str(match self {
+            ModeFault::NotOneMode => CHOOSE_ONE_MODE,
+            ModeFault::SqlOfSummary => SQL_OF_SUMMARY,
+        })
+    }
+}
+
 /// Writes the failure's line at once, and without memory.
-fn put_line<E: Write>(errors: &mut Watched<E>, failure: &Failure) -> Result<(), RunFault> {
+fn put_line<A: Allocator, E: Write>(
+    errors: &mut Watched<E>,
+    failure: &Failure<A>,
+) -> Result<(), RunFault> {
     let mut line = Cursor::new([0u8; LINE_ROOM]);
     if writeln!(line, "flashback: {failure}").is_err() {
         return Ok(());

@@ -17,5 +17,5 @@ fn main(rt: HostRuntime) -> ExitCode {
     let words = env::args(&rt).and_then(|words| Ok(words.collect(rt.alloc())?));
     let mut output = Watched::new(rt.stdout());
     let mut errors = Watched::new(rt.stderr());
-    ExitCode::from(command(&rt, words, &mut output, &mut errors))
+    command(&rt, rt.alloc(), words, &mut output, &mut errors)
 }

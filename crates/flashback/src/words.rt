@@ -1,10 +1,10 @@
 //! Which words mean what.
 
-ghost use Rattle.std.specs.Prelude.{◌≡◌, ◌≢◌, Err, IfErr, IfOk, SomeIff};
+ghost use Rattle.std.specs.Prelude.{◌≡◌, Err, IfErr, IfOk, SomeIff};
 ghost use Rattle.std.specs.Str.Parse.{digits_value};
 ghost use Rattle.clap.specs.Words.{first_value, found_of, kind_of};
-ghost use Rattle.flashback.specs.Request.{AsksForText, IsAsked, IsOnlyMode, IsPosition, IsPositionOf, RefusesPosition};
-ghost use Rattle.flashback.specs.declared.words.WordsFault.TheVariants.{NotOneMode, OutOfMemory, SqlOfSummary};
+ghost use Rattle.flashback.specs.Request.{IsAsked, IsPosition, IsPositionOf, IsRead, RefusesPosition, RefusesRun, asked_mode, is_given};
+ghost use Rattle.flashback.specs.declared.words.WordsFault.TheVariants.{OutOfMemory};
 
 use crate::options::{
     DATABASE, FLASHBACK, FORWARD, LOG, RESULT_FILE, SQL, START, STOP, SUMMARY, TABLE, all_words,
@@ -12,14 +12,13 @@ use crate::options::{
 use blog_flash::{Mode, Selection};
 use clap::error::ErrorKind;
 use clap::{ArgMatches, Command, Error};
-use std::alloc::{AllocError, Global};
-use std::io;
+use std::alloc::{AllocError, Allocator, Global};
 
 /// What the words ask for.
-#[derive(Debug, Drop)]
-pub enum Asked<'w> {
+#[derive(Drop)]
+pub enum Asked<'w, A: Allocator> {
     /// The text of the help.
-    Help(String),
+    Help(String<A>),
     /// A run over a log.
     Run(Task<'w>),
 }
@@ -37,79 +36,108 @@ pub struct Task<'w> {
     pub result_file: Option<&'w str>,
 }
 
-/// Why the words ask for nothing.
-#[derive(Debug, Drop)]
-pub enum WordsFault {
-    /// The words are wrong, as this text tells.
-    Wrong(String),
+/// Why the words choose no mode.
+#[derive(Clone, Copy, Debug)]
+pub enum ModeFault {
     /// None of the words for a mode is there, or several are.
     NotOneMode,
     /// A summary is asked for as pseudo-SQL.
     SqlOfSummary,
+}
+
+/// Why the words ask for nothing.
+#[derive(Drop)]
+pub enum WordsFault<A: Allocator> {
+    /// The words are wrong, as this text tells.
+    Wrong(String<A>),
+    /// They choose no mode.
+    Mode(ModeFault),
     /// A word isn't UTF-8.
     NotText,
     /// A growth was refused.
     OutOfMemory,
 }
 
-impl From<AllocError> for WordsFault {
+impl<A: Allocator> From<ModeFault> for WordsFault<A> {
+    ghost use Rattle.flashback.specs.declared.words.WordsFault.TheVariants.{Mode};
+
+    ghost from_gives = { λ of_mode fault. fault ≡ Mode of_mode };
+
+    fn from(fault: ModeFault) -> WordsFault<A> {
+        WordsFault::Mode(fault)
+    }
+}
+
+impl<A: Allocator> From<AllocError> for WordsFault<A> {
     ghost from_gives = { λ _ fault. fault ≡ OutOfMemory };
 
-    fn from(_error: AllocError) -> WordsFault {
+    fn from(_error: AllocError) -> WordsFault<A> {
         WordsFault::OutOfMemory
     }
 }
 
-/// The system's answer where it gives no words.
-impl From<io::Error> for WordsFault {
-    fn from(error: io::Error) -> WordsFault {
-        if error.kind() == io::ErrorKind::OutOfMemory {
-            WordsFault::OutOfMemory
-        } else {
-            WordsFault::NotText
-        }
-    }
+/// Answers what the words ask for, of which the first is the program's name. The parser takes its
+/// memory from `global`.
+pub fn read_words<'w, A: Allocator + Copy>(
+    global: Global,
+    alloc: A,
+    words: &'w [String],
+) -> Result<Asked<'w, A>, WordsFault<A>> {
+    let mut command = all_words(global)?;
+    let parsed = command.try_get_matches_from_mut(words);
+    read_parsed(alloc, &mut command, parsed)
 }
 
-/// Answers what the words ask for, of which the first is the program's name.
-pub fn read_words<'w>(alloc: Global, words: &'w [String]) -> Result<Asked<'w>, WordsFault> {
-    let mut command = all_words(alloc)?;
-    match command.try_get_matches_from_mut(words) {
-        Ok(matches) => Ok(Asked::Run(read_task(alloc, &mut command, &matches)?)),
+/// What the parser's answer asks for.
+fn read_parsed<'w, A: Allocator + Copy>(
+    alloc: A,
+    command: &mut Command<'w>,
+    parsed: Result<ArgMatches<'w>, Error>,
+) -> Result<Asked<'w, A>, WordsFault<A>>
+    ensures read { IsRead parsed.entry result }
+{
+    match parsed {
+        Ok(matches) => Ok(Asked::Run(read_task(alloc, command, &matches)?)),
         Err(error) => read_error(alloc, &error),
     }
 }
 
 /// The mode that the words choose, where they choose exactly one, and one that can be pseudo-SQL
 /// where that is asked for.
-fn only_mode(matches: &ArgMatches<'_>) -> Result<Mode, WordsFault>
-    ensures { IsOnlyMode (found_of matches.now) result }
+fn only_mode(matches: &ArgMatches<'_>) -> Result<Mode, ModeFault>
+    ensures { result ≡ asked_mode (found_of matches.now) }
 {
-    let flashback = matches.get_flag(FLASHBACK);
-    let forward = matches.get_flag(FORWARD);
-    let summary = matches.get_flag(SUMMARY);
-    match (flashback, forward, summary, matches.get_flag(SQL)) {
+    let flashback = has_flag(matches, FLASHBACK);
+    let forward = has_flag(matches, FORWARD);
+    let summary = has_flag(matches, SUMMARY);
+    match (flashback, forward, summary, has_flag(matches, SQL)) {
         (true, false, false, false) => Ok(Mode::Flashback),
         (true, false, false, true) => Ok(Mode::FlashbackSql),
         (false, true, false, false) => Ok(Mode::Forward),
         (false, true, false, true) => Ok(Mode::ForwardSql),
         (false, false, true, false) => Ok(Mode::Summary),
-        (false, false, true, true) => Err(WordsFault::SqlOfSummary),
-        _ => Err(WordsFault::NotOneMode),
+        (false, false, true, true) => Err(ModeFault::SqlOfSummary),
+        _ => Err(ModeFault::NotOneMode),
     }
+}
+
+/// Whether this flag is among the words.
+fn has_flag(matches: &ArgMatches<'_>, flag: &str) -> bool
+    ensures { result ≡ is_given (found_of matches.now) flag.now }
+{
+    matches.get_one::<bool>(flag).unwrap_or(false)
 }
 
 /// What a wrong position isn't.
 const POSITION: &str = "a position: decimal digits, 0 to 4294967295";
 
-fn read_task<'w>(
-    alloc: Global,
+fn read_task<'w, A: Allocator + Copy>(
+    alloc: A,
     command: &mut Command<'w>,
     matches: &ArgMatches<'w>,
-) -> Result<Task<'w>, WordsFault>
+) -> Result<Task<'w>, WordsFault<A>>
     ensures asked { IfOk result (IsAsked (found_of matches.now)) }
-    ensures modes { IfErr result (λ e. e ≡ NotOneMode → IsOnlyMode (found_of matches.now) (Err NotOneMode)) }
-    ensures sql { IfErr result (λ e. e ≡ SqlOfSummary → IsOnlyMode (found_of matches.now) (Err SqlOfSummary)) }
+    ensures refused { IfErr result (RefusesRun (found_of matches.now)) }
 {
     let all = Selection::all();
     let selection = Selection {
@@ -128,12 +156,12 @@ fn read_task<'w>(
 }
 
 /// The position that this option has, where it is there. A wrong one is told as the parser would.
-fn read_position<'w>(
-    alloc: Global,
+fn read_position<'w, A: Allocator + Copy>(
+    alloc: A,
     command: &mut Command<'w>,
     matches: &ArgMatches<'w>,
     name: &str,
-) -> Result<Option<u32>, WordsFault>
+) -> Result<Option<u32>, WordsFault<A>>
     ensures found { IfOk result (IsPositionOf (first_value (found_of matches.now) name.now)) }
     ensures wrong { IfErr result (RefusesPosition (first_value (found_of matches.now) name.now)) }
 {
@@ -160,10 +188,9 @@ fn position_of(word: &str) -> Option<u32>
 }
 
 /// What the parser answers in place of matches: the help that was asked for, or what is wrong.
-fn read_error<'w>(alloc: Global, error: &Error) -> Result<Asked<'w>, WordsFault>
+fn read_error<'w, A: Allocator>(alloc: A, error: &Error) -> Result<Asked<'w, A>, WordsFault<A>>
     ensures memory { kind_of error.now ≡ ErrorKind.OutOfMemory → result ≡ Err OutOfMemory }
-    ensures help { IfOk result (λ _. AsksForText (kind_of error.now)) }
-    ensures wrong { IfErr result (λ e. e ≢ OutOfMemory → ¬ (AsksForText (kind_of error.now))) }
+    ensures read { IsRead (Err error.now) result }
 {
     if error.kind() == ErrorKind::OutOfMemory {
         return Err(WordsFault::OutOfMemory);

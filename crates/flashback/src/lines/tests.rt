@@ -3,9 +3,10 @@
 use crate::commands::Failure;
 use crate::words::WordsFault;
 use blog_flash::{Fault, RunFault, Watched};
+use std::alloc::Global;
 use std::test::Fail;
 
-fn printed(rt: &HostRuntime, failure: &Failure) -> Result<String, Fail> {
+fn printed(rt: &HostRuntime, failure: &Failure<Global>) -> Result<String, Fail> {
     let mut errors = Watched::new(Vec::new(rt.alloc()));
     failure.print(&mut errors);
     let text = str::from_utf8(errors.device().as_slice())?;

@@ -1,6 +1,6 @@
 //! What the words ask for.
 
-use super::{Asked, Task, WordsFault, read_words};
+use super::{Asked, ModeFault, Task, WordsFault, read_words};
 use blog_flash::Mode;
 use std::process::Abort;
 use std::test::Fail;
@@ -17,7 +17,7 @@ fn words_of(rt: &HostRuntime, words: &[&str]) -> Result<Vec<String>, Fail> {
 
 /// The run that the words ask for.
 fn task_of<'w>(rt: &(impl Abort + AllocGlobal), words: &'w [String]) -> Task<'w> {
-    match read_words(rt.alloc(), words) {
+    match read_words(rt.alloc(), rt.alloc(), words) {
         Ok(Asked::Run(task)) => task,
         _ => panic!(rt; "the words ask for no run"),
     }
@@ -60,8 +60,8 @@ fn sql_goes_with_two_modes(rt: HostRuntime) -> Result<(), Fail> {
         assert_eq!(rt; task.log, "a.binlog");
     }
     let words = words_of(&rt, &["--summary", "--sql", "a.binlog"])?;
-    let answer = read_words(rt.alloc(), words.as_slice());
-    assert!(rt; matches!(answer, Err(WordsFault::SqlOfSummary)));
+    let answer = read_words(rt.alloc(), rt.alloc(), words.as_slice());
+    assert!(rt; matches!(answer, Err(WordsFault::Mode(ModeFault::SqlOfSummary))));
     Ok(())
 }
 
@@ -169,7 +169,7 @@ fn what_the_parser_refuses_comes_before_the_mode(rt: HostRuntime) -> Result<(), 
     ];
     for given in cases {
         let words = words_of(&rt, given)?;
-        let answer = read_words(rt.alloc(), words.as_slice());
+        let answer = read_words(rt.alloc(), rt.alloc(), words.as_slice());
         assert!(rt; matches!(answer, Err(WordsFault::Wrong(_))));
     }
     Ok(())
