@@ -1,6 +1,9 @@
 //! Runs of the program, over files in the folder for temporary files and writers in memory.
 
+mod both_outputs;
+mod file_names;
 mod logs;
+mod refused_memory;
 mod result_files;
 mod selections;
 mod writers;
@@ -11,7 +14,7 @@ use blog_flash::Watched;
 use logs::{INSERT_ONE_ROW, with_byte};
 use std::alloc::AllocError;
 use std::path::PathBuf;
-use std::process::Abort;
+use std::process::{Abort, ExitCode};
 use std::test::Fail;
 use std::{env, fs, io, process};
 use writers::Broken;
@@ -22,7 +25,7 @@ const ROWS_TYPE: usize = 200;
 /// What a run answered, and what it wrote.
 #[derive(Drop)]
 struct Outcome {
-    status: u8,
+    status: ExitCode,
     output: Watched<Vec<u8>>,
     errors: Watched<Vec<u8>>,
 }
@@ -36,9 +39,16 @@ impl Outcome {
         self.errors.device().as_slice()
     }
 
+    /// Whether the run did what was asked for, wrote this, and printed nothing.
+    fn is_done(&self, output: &[u8]) -> bool {
+        self.status == ExitCode::SUCCESS && self.output() == output && self.errors().is_empty()
+    }
+
     /// Whether the run ended with this status, wrote nothing else, and printed this line.
     fn is_refusal(&self, status: u8, line: &str) -> bool {
-        self.status == status && self.output().is_empty() && self.errors() == line.as_bytes()
+        self.status == ExitCode::from(status)
+            && self.output().is_empty()
+            && self.errors() == line.as_bytes()
     }
 }
 
@@ -55,7 +65,7 @@ fn words_of(rt: &HostRuntime, words: &[&str]) -> Result<Vec<String>, AllocError>
 fn run_given(rt: &HostRuntime, words: io::Result<Vec<String>>) -> Outcome {
     let mut output = Watched::new(Vec::new(rt.alloc()));
     let mut errors = Watched::new(Vec::new(rt.alloc()));
-    let status = command(rt, words, &mut output, &mut errors);
+    let status = command(rt, rt.alloc(), words, &mut output, &mut errors);
     Outcome {
         status,
         output,
@@ -76,11 +86,34 @@ fn path_of(rt: &HostRuntime, name: &str) -> io::Result<PathBuf> {
 
 /// Runs the program with these words over a file of these bytes.
 fn run_log(rt: &HostRuntime, name: &str, log: &[u8], words: &[&str]) -> Result<Outcome, Fail> {
+    run_all(rt, name, log, words_of(rt, words)?)
+}
+
+/// The same, with `-r` and this file.
+fn run_log_to(
+    rt: &HostRuntime,
+    name: &str,
+    log: &[u8],
+    words: &[&str],
+    file: &str,
+) -> Result<Outcome, Fail> {
+    let mut all = words_of(rt, words)?;
+    all.push(String::from_str(rt.alloc(), "-r")?)?;
+    all.push(String::from_str(rt.alloc(), file)?)?;
+    run_all(rt, name, log, all)
+}
+
+/// Runs the program with all of these words over a file of these bytes.
+fn run_all(
+    rt: &HostRuntime,
+    name: &str,
+    log: &[u8],
+    mut words: Vec<String>,
+) -> Result<Outcome, Fail> {
     let path = path_of(rt, name)?;
     fs::write(rt, path.as_path(), log)?;
-    let mut all = words_of(rt, words)?;
-    all.push(String::from_str(rt.alloc(), path.as_str())?)?;
-    let outcome = run_given(rt, Ok(all));
+    words.push(String::from_str(rt.alloc(), path.as_str())?)?;
+    let outcome = run_given(rt, Ok(words));
     fs::remove_file(rt, path.as_path())?;
     Ok(outcome)
 }
@@ -89,9 +122,7 @@ fn run_log(rt: &HostRuntime, name: &str, log: &[u8], words: &[&str]) -> Result<O
 fn undoes_an_insert(rt: HostRuntime) -> Result<(), Fail> {
     let outcome = run_log(&rt, "insert", INSERT_ONE_ROW.as_slice(), &["-B"])?;
     let wanted = with_byte(rt.alloc(), ROWS_TYPE, 0x20)?;
-    assert_eq!(rt; outcome.status, 0);
-    assert_eq!(rt; outcome.output(), wanted.as_slice());
-    assert!(rt; outcome.errors().is_empty());
+    assert!(rt; outcome.is_done(wanted.as_slice()));
     Ok(())
 }
 
@@ -158,7 +189,7 @@ fn check_words(rt: &impl Abort, text: &str, words: &[&str]) {
 #[test]
 fn helps(rt: HostRuntime) -> Result<(), Fail> {
     let outcome = run_words(&rt, &["--help"])?;
-    assert_eq!(rt; outcome.status, 0);
+    assert_eq!(rt; outcome.status, ExitCode::SUCCESS);
     assert!(rt; outcome.errors().is_empty());
     let text = str::from_utf8(outcome.output())?;
     assert!(rt; text.contains("Usage: flashback (-B | --forward | --summary) [--sql] [-j POS]"));
@@ -176,7 +207,8 @@ fn a_failed_write_is_told(rt: HostRuntime) -> Result<(), Fail> {
     for words in [["-B", path.as_str()], ["--help", "-B"]] {
         let mut output = Watched::new(Broken::new());
         let words = words_of(&rt, words.as_slice())?;
-        assert_eq!(rt; command(&rt, Ok(words), &mut output, &mut errors), 1);
+        let status = command(&rt, rt.alloc(), Ok(words), &mut output, &mut errors);
+        assert_eq!(rt; status, ExitCode::FAILURE);
         assert_eq!(rt; output.device().writes(), 1);
     }
     fs::remove_file(&rt, path.as_path())?;
@@ -191,7 +223,8 @@ fn a_line_that_cannot_be_printed_is_dropped(rt: HostRuntime) -> Result<(), Fail>
         let mut output = Watched::new(Vec::new(rt.alloc()));
         let mut errors = Watched::new(Broken::new());
         let words = words_of(&rt, words.as_slice())?;
-        assert_eq!(rt; command(&rt, Ok(words), &mut output, &mut errors), status);
+        let answer = command(&rt, rt.alloc(), Ok(words), &mut output, &mut errors);
+        assert_eq!(rt; answer, ExitCode::from(status));
         assert!(rt; output.device().is_empty());
         assert_eq!(rt; errors.device().writes(), 1);
     }

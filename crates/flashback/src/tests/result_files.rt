@@ -2,6 +2,7 @@
 
 use super::logs::{INSERT_ONE_ROW, with_byte};
 use super::{ROWS_TYPE, path_of, run_log, run_words};
+use std::process::ExitCode;
 use std::test::Fail;
 use std::{env, fs};
 
@@ -21,7 +22,7 @@ fn an_accepted_log_fills_the_file(rt: HostRuntime) -> Result<(), Fail> {
             &["-B", "-r", result.as_str()],
         )?;
         let filled = fs::read(&rt, result.as_path())?;
-        assert_eq!(rt; outcome.status, 0);
+        assert_eq!(rt; outcome.status, ExitCode::SUCCESS);
         assert!(rt; outcome.output().is_empty());
         assert!(rt; outcome.errors().is_empty());
         assert_eq!(rt; filled.as_slice(), wanted.as_slice());
@@ -37,7 +38,7 @@ fn the_log_may_be_the_file(rt: HostRuntime) -> Result<(), Fail> {
     let outcome = run_words(&rt, &["-B", "-r", path.as_str(), path.as_str()])?;
     let undone = fs::read(&rt, path.as_path())?;
     fs::remove_file(&rt, path.as_path())?;
-    assert_eq!(rt; outcome.status, 0);
+    assert_eq!(rt; outcome.status, ExitCode::SUCCESS);
     assert!(rt; outcome.output().is_empty());
     assert_eq!(rt;
         undone.as_slice(),

@@ -1,5 +1,6 @@
 //! Parts of a log, and other logs than one inserting transaction.
 
+use super::both_outputs::check_both_outputs;
 use super::logs::{DROP_TABLE, INSERT_ONE_ROW, with_byte};
 use super::{ROWS_TYPE, path_of, run_log};
 use std::fs;
@@ -40,10 +41,7 @@ fn each_selection_has_its_output(rt: HostRuntime) -> Result<(), Fail> {
         (&["-B", "-j", "160", "--stop-position", "100"], nothing),
     ];
     for (words, wanted) in cases {
-        let outcome = run_log(&rt, "selected", INSERT_ONE_ROW.as_slice(), words)?;
-        assert_eq!(rt; outcome.status, 0, "{words:?}");
-        assert_eq!(rt; outcome.output(), wanted, "{words:?}");
-        assert!(rt; outcome.errors().is_empty(), "{words:?}");
+        check_both_outputs(&rt, "selected", INSERT_ONE_ROW.as_slice(), words, wanted)?;
     }
     Ok(())
 }
@@ -97,18 +95,9 @@ fn a_stop_leaves_out_what_cannot_be_undone(rt: HostRuntime) -> Result<(), Fail> 
     log.extend_from_slice(DROP_TABLE.as_slice())?;
     let outcome = run_log(&rt, "drop", log.as_slice(), &["-B"])?;
     assert!(rt; outcome.is_refusal(1, "flashback: Statement at 259\n"));
-    let outcome = run_log(
-        &rt,
-        "drop",
-        log.as_slice(),
-        &["-B", "--stop-position", "259"],
-    )?;
-    assert_eq!(rt; outcome.status, 0);
-    assert_eq!(rt;
-        outcome.output(),
-        with_byte(rt.alloc(), ROWS_TYPE, 0x20)?.as_slice()
-    );
-    Ok(())
+    let words = ["-B", "--stop-position", "259"];
+    let undone = with_byte(rt.alloc(), ROWS_TYPE, 0x20)?;
+    check_both_outputs(&rt, "drop", log.as_slice(), &words, undone.as_slice())
 }
 
 #[test]
@@ -116,11 +105,6 @@ fn other_tables_are_not_judged(rt: HostRuntime) -> Result<(), Fail> {
     let log = with_byte(rt.alloc(), COLUMN_TYPE, 0x06)?;
     let outcome = run_log(&rt, "type", log.as_slice(), &["-B"])?;
     assert!(rt; outcome.is_refusal(1, "flashback: UnknownType at 159\n"));
-    let outcome = run_log(&rt, "type", log.as_slice(), &["-B", "-d", "e"])?;
-    assert_eq!(rt; outcome.status, 0);
-    assert_eq!(rt;
-        outcome.output(),
-        log.as_slice().get(..FIRST).unwrap_or(&[])
-    );
-    Ok(())
+    let nothing = log.as_slice().get(..FIRST).unwrap_or(&[]);
+    check_both_outputs(&rt, "type", log.as_slice(), &["-B", "-d", "e"], nothing)
 }

@@ -2,7 +2,7 @@
 
 use super::{Outcome, run_given, run_words};
 use std::io;
-use std::process::Abort;
+use std::process::{Abort, ExitCode};
 use std::test::Fail;
 
 const CHOOSE_ONE: &str = "flashback: choose one of -B, --forward, --summary\n";
@@ -10,8 +10,8 @@ const CHOOSE_ONE: &str = "flashback: choose one of -B, --forward, --summary\n";
 const SQL_OF_SUMMARY: &str = "flashback: --sql goes with -B or --forward\n";
 
 /// Nothing but the words was wrong: some text was printed, and nothing was written.
-fn assert_wrong_words(rt: &impl Abort, outcome: &Outcome) {
-    assert_eq!(rt; outcome.status, 2);
+pub fn assert_wrong_words(rt: &impl Abort, outcome: &Outcome) {
+    assert_eq!(rt; outcome.status, ExitCode::from(2));
     assert!(rt; outcome.output().is_empty());
     assert!(rt; !outcome.errors().is_empty());
 }
