@@ -9,9 +9,7 @@ pub mod Passing
 pub mod Spans
 pub mod Regrouping
 pub mod Sizes
-pub mod Apart
 pub mod Totals
-pub mod Shown
 pub mod Agreeing
 pub mod Kept
 pub mod Sound

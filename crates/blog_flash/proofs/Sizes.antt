@@ -1,7 +1,7 @@
 -- How long the events of groups are together, as they are written: reversing groups changes nothing of it.
-use Rattle.std.proofs.Common.{◌≡◌, ℕ, ◌+◌, ◌≤◌, Bool, true, false, List, [], ◌∷◌, ◌++◌, length, map, reverse, filter, Option, Some, None, refl, sym, ap, ap₂, ◌∙◌, arith, length-append}
+use Rattle.std.proofs.Common.{◌≡◌, ℕ, ◌+◌, Bool, true, false, List, [], ◌∷◌, ◌++◌, length, map, reverse, refl, sym, ap, ap₂, ◌∙◌, arith, length-append}
 use Rattle.std.specs.Prelude.{if◌then◌else◌}
-use Rattle.std.specs.List.{cons_option, filter_map, flat_map, concat}
+use Rattle.std.specs.List.{flat_map, concat}
 use Rattle.byteorder.specs.Endian.{little_bytes}
 use Rattle.byteorder.specs.Numbers.{length-bytes_low_first}
 use Rattle.blog_event.specs.Event.{Event, event_size}
@@ -11,28 +11,9 @@ use Rattle.blog_trans.specs.Groups.{RowsEvent, Statement, Transaction}
 use Rattle.blog_flash.specs.Reversal.{reversed_rows, reversed_statement, reversed_transaction, reversed}
 use Rattle.blog_flash.specs.Texts.{rows_event, rows_events, statement_events, transaction_events, group_events, with_log_pos, laid_out}
 use Rattle.blog_flash.proofs.Reversing.{reverse-cons}
+pub use Rattle.blog_trans.proofs.Sums.{sum_of, sum-append, sum-map, sum-joined, sum-filter, sum-kept}
 
 -- ---- sums
-
--- the sum of a number of each element
-abbrev pub sum_of : {A : Type 0} → (A → ℕ) → List A → ℕ
-sum_of f [] = 0
-sum_of f (x ∷ xs) = f x + sum_of f xs
-
--- of two lists
-pub sum-append : {A : Type 0} (f : A → ℕ) (xs ys : List A) → sum_of f (xs ++ ys) ≡ sum_of f xs + sum_of f ys
-sum-append f [] ys = omega arith
-sum-append f (x ∷ xs) ys = let others = sum-append f xs ys in omega arith
-
--- of the elements that a map gives
-pub sum-map : {A B : Type 0} (f : B → ℕ) (g : A → B) (xs : List A) → sum_of f (map g xs) ≡ sum_of (λ x. f (g x)) xs
-sum-map f g [] = refl
-sum-map f g (x ∷ xs) = ap (λ (n : ℕ). f (g x) + n) (sum-map f g xs)
-
--- of lists that are joined, by the sum of each
-pub sum-joined : {A B : Type 0} (f : B → ℕ) (g : A → List B) (h : A → ℕ) → ((x : A) → sum_of f (g x) ≡ h x) → (xs : List A) → sum_of f (flat_map g xs) ≡ sum_of h xs
-sum-joined f g h each [] = refl
-sum-joined f g h each (x ∷ xs) = sum-append f (g x) (flat_map g xs) ∙ ap₂ ◌+◌ (each x) (sum-joined f g h each xs)
 
 -- of elements that are changed without a change of their numbers, in reverse order
 pub sum-turned : {A : Type 0} (f : A → ℕ) (g : A → A) → ((x : A) → f (g x) ≡ f x) → (xs : List A) → sum_of f (reverse (map g xs)) ≡ sum_of f xs
@@ -50,24 +31,6 @@ sum-reverse f (x ∷ xs) =
     let joined = ap (sum_of f) (reverse-cons x xs) ∙ sum-append f (reverse xs) (x ∷ []) in
     let others = sum-reverse f xs in
     omega arith
-
--- a filter adds nothing
-pub sum-filter : {A : Type 0} (f : A → ℕ) (test : A → Bool) (xs : List A) → sum_of f (filter test xs) ≤ sum_of f xs
-sum-filter f test [] = omega arith
-sum-filter f test (x ∷ xs) = one (test x) (sum-filter f test xs)
-  where
-    one : (b : Bool) → sum_of f (filter test xs) ≤ sum_of f xs → sum_of f (if b then x ∷ filter test xs else filter test xs) ≤ f x + sum_of f xs
-    one true others = omega arith
-    one false others = omega arith
-
--- nor do elements that are kept with no larger a number
-pub sum-kept : {A B : Type 0} (f : A → ℕ) (g : B → ℕ) (keep : A → Option B) → ((x : A) (y : B) → keep x ≡ Some y → g y ≤ f x) → (xs : List A) → sum_of g (filter_map keep xs) ≤ sum_of f xs
-sum-kept f g keep fits [] = omega arith
-sum-kept {B = B} f g keep fits (x ∷ xs) = one (keep x) (fits x) (sum-kept f g keep fits xs)
-  where
-    one : (o : Option B) → ((y : B) → o ≡ Some y → g y ≤ f x) → sum_of g (filter_map keep xs) ≤ sum_of f xs → sum_of g (cons_option o (filter_map keep xs)) ≤ f x + sum_of f xs
-    one None own others = omega arith
-    one (Some y) own others = let fit = own y refl in omega arith
 
 -- the length of lists of bytes joined
 pub length-concat : (lists : List (List ℕ)) → length (concat lists) ≡ sum_of length lists

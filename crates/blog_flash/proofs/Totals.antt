@@ -23,8 +23,9 @@ use Rattle.blog_trans.specs.Acceptance.{is_selected, rows_under, rows_by_map, ra
 use Rattle.blog_trans.specs.Groups.{PlacedRows, PlacedStatement, PlacedTransaction, Span, spans, statements_of, rows_if, rows_by_kind, kept_rows, first_maps, statement_if, kept_statement, transaction_if, kept_transaction, placed_groups_in, placed_groups, event_value, rows_value, statement_value, transaction_value, groups}
 use Rattle.blog_flash.specs.Reversal.{reversed}
 use Rattle.blog_flash.specs.Texts.{group_events, laid_out}
-use Rattle.blog_flash.proofs.Passed.{PassBy, accepted-passes}
-use Rattle.blog_flash.proofs.Apart.{statements-fit, span_sum, spans-fit}
+use Rattle.blog_trans.specs.Passing.{Passes}
+use Rattle.blog_trans.proofs.Apart.{statements-fit, span_sum, spans-fit}
+use Rattle.blog_trans.proofs.ProgressAccepted.{accepted-passes}
 use Rattle.blog_flash.proofs.Sizes.{sum_of, sum-map, sum-filter, sum-kept, total, end-total, rows_size, statement_size, transaction_size, group-total, groups-turned, laid-out-length}
 
 -- how long an event with its place is
@@ -165,7 +166,7 @@ transaction-fits sel span t e = by_statements (filter_map (kept_statement sel) (
 -- ---- groups
 
 -- the groups of events that pass are no longer than the events
-pub groups-total : (sel : Selection) (ps : List Placed) → PassBy sel [] ps → total (group_events (map transaction_value (placed_groups_in sel ps))) ≤ total (map (λ p. p.event) ps)
+pub groups-total : (sel : Selection) (ps : List Placed) → Passes sel [] ps → total (group_events (map transaction_value (placed_groups_in sel ps))) ≤ total (map (λ p. p.event) ps)
 groups-total sel ps passes =
     let written = group-total (map transaction_value (placed_groups_in sel ps)) ∙ sum-map transaction_size transaction_value (placed_groups_in sel ps) in
     let kept = sum-kept (span_sum own_size) placed_size (kept_transaction sel) (transaction-fits sel) (spans ps) in

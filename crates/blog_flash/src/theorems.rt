@@ -8,7 +8,8 @@ ghost use Rattle.blog_trans.specs.Groups.{placed_groups};
 ghost use Rattle.blog_trans.specs.Changes.{changes};
 ghost use Rattle.blog_flash.specs.States.{inverse_all};
 ghost use Rattle.blog_flash.specs.Texts.{normal_text, flashback_text};
-ghost use Rattle.blog_flash.specs.Shown.{ShowsEachOnce, GoByOwnMaps};
+ghost use Rattle.blog_trans.specs.Shown.{ShowsEachOnce};
+ghost use Rattle.blog_flash.specs.Shown.{GoByOwnMaps};
 ghost use Rattle.blog_flash.specs.Agreement.{MapsAgree};
 ghost use Rattle.blog_flash.specs.Theorems.{Undoes, IsNormal, StopsAnywhere, IsNoLonger};
 
@@ -41,8 +42,8 @@ pub fn written_logs_are_no_longer()
     ensures { (bytes : List ℕ) (sel : Selection) → AreBytes bytes → IsAccepted bytes sel → IsNoLonger bytes sel }
 {}
 
-/// Of each accepted log and selection the groups have events of the range, and none of them twice; their sizes and the
-/// position behind the event at 4 add up to at most the length of the log. Of every log each rows event of the groups
+/// Of each accepted log and selection the groups have events of the range, none of them twice, and so no more than that
+/// has; their sizes and the position behind the event at 4 add up to at most the length of the log. Of every log each rows event of the groups
 /// goes by the map of its table id that its statement has. The call does nothing.
 pub fn groups_show_each_event_once()
     ensures maps { (bytes : List ℕ) (sel : Selection) → GoByOwnMaps (placed_groups bytes sel) }

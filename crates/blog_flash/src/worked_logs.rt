@@ -1,5 +1,5 @@
 //! Small logs, spelled byte by byte, and the answers that the definitions give for them: each by computation.
-#![tactic(auto, unfolding(blog_event::specs::Event::event_text, blog_event::specs::Event::event_at, blog_event::specs::File::events_from, blog_event::specs::File::read, blog_event::specs::Format::version_of, blog_event::specs::Format::format_fault, blog_row::specs::Packed::packed_front, blog_row::specs::Column::metadata_len_of, blog_row::specs::Column::plain_storage, blog_row::specs::Column::value_front, blog_row::specs::Image::values_front, blog_row::specs::Image::image_front, blog_row::specs::Image::images_up_to, blog_row::specs::TableMap::name_front, blog_row::specs::TableMap::names_of, blog_row::specs::TableMap::layout_fields, blog_row::specs::TableMap::layout_of, blog_row::specs::RowsEvent::rows_of, blog_trans::specs::Kinds::query_text, blog_trans::specs::Kinds::query_kind, blog_trans::specs::Kinds::kind_of, blog_trans::specs::Acceptance::fault, blog_trans::specs::Groups::placed_groups, blog_trans::specs::Groups::groups, crate::specs::Shown::shown, crate::specs::Texts::rows_event, crate::specs::Texts::laid_out, crate::specs::Texts::normal_text, crate::specs::Texts::flashback_text))]
+#![tactic(auto, unfolding(blog_event::specs::Event::event_text, blog_event::specs::Event::event_at, blog_event::specs::File::events_from, blog_event::specs::File::read, blog_event::specs::Format::version_of, blog_event::specs::Format::format_fault, blog_row::specs::Packed::packed_front, blog_row::specs::Column::metadata_len_of, blog_row::specs::Column::plain_storage, blog_row::specs::Column::value_front, blog_row::specs::Image::values_front, blog_row::specs::Image::image_front, blog_row::specs::Image::images_up_to, blog_row::specs::TableMap::name_front, blog_row::specs::TableMap::names_of, blog_row::specs::TableMap::layout_fields, blog_row::specs::TableMap::layout_of, blog_row::specs::RowsEvent::rows_of, blog_trans::specs::Kinds::query_text, blog_trans::specs::Kinds::query_kind, blog_trans::specs::Kinds::kind_of, blog_trans::specs::Acceptance::fault, blog_trans::specs::Groups::placed_groups, blog_trans::specs::Groups::groups, blog_trans::specs::Shown::shown, crate::specs::Texts::rows_event, crate::specs::Texts::laid_out, crate::specs::Texts::normal_text, crate::specs::Texts::flashback_text))]
 
 ghost use Rattle.std.specs.Prelude.{◌≡◌, ℕ, ◌≤◌, ◌^◌, Some, None, List, [], ◌∷◌, ◌++◌, length, take, drop, slice_set, codes};
 ghost use Rattle.blog_event.specs.declared.fault.Fault.TheVariants.{NotABinlog, CutEvent, BadFormat, OldServer, Checksums, NoEventAt, Statement, RolledBack, OutOfPlace, Unended, NoMap, MapClash, PartialImage, UnknownType, BadBody, UnknownEvent, TooLong};
@@ -8,7 +8,8 @@ ghost use Rattle.blog_trans.specs.Acceptance.{fault};
 ghost use Rattle.blog_trans.specs.Groups.{groups};
 ghost use Rattle.blog_trans.specs.Changes.{changes};
 ghost use Rattle.blog_flash.specs.States.{inverse_all};
-ghost use Rattle.blog_flash.specs.Shown.{shown_positions, map_positions};
+ghost use Rattle.blog_trans.specs.Shown.{shown_positions};
+ghost use Rattle.blog_flash.specs.Shown.{map_positions};
 ghost use Rattle.blog_flash.specs.Reversal.{reversed};
 ghost use Rattle.blog_flash.specs.Texts.{normal_text, flashback_text};
 ghost use Rattle.blog_flash.specs.Printed.{sql_text, summary_text};

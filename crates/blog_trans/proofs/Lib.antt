@@ -24,6 +24,9 @@ mod WalkerCode
 pub mod PlacedParts
 pub mod PlacedFacts
 pub mod ProgressAccepted
+pub mod Sums
+pub mod Apart
+pub mod Shown
 mod WalkerSteps
 mod WalkCode
 pub mod EntriesFound

@@ -25,3 +25,4 @@ pub mod WalkerView
 pub mod PlacedFacts
 pub mod WalkView
 pub mod IndexView
+pub mod Shown

@@ -62,7 +62,8 @@ pub struct TableCount<'a> {
 }
 
 impl<'a, 's, A: Allocator> Index<'a, 's, A> {
-    ghost use Rattle.std.specs.Prelude.{◌<◌, ◌∷◌, List, [], Ok, Some, IsSome, IfSome, drop, option_map, slice_get, vec_len};
+    ghost use Rattle.std.specs.Prelude.{◌<◌, ◌≤◌, ◌==◌, ◌∷◌, List, [], Ok, Some, IsSome, IfSome, drop, option_map, slice_get, vec_len};
+    ghost use Rattle.std.specs.List.{IsDistinct};
     ghost use Rattle.blog_event.specs.Event.{event_at, event_of};
     ghost use Rattle.blog_row.specs.TableMap.{names_of, layout_of};
     ghost use Rattle.blog_row.specs.TableMapView.{map_names};
@@ -72,6 +73,7 @@ impl<'a, 's, A: Allocator> Index<'a, 's, A> {
     ghost use Rattle.blog_trans.specs.Changes.{counts_of};
     ghost use Rattle.blog_trans.specs.TableCountView.{table_counted};
     ghost use Rattle.blog_trans.specs.Entries.{ShowsGroups, statement_place, transaction_place};
+    ghost use Rattle.blog_trans.specs.Shown.{events_in_range};
     ghost use Rattle.blog_trans.specs.IndexView.{index_bytes, index_groups, index_selection, placed, map_at, rows_at, statement_at};
 
     /// The groups of a log, of what was kept of it.
@@ -290,9 +292,12 @@ impl<'a, 's, A: Allocator> Index<'a, 's, A> {
         (event, TableMap::known(map.body), rows)
     }
 
-    /// An entry for each event of the groups, in the order in which the log in normal form has them.
+    /// An entry for each event of the groups, in the order in which the log in normal form has them. No event has two
+    /// entries, and there are no more entries than events in the range.
     pub fn entries(&self) -> &[Entry]
         ensures ats { map (λ e. e.at) result.now ≡ ats_of (index_groups self.now) }
+        ensures once { IsDistinct (λ a b. a == b) (map (λ e. e.at) result.now) }
+        ensures few { length result.now ≤ length (events_in_range (index_bytes self.now) (index_selection self.now)) }
     {
         &self.entries
     }

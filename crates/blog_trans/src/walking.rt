@@ -10,6 +10,7 @@ ghost use Rattle.blog_trans.specs.Refusals.{IsRefusal};
 ghost use Rattle.blog_trans.specs.WalkerView.{Walks, IsWithin, placed};
 ghost use Rattle.blog_trans.specs.WalkView.{IsRead, IsThrough, end_fault};
 ghost use Rattle.blog_trans.specs.IndexView.{index_bytes, index_selection};
+ghost use Rattle.blog_trans.specs.Shown.{ShowsEachOnce};
 
 use crate::groups::Index;
 use crate::place::Place;
@@ -104,7 +105,7 @@ fn end_fault(end: u32, sel: &Selection<'_>, place: Place, at: u32) -> Option<Fau
 
 /// Goes through a log once, and answers its groups under a selection. Nothing is copied from the log: the index has 16
 /// bytes for each event of the groups, and for each selected table where its names and columns lie, and its
-/// numbers of rows. Fails with the first fault of the log, at its position; with `OutOfMemory` where a
+/// numbers of rows. The groups have events of the range, none of them twice. Fails with the first fault of the log, at its position; with `OutOfMemory` where a
 /// growth is refused, whatever later events would tell.
 pub fn index<'a, 's, A: Allocator + Copy>(
     alloc: A,
@@ -114,6 +115,7 @@ pub fn index<'a, 's, A: Allocator + Copy>(
     ensures accepted { IfOk result (λ index. IsAccepted (log_bytes log.now) (selection_of sel.now)) }
     ensures bytes { IfOk result (λ index. index_bytes index ≡ log_bytes log.now) }
     ensures selection { IfOk result (λ index. index_selection index ≡ selection_of sel.now) }
+    ensures shown { OnOk result (ShowsEachOnce (log_bytes log.now) (selection_of sel.now)) }
     ensures refused { IfErr result (IsRefusal (fault (log_bytes log.now) (selection_of sel.now))) }
 {
     let mut walker = Walker::new(alloc);

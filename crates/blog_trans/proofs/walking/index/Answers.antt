@@ -10,6 +10,7 @@ use Rattle.blog_trans.specs.TablesView.{tables_known}
 use Rattle.blog_trans.specs.CountsView.{AreCounts}
 use Rattle.blog_trans.specs.WalkerView.{progress_changes, progress_tables}
 use Rattle.blog_trans.proofs.IndexCode.{walk-refused, end-refused, last-is, progress-is}
+use Rattle.blog_trans.proofs.Shown.{shows-each-once}
 use Rattle.blog_trans.proofs.walking.index.Goals as goal
 
 pub walk-requires-clause-walks : goal.walk-requires-clause-walks
@@ -59,3 +60,12 @@ new-requires-clause-counted g c =
     let known = tables_known c.walk.new.walker.judge.layouts in
     subst (λ layouts. AreCounts (tables_known layouts) (placed_changes (placed_groups bytes sel)) (placed_tables (placed_groups bytes sel)) c.walk.new.walker.counts) (sym c.into_layouts.ensures)
     (subst (λ (k : Progress). AreCounts known (progress_changes k) (progress_tables k) c.walk.new.walker.counts) (progress-is bytes sel accepted through.2.passed) through.2.keeps.counts)
+
+pub returns-clause-shown : goal.returns-clause-shown
+returns-clause-shown g c =
+    let bytes = log_bytes c.args.log.now in
+    let sel = selection_of c.args.sel.now in
+    let through = c.in-Ok.ensures.through in
+    shows-each-once bytes sel (end-refused bytes sel (log-opened c.args.log.now) through.0
+    ∙ last-is bytes sel c.end.result c.in-Ok.at c.place.result c.end.ensures.len through.1 (c.place.ensures ∙ through.2.judge.place_is)
+    ∙ sym c.end_fault.ensures ∙ c.in_default.is)

@@ -16,8 +16,8 @@ use Rattle.blog_trans.specs.declared.place.Place.TheVariants.{Outside, Announced
 use Rattle.blog_trans.specs.Places.{kind_at, is_end, is_last_rows, place, is_inside, is_outside, leads_to}
 use Rattle.blog_trans.specs.Acceptance.{checks}
 use Rattle.blog_trans.specs.Groups.{Span, cons_if, spans, onto_first, statements_of}
-use Rattle.blog_flash.proofs.Passed.{PassBy}
-use Rattle.blog_flash.proofs.Sizes.{sum_of}
+use Rattle.blog_trans.specs.Passing.{Passes}
+use Rattle.blog_trans.proofs.Sums.{sum_of}
 
 -- ---- statements
 
@@ -124,7 +124,7 @@ span-step w sel earlier ps p _ e others =
     omega arith
 
 -- the spans of events that pass lie apart, also from what an open transaction takes
-pub spans-fit : (w : Placed → ℕ) (sel : Selection) (earlier ps : List Placed) → PassBy sel earlier ps
+pub spans-fit : (w : Placed → ℕ) (sel : Selection) (earlier ps : List Placed) → Passes sel earlier ps
     → sum_of (span_sum w) (spans ps) + if_open (is_inside (place earlier)) (open_sum w ps) ≤ sum_of w ps
 spans-fit w sel earlier [] passes = let own = open-most (is_inside (place earlier)) 0 in omega arith
 spans-fit w sel earlier (p ∷ ps) passes = span-step w sel earlier ps p (kind_at p) passes.0 (spans-fit w sel (p ∷ earlier) ps passes.1)

@@ -1,13 +1,17 @@
 -- Groups have events of the range, and none of them twice.
-use Rattle.std.proofs.Common.{◌≡◌, ℕ, suc, ◌+◌, ◌≤◌, ◌<◌, Bool, true, false, ◌&&◌, if◌then◌else◌, List, [], ◌∷◌, ◌++◌, length, map, take, filter, not, bytes_eq, Option, Some, None, Result, Ok, Err, inl, inr, refl, sym, ap, subst, arith}
+use Rattle.std.proofs.Common.{◌≡◌, ℕ, ◌+◌, ◌≤◌, ◌<◌, Bool, true, false, ◌&&◌, if◌then◌else◌, List, [], ◌∷◌, ◌++◌, length, map, take, filter, not, bytes_eq, Option, Some, None, Result, Ok, Err, refl, sym, ap, ap₂, ◌∙◌, subst, arith}
 use Rattle.std.specs.Prelude.{◌==◌, Contains}
 use Rattle.std.specs.List.{AllByRecursion, IsDistinct, cons_option, filter_map, flat_map, list_any}
 use Rattle.std.proofs.lemmas.Bool.{eqb-true, eq-eqb, false_from_ne_true}
-use Rattle.std.proofs.lemmas.Option.{none-some, same_Some}
+use Rattle.std.proofs.lemmas.Option.{none-some}
+use Rattle.std.proofs.lemmas.List.{length-map, map-append}
 use Rattle.std.proofs.lemmas.List.Recursion.{is_sum_by}
+use Rattle.blog_event.specs.declared.fault.Fault.{Fault}
 use Rattle.blog_event.specs.Event.{Event, event_size}
-use Rattle.blog_event.specs.File.{Placed, placed_from, end_of, read, AreBytes}
-use Rattle.blog_event.proofs.Framing.{read-whole}
+use Rattle.blog_event.specs.File.{Placed, placed_from, end_of, read}
+use Rattle.blog_event.specs.Going.{ReadsOn}
+use Rattle.blog_event.specs.Opening.{opening_fault}
+use Rattle.blog_event.proofs.Going.{opened-reads-on}
 use Rattle.blog_row.specs.declared.kind.RowsKind.{RowsKind}
 use Rattle.blog_row.specs.declared.fault.RowFault.{RowFault}
 use Rattle.blog_row.specs.RowsEvent.{RowsBody, table_id}
@@ -18,18 +22,19 @@ use Rattle.blog_trans.specs.declared.kind.EventKind.TheVariants as kind
 use Rattle.blog_trans.specs.Selection.{Selection}
 use Rattle.blog_trans.specs.Kinds.{is_map_kind}
 use Rattle.blog_trans.specs.Places.{kind_at, is_map, map_in}
-use Rattle.blog_trans.specs.Acceptance.{is_selected, rows_by_map, range, is_in_range, IsAccepted}
+use Rattle.blog_trans.specs.Acceptance.{is_selected, rows_by_map, range, is_in_range, fault, IsAccepted}
 use Rattle.blog_trans.specs.Groups.{PlacedRows, PlacedStatement, PlacedTransaction, Span, spans, statements_of, rows_if, rows_by_kind, kept_rows, first_maps, statement_if, kept_statement, transaction_if, kept_transaction, placed_groups_in, placed_groups}
-use Rattle.blog_flash.specs.Shown.{statement_shown, transaction_shown, shown, ShowsEachOnce}
-use Rattle.blog_flash.proofs.Passed.{PassBy, accepted-passes}
-use Rattle.blog_flash.proofs.Sizes.{sum_of, sum-append, sum-map, sum-joined, sum-filter, sum-kept, total, end-total}
-use Rattle.blog_flash.proofs.Apart.{statements-fit, span_sum, spans-fit}
-use Rattle.blog_flash.proofs.Totals.{own_size, placed-same}
-use Rattle.blog_flash.proofs.Content.{all-by}
-use Rattle.blog_flash.proofs.Forming.{all-map, all-flat_map}
-use Rattle.blog_flash.proofs.Agreeing.{Among}
-use Rattle.blog_flash.proofs.Sound.{all-given, IsSound, IsSoundSpan, spans-sound, statements-all, range-sound}
-use Rattle.blog_flash.proofs.Source.{source-format}
+use Rattle.blog_trans.specs.PlacedFacts.{IsPlacedMap, IsPlacedRows, IsPlacedStatement, IsPlacedTransaction}
+use Rattle.blog_trans.specs.Passing.{Passes}
+use Rattle.blog_trans.specs.declared.entry.Entry.{Entry}
+use Rattle.blog_trans.specs.Entries.{statement_ats, transaction_ats, ats_of}
+use Rattle.blog_trans.specs.Shown.{statement_shown, transaction_shown, shown, events_in_range, ShowsEachOnce}
+use Rattle.blog_trans.proofs.Sums.{sum_of, sum-append, sum-map, sum-joined, sum-filter, sum-kept, sum-ones}
+use Rattle.blog_trans.proofs.Apart.{statements-fit, span_sum, spans-fit}
+use Rattle.blog_trans.proofs.Opening.{opening-refused}
+use Rattle.blog_trans.proofs.PlacedFacts.{groups-among}
+use Rattle.blog_trans.proofs.ProgressAccepted.{accepted-passes}
+use Rattle.blog_trans.proofs.ProgressFirsts.{all-by}
 
 -- ---- rows events that are kept
 
@@ -119,7 +124,7 @@ transaction-once w sel span t e = by_statements (filter_map (kept_statement sel)
         subst (λ (x : PlacedTransaction). sum_of w (transaction_shown x) ≤ span_sum w span) same own
 
 -- the groups of events that pass
-pub groups-once : (w : Placed → ℕ) (sel : Selection) (ps : List Placed) → PassBy sel [] ps → sum_of w (flat_map transaction_shown (placed_groups_in sel ps)) ≤ sum_of w ps
+pub groups-once : (w : Placed → ℕ) (sel : Selection) (ps : List Placed) → Passes sel [] ps → sum_of w (flat_map transaction_shown (placed_groups_in sel ps)) ≤ sum_of w ps
 groups-once w sel ps passes =
     let size : PlacedTransaction → ℕ = λ (t : PlacedTransaction). sum_of w (transaction_shown t) in
     let joined = sum-joined w transaction_shown size (λ x. refl) (placed_groups_in sel ps) in
@@ -129,57 +134,34 @@ groups-once w sel ps passes =
 
 -- ---- what holds of events holds of those of their groups
 
--- of maps that are kept
-maps-all : (P : Placed → Type 0) (ids : List (List ℕ)) (es : List Placed) → AllByRecursion P es → AllByRecursion P (first_maps ids es)
-maps-all P ids [] all = tt
-maps-all P ids (p ∷ es) all =
-    by_case (is_map p && list_any (λ id. bytes_eq (table_id p.event.body) id) ids) (maps-all P (filter (λ id. not (bytes_eq (table_id p.event.body) id)) ids) es all.1) (maps-all P ids es all.1)
-  where
-    by_case : (b : Bool) → AllByRecursion P (first_maps (filter (λ id. not (bytes_eq (table_id p.event.body) id)) ids) es) → AllByRecursion P (first_maps ids es)
-        → AllByRecursion P (if b then p ∷ first_maps (filter (λ id. not (bytes_eq (table_id p.event.body) id)) ids) es else first_maps ids es)
-    by_case true taken left = (all.0, taken)
-    by_case false taken left = left
+-- of the elements of a map
+all-map : {A B : Type 0} (P : A → Type 0) (Q : B → Type 0) (f : A → B) → ((x : A) → P x → Q (f x)) → (xs : List A) → AllByRecursion P xs → AllByRecursion Q (map f xs)
+all-map P Q f by [] all = tt
+all-map P Q f by (x ∷ xs) all = (by x all.0, all-map P Q f by xs all.1)
+
+-- of the elements of lists that are joined
+all-joined : {A B : Type 0} (P : A → Type 0) (Q : B → Type 0) (f : A → List B) → ((x : A) → P x → AllByRecursion Q (f x)) → (xs : List A) → AllByRecursion P xs → AllByRecursion Q (flat_map f xs)
+all-joined P Q f by [] all = tt
+all-joined P Q f by (x ∷ xs) all = all-append Q (f x) (flat_map f xs) (by x all.0) (all-joined P Q f by xs all.1)
 
 -- of a statement
-statement-all : (P : Placed → Type 0) (sel : Selection) (events : List Placed) (s : PlacedStatement) → AllByRecursion P events → kept_statement sel events ≡ Some s → AllByRecursion P (statement_shown s)
-statement-all P sel events s all e =
-    by_rows (filter_map (kept_rows sel events) events) (all-given P (λ (r : PlacedRows). P r.event) (kept_rows sel events) (λ p r own kept. subst P (sym (kept-own sel events p r kept).1) own) events all) e
-  where
-    by_rows : (rows : List PlacedRows) → AllByRecursion (λ (r : PlacedRows). P r.event) rows → statement_if events rows ≡ Some s → AllByRecursion P (statement_shown s)
-    by_rows [] kept e = absurd (none-some s e)
-    by_rows (r ∷ rows) kept e =
-        let ids : List (List ℕ) = map (λ (x : PlacedRows). table_id x.event.event.body) (r ∷ rows) in
-        subst (λ (x : PlacedStatement). AllByRecursion P (statement_shown x)) (same_Some _ s e) (
-        all-append P (first_maps ids events) (map (λ (x : PlacedRows). x.event) (r ∷ rows)) (maps-all P ids events all) (all-map (λ (x : PlacedRows). P x.event) P (λ (x : PlacedRows). x.event) (λ x h. h) (r ∷ rows) kept))
+statement-within : (Member : Placed → Type 0) (sel : Selection) (s : PlacedStatement) → IsPlacedStatement Member sel s → AllByRecursion Member (statement_shown s)
+statement-within Member sel s placed =
+    all-append Member s.maps (map (λ (r : PlacedRows). r.event) s.rows) (all-by (IsPlacedMap Member sel) Member (λ m is. is.member) s.maps placed.maps)
+    (all-map (IsPlacedRows Member sel s.maps) Member (λ (r : PlacedRows). r.event) (λ r is. is.member) s.rows placed.rows)
 
 -- of a transaction
-transaction-all : (Member : Placed → Type 0) (sel : Selection) (span : Span) (t : PlacedTransaction) → IsSoundSpan Member span → kept_transaction sel span ≡ Some t
-    → AllByRecursion (IsSound Member) (transaction_shown t)
-transaction-all Member sel span t sound e =
-    by_statements (filter_map (kept_statement sel) (statements_of span.inside)) (all-given (AllByRecursion (IsSound Member)) (λ (s : PlacedStatement). AllByRecursion (IsSound Member) (statement_shown s)) (kept_statement sel)
-    (λ events s all kept. statement-all (IsSound Member) sel events s all kept) (statements_of span.inside) (statements-all (IsSound Member) span.inside sound.inside_sound)) e
-  where
-    by_statements : (ss : List PlacedStatement) → AllByRecursion (λ (s : PlacedStatement). AllByRecursion (IsSound Member) (statement_shown s)) ss → transaction_if span ss ≡ Some t
-        → AllByRecursion (IsSound Member) (transaction_shown t)
-    by_statements [] kept e = absurd (none-some t e)
-    by_statements (s ∷ ss) kept e =
-        subst (λ (x : PlacedTransaction). AllByRecursion (IsSound Member) (transaction_shown x)) (same_Some _ t e) (
-          sound.begin_sound,
-          all-append (IsSound Member) (flat_map statement_shown (s ∷ ss)) (span.end ∷ [])
-              (all-flat_map (λ (x : PlacedStatement). AllByRecursion (IsSound Member) (statement_shown x)) (IsSound Member) statement_shown (λ x h. h) (s ∷ ss) kept) (sound.end_sound, tt),
-        )
+transaction-within : (Member : Placed → Type 0) (sel : Selection) (t : PlacedTransaction) → IsPlacedTransaction Member sel t → AllByRecursion Member (transaction_shown t)
+transaction-within Member sel t placed = (
+  placed.begin_member,
+  all-append Member (flat_map statement_shown t.statements) (t.end ∷ [])
+      (all-joined (IsPlacedStatement Member sel) Member statement_shown (statement-within Member sel) t.statements placed.statements) (placed.end_member, tt),
+)
 
 -- of groups
-groups-all : (Member : Placed → Type 0) (sel : Selection) (ps : List Placed) → AllByRecursion (IsSound Member) ps → AllByRecursion (IsSound Member) (flat_map transaction_shown (placed_groups_in sel ps))
-groups-all Member sel ps all =
-    all-flat_map (λ (t : PlacedTransaction). AllByRecursion (IsSound Member) (transaction_shown t)) (IsSound Member) transaction_shown (λ x h. h) (placed_groups_in sel ps)
-    (all-given (IsSoundSpan Member) (λ (t : PlacedTransaction). AllByRecursion (IsSound Member) (transaction_shown t)) (kept_transaction sel) (λ span t sound kept. transaction-all Member sel span t sound kept) (spans ps) (spans-sound Member ps all))
-
--- one of the events is contained in them
-among-contained : (p : Placed) (ps : List Placed) → Among p ps → Contains ps p
-among-contained p [] among = absurd among
-among-contained p (q ∷ ps) (inl same) = (0, omega arith, sym same)
-among-contained p (q ∷ ps) (inr more) = let others = among-contained p ps more in (suc others.0, omega (arith, others.1), others.2)
+groups-within : (sel : Selection) (ps : List Placed) → AllByRecursion (Contains ps) (flat_map transaction_shown (placed_groups_in sel ps))
+groups-within sel ps =
+    all-joined (IsPlacedTransaction (Contains ps) sel) (Contains ps) transaction_shown (transaction-within (Contains ps) sel) (placed_groups_in sel ps) (groups-among sel ps)
 
 -- ---- positions
 
@@ -224,53 +206,123 @@ positions-distinct (p ∷ ps) each =
     let own : 1 + sum_of (at_pos p.pos) ps ≤ 1 = rw (eq-eqb p.pos p.pos refl) at (each p.pos) in
     (none-at p.pos ps (omega arith), positions-distinct ps (λ pos. let whole = each pos in omega arith))
 
+-- ---- sizes
+
+-- how long an event is
+abbrev own_size : Placed → ℕ
+own_size p = event_size p.event
+
+-- events that follow each other end so far behind the position at which they begin
+end-placed : (pos : ℕ) (es : List Event) → end_of pos es ≡ pos + sum_of own_size (placed_from pos es)
+end-placed pos [] = omega arith
+end-placed pos (e ∷ es) = let others = end-placed (pos + event_size e) es in omega arith
+
+-- the events of the range behind the first are no longer than those behind it
+range-fits : (sel : Selection) (format : Event) (rest : List Event) → sum_of own_size (range sel (placed_from 4 (format ∷ rest))) ≤ sum_of own_size (placed_from (4 + event_size format) rest)
+range-fits sel format rest = sum-filter own_size (is_in_range sel) (placed_from (4 + event_size format) rest)
+
 -- ---- the theorem
 
--- the events of the range behind the first are no longer than they
-range-fits : (sel : Selection) (format : Event) (rest : List Event) → sum_of own_size (range sel (placed_from 4 (format ∷ rest))) ≤ total rest
-range-fits sel format rest =
-    let kept = sum-filter own_size (is_in_range sel) (placed_from (4 + event_size format) rest) in
-    let same = placed-same (4 + event_size format) rest in
-    omega arith
+-- an accepted log is opened
+accepted-opens : (bytes : List ℕ) (sel : Selection) → IsAccepted bytes sel → opening_fault bytes ≡ None
+accepted-opens bytes sel accepted = by_case (opening_fault bytes) refl
+  where
+    by_case : (o : Option Fault) → opening_fault bytes ≡ o → o ≡ None
+    by_case None is = refl
+    by_case (Some f) is = absurd (none-some f (sym accepted ∙ opening-refused bytes sel f is))
+
+-- whatever number each event has, the sum over the groups is no larger than that over the range
+shown-sum : (w : Placed → ℕ) (bytes : List ℕ) (sel : Selection) → IsAccepted bytes sel → sum_of w (shown bytes sel) ≤ sum_of w (events_in_range bytes sel)
+unfolding shown placed_groups
+shown-sum w bytes sel accepted = groups-once w sel (events_in_range bytes sel) (accepted-passes bytes sel accepted)
 
 -- the sizes of an accepted log's shown events
-shown-sizes : (bytes : List ℕ) (sel : Selection) → AreBytes bytes → IsAccepted bytes sel → end_of 4 (take 1 (read bytes sel.stop)) + sum_of own_size (shown bytes sel) ≤ length bytes
-unfolding shown placed_groups
-shown-sizes bytes sel are accepted =
-    let first = source-format bytes sel accepted in
-    let format : Event = first.0 in
-    let rest : List Event = first.1 in
-    let within = (read-whole bytes sel.stop format rest are first.2).within in
-    let end = end-total 4 (format ∷ rest) in
+shown-sizes : (bytes : List ℕ) (sel : Selection) → IsAccepted bytes sel → end_of 4 (take 1 (read bytes sel.stop)) + sum_of own_size (shown bytes sel) ≤ length bytes
+shown-sizes bytes sel accepted =
+    let on : ReadsOn bytes sel.stop = opened-reads-on bytes sel.stop (accepted-opens bytes sel accepted) in
+    let format : Event = on.first in
+    let rest : List Event = on.later in
+    let within = on.inside in
+    let end = end-placed 4 (format ∷ rest) in
     let range_of : List Event → ℕ = λ (es : List Event). sum_of own_size (range sel (placed_from 4 es)) in
-    let same : range_of (read bytes sel.stop) ≡ range_of (format ∷ rest) = ap range_of first.2 in
-    let start : end_of 4 (take 1 (read bytes sel.stop)) ≡ 4 + event_size format = ap (λ (es : List Event). end_of 4 (take 1 es)) first.2 in
-    let below : range_of (format ∷ rest) ≤ total rest = range-fits sel format rest in
-    let kept : sum_of own_size (flat_map transaction_shown (placed_groups bytes sel)) ≤ range_of (read bytes sel.stop) =
-    groups-once own_size sel (range sel (placed_from 4 (read bytes sel.stop))) (accepted-passes bytes sel accepted) in
+    let same : range_of (read bytes sel.stop) ≡ range_of (format ∷ rest) = ap range_of on.read_is in
+    let start : end_of 4 (take 1 (read bytes sel.stop)) ≡ 4 + event_size format = ap (λ (es : List Event). end_of 4 (take 1 es)) on.read_is in
+    let below = range-fits sel format rest in
+    let kept : sum_of own_size (shown bytes sel) ≤ range_of (read bytes sel.stop) = shown-sum own_size bytes sel accepted in
     omega arith
 
--- the events of an accepted log's groups are of its range
-shown-within : (bytes : List ℕ) (sel : Selection) → AreBytes bytes → IsAccepted bytes sel → AllByRecursion (Contains (range sel (placed_from 4 (read bytes sel.stop)))) (shown bytes sel)
+-- the events of the groups are of the range
+shown-within : (bytes : List ℕ) (sel : Selection) → AllByRecursion (Contains (events_in_range bytes sel)) (shown bytes sel)
 unfolding shown placed_groups
-shown-within bytes sel are accepted =
-    let ps : List Placed = range sel (placed_from 4 (read bytes sel.stop)) in
-    all-by (IsSound (λ p. Among p ps)) (Contains ps) (λ p sound. among-contained p ps sound.member) (shown bytes sel) (groups-all (λ p. Among p ps) sel ps (range-sound bytes sel are accepted))
+shown-within bytes sel = groups-within sel (events_in_range bytes sel)
 
 -- and stand at distinct positions
 shown-once : (bytes : List ℕ) (sel : Selection) → IsAccepted bytes sel → IsDistinct (λ a b. a == b) (map (λ (p : Placed). p.pos) (shown bytes sel))
-unfolding shown placed_groups
 shown-once bytes sel accepted = positions-distinct (shown bytes sel) (λ pos.
-    let ps : List Placed = placed_from 4 (read bytes sel.stop) in
-    let kept = groups-once (at_pos pos) sel (range sel ps) (accepted-passes bytes sel accepted) in
-    let ranged = sum-filter (at_pos pos) (is_in_range sel) ps in
+    let kept = shown-sum (at_pos pos) bytes sel accepted in
+    let ranged = sum-filter (at_pos pos) (is_in_range sel) (placed_from 4 (read bytes sel.stop)) in
     let one = one-at pos 4 (read bytes sel.stop) in
     omega arith)
 
+-- they are no more than those of the range
+shown-few : (bytes : List ℕ) (sel : Selection) → IsAccepted bytes sel → length (shown bytes sel) ≤ length (events_in_range bytes sel)
+shown-few bytes sel accepted =
+    let kept = shown-sum (λ p. 1) bytes sel accepted in
+    let counted = sum-ones (shown bytes sel) in
+    let all = sum-ones (events_in_range bytes sel) in
+    omega arith
+
 -- of each accepted log
-pub shows-each-once : (bytes : List ℕ) (sel : Selection) → AreBytes bytes → IsAccepted bytes sel → ShowsEachOnce bytes sel
-shows-each-once bytes sel are accepted = record {
-  within = shown-within bytes sel are accepted;
+pub shows-each-once : (bytes : List ℕ) (sel : Selection) → IsAccepted bytes sel → ShowsEachOnce bytes sel
+shows-each-once bytes sel accepted = record {
+  within = shown-within bytes sel;
   once = shown-once bytes sel accepted;
-  sizes = subst (λ (n : ℕ). end_of 4 (take 1 (read bytes sel.stop)) + n ≤ length bytes) (is_sum_by (sum_of own_size) own_size refl (λ p ps. refl) (shown bytes sel)) (shown-sizes bytes sel are accepted);
+  few = shown-few bytes sel accepted;
+  sizes = subst (λ (n : ℕ). end_of 4 (take 1 (read bytes sel.stop)) + n ≤ length bytes) (is_sum_by (sum_of own_size) own_size refl (λ p ps. refl) (shown bytes sel)) (shown-sizes bytes sel accepted);
 }
+
+-- ---- entries
+
+-- the position of an event
+abbrev pos_of : Placed → ℕ
+pos_of p = p.pos
+
+-- the positions of rows events
+rows-ats : (rows : List PlacedRows) → map (λ (r : PlacedRows). r.event.pos) rows ≡ map pos_of (map (λ (r : PlacedRows). r.event) rows)
+rows-ats [] = refl
+rows-ats (r ∷ rows) = ap (λ (ats : List ℕ). r.event.pos ∷ ats) (rows-ats rows)
+
+-- of elements whose positions are said one by one
+joined-ats : {A : Type 0} (f : A → List ℕ) (g : A → List Placed) → ((x : A) → f x ≡ map pos_of (g x)) → (xs : List A) → flat_map f xs ≡ map pos_of (flat_map g xs)
+joined-ats f g same [] = refl
+joined-ats f g same (x ∷ xs) = ap₂ ◌++◌ (same x) (joined-ats f g same xs) ∙ sym (map-append pos_of (g x) (flat_map g xs))
+
+-- of a statement
+statement-shown-ats : (s : PlacedStatement) → statement_ats s ≡ map pos_of (statement_shown s)
+statement-shown-ats s = ap (λ (ats : List ℕ). map pos_of s.maps ++ ats) (rows-ats s.rows) ∙ sym (map-append pos_of s.maps (map (λ (r : PlacedRows). r.event) s.rows))
+
+-- of a transaction
+transaction-shown-ats : (t : PlacedTransaction) → transaction_ats t ≡ map pos_of (transaction_shown t)
+transaction-shown-ats t =
+    ap (λ (ats : List ℕ). t.begin.pos ∷ ats) (ap (λ (ats : List ℕ). ats ++ t.end.pos ∷ []) (joined-ats statement_ats statement_shown statement-shown-ats t.statements)
+    ∙ sym (map-append pos_of (flat_map statement_shown t.statements) (t.end ∷ [])))
+
+-- the positions of entries are those of the events that are shown
+shown-ats : (bytes : List ℕ) (sel : Selection) → ats_of (placed_groups bytes sel) ≡ map pos_of (shown bytes sel)
+unfolding shown
+shown-ats bytes sel = joined-ats transaction_ats transaction_shown transaction-shown-ats (placed_groups bytes sel)
+
+-- so none of them comes twice
+pub entries-once : (entries : List Entry) (bytes : List ℕ) (sel : Selection) → IsAccepted bytes sel → map (λ (e : Entry). e.at) entries ≡ ats_of (placed_groups bytes sel)
+    → IsDistinct (λ a b. a == b) (map (λ (e : Entry). e.at) entries)
+entries-once entries bytes sel accepted ats = subst (IsDistinct (λ a b. a == b)) (sym (ats ∙ shown-ats bytes sel)) (shown-once bytes sel accepted)
+
+-- and they are no more than the events of the range
+pub entries-few : (entries : List Entry) (bytes : List ℕ) (sel : Selection) → IsAccepted bytes sel → map (λ (e : Entry). e.at) entries ≡ ats_of (placed_groups bytes sel)
+    → length entries ≤ length (events_in_range bytes sel)
+entries-few entries bytes sel accepted ats =
+    let same = ap length (ats ∙ shown-ats bytes sel) in
+    let own = length-map entries (λ (e : Entry). e.at) in
+    let others = length-map (shown bytes sel) pos_of in
+    let few = shown-few bytes sel accepted in
+    omega arith
