@@ -28,5 +28,6 @@ pub mod Headline
 pub mod Stops
 pub mod Printing
 pub mod Quoting
+pub mod Digits
 pub mod PrintedParts
 pub mod Answering

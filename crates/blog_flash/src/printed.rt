@@ -1,7 +1,8 @@
 //! Names, values and rows as text. Where the capacity has room for a text, appending it is no error.
 
-ghost use Rattle.std.specs.Prelude.{◌≡◌, ◌+◌, ◌≤◌, ◌∷◌, ◌++◌, length, OnOk, IsOk, codes, option_map, vec_len, vec_capacity};
+ghost use Rattle.std.specs.Prelude.{◌≡◌, ◌+◌, ◌*◌, ◌≤◌, ◌∷◌, ◌++◌, length, OnOk, IsOk, codes, option_map, vec_len, vec_capacity};
 ghost use Rattle.std.specs.Fmt.{decimal};
+ghost use Rattle.hex.specs.Hex.{encode_upper};
 ghost use Rattle.blog_row.specs.Image.{row_of};
 ghost use Rattle.blog_row.specs.LayoutView.{layout_columns};
 ghost use Rattle.blog_row.specs.TableMapView.{map_names};
@@ -82,68 +83,91 @@ pub(crate) fn put_table<A: Allocator>(
     put_quoted(out, table)
 }
 
+/// Writes the upper-case hexadecimal digits of bytes over as many.
+fn write_digits(to: &mut [u8], bytes: &[u8])
+    requires { length to.old ≡ 2 * length bytes.now }
+    ensures { to.new ≡ encode_upper bytes.now }
+{
+    hex::encode_to_slice(bytes, to).unwrap();
+    to.make_ascii_uppercase();
+}
+
+/// Appends the upper-case hexadecimal digits of bytes.
+fn put_digits<A: Allocator>(out: &mut Vec<u8, A>, bytes: &[u8]) -> Result<(), AllocError>
+    ensures ok { OnOk result (out.new.items ≡ out.old.items ++ encode_upper bytes.now) }
+    ensures room { vec_len out.old + length (encode_upper bytes.now) ≤ vec_capacity out.old → IsOk result }
+    ensures capacity { vec_capacity out.old ≤ vec_capacity out.new }
+{
+    // The bytes, twice, are as many as their digits, which are written over them.
+    let start = out.len();
+    put_text(out, bytes)?;
+    put_text(out, bytes)?;
+    write_digits(&mut out[start..], bytes);
+    Ok(())
+}
+
 /// Appends a value: its bytes in hexadecimal digits, or NULL.
-fn put_value<A: Allocator + Copy>(
-    alloc: A,
-    out: &mut Vec<u8, A>,
-    value: Option<&[u8]>,
-) -> Result<(), AllocError>
-    ensures { OnOk result (out.new.items ≡ out.old.items ++ value_text (option_map (λ bytes. bytes.now) value.entry)) }
+fn put_value<A: Allocator>(out: &mut Vec<u8, A>, value: Option<&[u8]>) -> Result<(), AllocError>
+    ensures ok { OnOk result (out.new.items ≡ out.old.items ++ value_text (option_map (λ bytes. bytes.now) value.entry)) }
+    ensures room { vec_len out.old + length (value_text (option_map (λ bytes. bytes.now) value.entry)) ≤ vec_capacity out.old → IsOk result }
+    ensures capacity { vec_capacity out.old ≤ vec_capacity out.new }
 {
     let Some(bytes) = value else {
         return put_text(out, b"NULL");
     };
-    let digits = hex::encode_upper(alloc, bytes)?;
     put_text(out, b"X'")?;
-    put_text(out, digits.as_bytes())?;
+    put_digits(out, bytes)?;
     put_text(out, b"'")
 }
 
 /// Appends the line of the value of the column with a number, from 1.
-fn put_value_line<A: Allocator + Copy>(
-    alloc: A,
+fn put_value_line<A: Allocator>(
     out: &mut Vec<u8, A>,
     n: u64,
     value: Option<&[u8]>,
 ) -> Result<(), AllocError>
-    ensures { OnOk result (out.new.items ≡ out.old.items ++ value_line n (option_map (λ bytes. bytes.now) value.entry)) }
+    ensures ok { OnOk result (out.new.items ≡ out.old.items ++ value_line n (option_map (λ bytes. bytes.now) value.entry)) }
+    ensures room { vec_len out.old + length (value_line n (option_map (λ bytes. bytes.now) value.entry)) ≤ vec_capacity out.old → IsOk result }
+    ensures capacity { vec_capacity out.old ≤ vec_capacity out.new }
 {
     put_text(out, b"###   @")?;
     put_number(out, n)?;
     put_text(out, b"=")?;
-    put_value(alloc, out, value)?;
+    put_value(out, value)?;
     put_text(out, b"\n")
 }
 
 /// Appends a line for each value of an image.
-fn put_values<A: Allocator + Copy>(
-    alloc: A,
+fn put_values<A: Allocator>(
     out: &mut Vec<u8, A>,
     layout: &Layout<'_>,
     image: &[u8],
 ) -> Result<(), AllocError>
-    ensures { OnOk result (out.new.items ≡ out.old.items ++ value_lines 1 (row_of (layout_columns layout.now) image.now)) }
+    ensures ok { OnOk result (out.new.items ≡ out.old.items ++ value_lines 1 (row_of (layout_columns layout.now) image.now)) }
+    ensures room { vec_len out.old + length (value_lines 1 (row_of (layout_columns layout.now) image.now)) ≤ vec_capacity out.old → IsOk result }
+    ensures capacity { vec_capacity out.old ≤ vec_capacity out.new }
 {
     let mut n = 1;
     for value in layout.values(image) {
-        put_value_line(alloc, out, n, value)?;
+        put_value_line(out, n, value)?;
         n += 1;
     }
     Ok(())
 }
 
 /// Appends a heading and the values of an image.
-fn put_row<A: Allocator + Copy>(
-    alloc: A,
+fn put_row<A: Allocator>(
     out: &mut Vec<u8, A>,
     heading: &[u8],
     layout: &Layout<'_>,
     image: &[u8],
 ) -> Result<(), AllocError>
-    ensures { OnOk result (out.new.items ≡ out.old.items ++ row_lines heading.now (row_of (layout_columns layout.now) image.now)) }
+    ensures ok { OnOk result (out.new.items ≡ out.old.items ++ row_lines heading.now (row_of (layout_columns layout.now) image.now)) }
+    ensures room { vec_len out.old + length (row_lines heading.now (row_of (layout_columns layout.now) image.now)) ≤ vec_capacity out.old → IsOk result }
+    ensures capacity { vec_capacity out.old ≤ vec_capacity out.new }
 {
     put_line(out, heading)?;
-    put_values(alloc, out, layout, image)
+    put_values(out, layout, image)
 }
 
 /// Appends the line that says what is done to a table's row.
@@ -162,63 +186,67 @@ fn put_table_line<A: Allocator>(
 }
 
 /// Appends a row that is inserted.
-fn put_insert<A: Allocator + Copy>(
-    alloc: A,
+fn put_insert<A: Allocator>(
     out: &mut Vec<u8, A>,
     map: &TableMap<'_>,
     layout: &Layout<'_>,
     after: &[u8],
 ) -> Result<(), AllocError>
-    ensures { OnOk result (out.new.items ≡ out.old.items ++ change_lines (Inserted (map_names map.now).table (row_of (layout_columns layout.now) after.now))) }
+    ensures ok { OnOk result (out.new.items ≡ out.old.items ++ change_lines (Inserted (map_names map.now).table (row_of (layout_columns layout.now) after.now))) }
+    ensures room { vec_len out.old + length (change_lines (Inserted (map_names map.now).table (row_of (layout_columns layout.now) after.now))) ≤ vec_capacity out.old → IsOk result }
+    ensures capacity { vec_capacity out.old ≤ vec_capacity out.new }
 {
     put_table_line(out, b"### INSERT INTO ", map)?;
-    put_row(alloc, out, b"### SET", layout, after)
+    put_row(out, b"### SET", layout, after)
 }
 
 /// Appends a row that is deleted.
-fn put_delete<A: Allocator + Copy>(
-    alloc: A,
+fn put_delete<A: Allocator>(
     out: &mut Vec<u8, A>,
     map: &TableMap<'_>,
     layout: &Layout<'_>,
     before: &[u8],
 ) -> Result<(), AllocError>
-    ensures { OnOk result (out.new.items ≡ out.old.items ++ change_lines (Deleted (map_names map.now).table (row_of (layout_columns layout.now) before.now))) }
+    ensures ok { OnOk result (out.new.items ≡ out.old.items ++ change_lines (Deleted (map_names map.now).table (row_of (layout_columns layout.now) before.now))) }
+    ensures room { vec_len out.old + length (change_lines (Deleted (map_names map.now).table (row_of (layout_columns layout.now) before.now))) ≤ vec_capacity out.old → IsOk result }
+    ensures capacity { vec_capacity out.old ≤ vec_capacity out.new }
 {
     put_table_line(out, b"### DELETE FROM ", map)?;
-    put_row(alloc, out, b"### WHERE", layout, before)
+    put_row(out, b"### WHERE", layout, before)
 }
 
 /// Appends a row that is updated.
-fn put_update<A: Allocator + Copy>(
-    alloc: A,
+fn put_update<A: Allocator>(
     out: &mut Vec<u8, A>,
     map: &TableMap<'_>,
     layout: &Layout<'_>,
     before: &[u8],
     after: &[u8],
 ) -> Result<(), AllocError>
-    ensures { OnOk result (out.new.items ≡ out.old.items ++ change_lines (Updated (map_names map.now).table (row_of (layout_columns layout.now) before.now) (row_of (layout_columns layout.now) after.now))) }
+    ensures ok { OnOk result (out.new.items ≡ out.old.items ++ change_lines (Updated (map_names map.now).table (row_of (layout_columns layout.now) before.now) (row_of (layout_columns layout.now) after.now))) }
+    ensures room { vec_len out.old + length (change_lines (Updated (map_names map.now).table (row_of (layout_columns layout.now) before.now) (row_of (layout_columns layout.now) after.now))) ≤ vec_capacity out.old → IsOk result }
+    ensures capacity { vec_capacity out.old ≤ vec_capacity out.new }
 {
     put_table_line(out, b"### UPDATE ", map)?;
-    put_row(alloc, out, b"### WHERE", layout, before)?;
-    put_row(alloc, out, b"### SET", layout, after)
+    put_row(out, b"### WHERE", layout, before)?;
+    put_row(out, b"### SET", layout, after)
 }
 
 /// Appends what is done to a row, by its images.
-pub(crate) fn put_change<A: Allocator + Copy>(
-    alloc: A,
+pub(crate) fn put_change<A: Allocator>(
     out: &mut Vec<u8, A>,
     map: &TableMap<'_>,
     layout: &Layout<'_>,
     row: &RowChange<'_>,
 ) -> Result<(), AllocError>
-    ensures { OnOk result (out.new.items ≡ out.old.items ++ image_lines (map_names map.now).table (layout_columns layout.now) (option_map (λ image. image.now) row.now.before) (option_map (λ image. image.now) row.now.after)) }
+    ensures ok { OnOk result (out.new.items ≡ out.old.items ++ image_lines (map_names map.now).table (layout_columns layout.now) (option_map (λ image. image.now) row.now.before) (option_map (λ image. image.now) row.now.after)) }
+    ensures room { vec_len out.old + length (image_lines (map_names map.now).table (layout_columns layout.now) (option_map (λ image. image.now) row.now.before) (option_map (λ image. image.now) row.now.after)) ≤ vec_capacity out.old → IsOk result }
+    ensures capacity { vec_capacity out.old ≤ vec_capacity out.new }
 {
     match (row.before, row.after) {
         (None, None) => Ok(()),
-        (None, Some(after)) => put_insert(alloc, out, map, layout, after),
-        (Some(before), None) => put_delete(alloc, out, map, layout, before),
-        (Some(before), Some(after)) => put_update(alloc, out, map, layout, before, after),
+        (None, Some(after)) => put_insert(out, map, layout, after),
+        (Some(before), None) => put_delete(out, map, layout, before),
+        (Some(before), Some(after)) => put_update(out, map, layout, before, after),
     }
 }

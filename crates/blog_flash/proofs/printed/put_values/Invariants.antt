@@ -1,4 +1,4 @@
-use Rattle.std.proofs.Common.{◌≡◌, ◌≤◌, ◌+◌, ◌++◌, length}
+use Rattle.std.proofs.Common.{◌≡◌, ◌≤◌, ◌+◌, ◌++◌, length, vec_capacity}
 use Rattle.blog_row.specs.Image.{row_of}
 use Rattle.blog_row.specs.LayoutView.{layout_columns}
 use Rattle.blog_row.specs.ValuesView.{values_left}
@@ -12,4 +12,5 @@ invariant-loop-value g l = record {
   finite : (goal.iterator-loop-value g).is_finite l.value-iterator;
   text : l.out.items ++ value_lines l.n (values_left l.value-iterator) ≡ l.fn.out.items ++ value_lines 1 (row_of (layout_columns l.layout) l.image);
   few : l.n + length (values_left l.value-iterator) ≤ 4097;
+  capacity : vec_capacity l.fn.out ≤ vec_capacity l.out;
 }

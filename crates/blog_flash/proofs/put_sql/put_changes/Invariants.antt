@@ -1,4 +1,4 @@
-use Rattle.std.proofs.Common.{◌≡◌, ◌++◌}
+use Rattle.std.proofs.Common.{◌≡◌, ◌≤◌, ◌++◌, vec_capacity}
 use Rattle.blog_row.specs.LayoutView.{layout_columns}
 use Rattle.blog_row.specs.RowsEvent.{rows_by}
 use Rattle.blog_row.specs.RowsEventView.{rows_body}
@@ -14,4 +14,5 @@ invariant-loop-row g l = record {
   finite : (goal.iterator-loop-row g).is_finite l.row-iterator;
   text : l.out.items ++ images_lines (map_names l.map).table (layout_columns l.rows.layout) (rows_left l.row-iterator)
       ≡ l.fn.out.items ++ images_lines (map_names l.map).table (layout_columns l.rows.layout) (rows_by l.rows.kind (rows_body l.rows).images);
+  capacity : vec_capacity l.fn.out ≤ vec_capacity l.out;
 }

@@ -1,4 +1,4 @@
-use Rattle.std.proofs.Common.{◌≡◌, ◌++◌, drop}
+use Rattle.std.proofs.Common.{◌≡◌, ◌≤◌, ◌++◌, drop, vec_capacity}
 use Rattle.std.specs.List.{flat_map}
 use Rattle.blog_trans.specs.Changes.{changes_of_statement}
 use Rattle.blog_trans.specs.IndexView.{index_groups}
@@ -10,5 +10,7 @@ use Rattle.blog_flash.proofs.put_sql.put_statements.Given as goal
 
 -- the statements are left from number s on
 abbrev pub invariant-loop-s : goal.invariant-loop-s
-invariant-loop-s g l =
-    l.out.items ++ flat_map (λ s. flat_map change_lines (changes_of_statement s)) (drop l.s (statements_of Forward (index_groups l.index) l.t)) ≡ l.fn.out.items ++ statement_lines_at (index_groups l.index) l.t
+invariant-loop-s g l = record {
+  text : l.out.items ++ flat_map (λ s. flat_map change_lines (changes_of_statement s)) (drop l.s (statements_of Forward (index_groups l.index) l.t)) ≡ l.fn.out.items ++ statement_lines_at (index_groups l.index) l.t;
+  capacity : vec_capacity l.fn.out ≤ vec_capacity l.out;
+}

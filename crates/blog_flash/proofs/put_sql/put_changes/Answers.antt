@@ -1,0 +1,17 @@
+use Rattle.std.proofs.Common.{ap}
+use Rattle.blog_row.specs.LayoutView.{layout_columns}
+use Rattle.blog_row.specs.RowsView.{row_seen, rows_left}
+use Rattle.blog_row.specs.TableMapView.{map_names}
+use Rattle.blog_flash.specs.PrintedRows.{image_lines, images_lines}
+use Rattle.blog_flash.proofs.Printing.{not-refused, part-fits}
+use Rattle.blog_flash.proofs.put_sql.put_changes.Goals as goal
+
+pub returns-in_err-put_change-clause-room : goal.returns-in_err-put_change-clause-room
+returns-in_err-put_change-clause-room g c enough =
+    let table = (map_names c.args.map.now).table in
+    let layout = layout_columns c.args.rows.now.layout in
+    let row = row_seen c.in-Some.row in
+    let next = ap (images_lines table layout) c.in-Some.ensures.steps in
+    let fits = part-fits _ _ _ _ (image_lines table layout row.before row.after) (images_lines table layout (rows_left c.next.new.self))
+    c.loop-row.out.len c.loop-row.out.cap c.args.out.now.len c.args.out.now.cap c.loop-row.invariant.text next c.loop-row.out.ok.0 c.args.out.now.ok.0 c.loop-row.invariant.capacity enough in
+    not-refused _ _ c.in_err-put_change.was (c.put_change.ensures.room (rw c.layout-layout.ensures fits))
