@@ -101,6 +101,25 @@ pub fn worked_selections()
     ensures start_past_stop_undone { flashback_text one_insert (record all { start = 160; stop = Some 100 }) ≡ no_changes }
 {}
 
+/// By the definitions these are the answers where the start or the stop lies inside the event at 4 of a small log or
+/// before it, and where a rest that is no event follows the last event. At the stop or past it neither is looked at.
+pub fn worked_starts()
+    ensures start_inside_first { fault one_insert (record all { start = 60 }) ≡ Some (NoEventAt 60) }
+    ensures start_at_last_byte_of_first { fault one_insert (record all { start = 119 }) ≡ Some (NoEventAt 119) }
+    ensures start_inside_below_stop { fault one_insert (record all { start = 60; stop = Some 61 }) ≡ Some (NoEventAt 60) }
+    ensures start_inside_at_stop_accepted { fault one_insert (record all { start = 60; stop = Some 60 }) ≡ None }
+    ensures start_inside_at_stop_undone { flashback_text one_insert (record all { start = 60; stop = Some 60 }) ≡ no_changes }
+    ensures stop_inside_first_accepted { fault one_insert (record all { stop = Some 60 }) ≡ None }
+    ensures stop_inside_first_undone { flashback_text one_insert (record all { stop = Some 60 }) ≡ no_changes }
+    ensures stop_at_zero_accepted { fault one_insert (record all { stop = Some 0 }) ≡ None }
+    ensures stop_at_zero_undone { flashback_text one_insert (record all { stop = Some 0 }) ≡ no_changes }
+    ensures from_three_accepted { fault one_insert (record all { start = 3 }) ≡ None }
+    ensures from_three_undone { flashback_text one_insert (record all { start = 3 }) ≡ slice_set one_insert 200 32 }
+    ensures rest_below_stop { fault (one_insert ++ 7 ∷ []) (record all { stop = Some 260 }) ≡ Some (CutEvent 259) }
+    ensures rest_at_stop_accepted { fault (one_insert ++ 7 ∷ []) (record all { stop = Some 259 }) ≡ None }
+    ensures rest_at_stop_undone { flashback_text (one_insert ++ 7 ∷ []) (record all { stop = Some 259 }) ≡ slice_set one_insert 200 32 }
+{}
+
 /// By the definitions the groups of these small logs have the events at these positions, and their rows events go by the
 /// maps at these. Of two maps of one table id in a statement it is the first.
 pub fn worked_groups()
