@@ -1,9 +1,10 @@
 -- What counts hold of the rows of tables.
-use Rattle.std.specs.Prelude.{◌≡◌, ◌≤◌, ℕ, Bool, false, List, [], map, length, slice_get, Option, Some, None}
+use Rattle.std.specs.Prelude.{◌≡◌, ◌≤◌, ◌<◌, IfSome, ℕ, Bool, false, List, [], map, length, slice_get, Option, Some, None}
 use Rattle.std.specs.List.{list_any, AllByRecursion, IsDistinct}
 use Rattle.blog_row.specs.TableMap.{Table}
 use Rattle.blog_trans.specs.declared.counts.Count.{Count}
 use Rattle.blog_trans.specs.declared.counts.Counts.{Counts}
+use Rattle.blog_trans.specs.declared.maps.MapSeen.{MapSeen}
 use Rattle.blog_trans.specs.Acceptance.{is_same_table}
 use Rattle.blog_trans.specs.Changes.{Change, TableCount, count_of, first_tables}
 
@@ -31,3 +32,7 @@ pub record AreCounts {A : Type 0} (tables : List Table) (cs : List Change) (ts :
 -- each of the numbers is at most n
 abbrev pub AreFew : {A : Type 0} → ℕ → Counts A → Type 0
 AreFew n counts = AllByRecursion (λ c. (c.inserts ≤ n) × (c.updates ≤ n) × (c.deletes ≤ n)) counts.rows.items
+
+-- the numbers of the maps' tables are below n
+abbrev pub AreBelow : ℕ → List MapSeen → Type 0
+AreBelow n maps = AllByRecursion (λ m. IfSome m.table (λ t. t.number < n)) maps

@@ -71,7 +71,7 @@ impl<A: Allocator + Copy> Counts<A> {
     ghost use Rattle.blog_trans.specs.Changes.{Change, table_of, changes_of_rows};
     ghost use Rattle.blog_trans.specs.TablesView.{table_at};
     ghost use Rattle.blog_trans.specs.StatementMaps.{used_maps};
-    ghost use Rattle.blog_trans.specs.CountsView.{AreCounts, AreFew};
+    ghost use Rattle.blog_trans.specs.CountsView.{AreBelow, AreCounts, AreFew};
 
     /// Nothing is kept yet.
     pub(crate) fn new(alloc: A) -> Self
@@ -113,6 +113,8 @@ impl<A: Allocator + Copy> Counts<A> {
         ensures few { (n : ℕ) → AreFew n self.old → OnOk result (AreFew (n + kept.now.images) self.new) }
         ensures refused { IfErr result (λ fault. fault ≡ OutOfMemory) }
         ensures room { kept.now.table < vec_capacity self.old.rows → IsOk result }
+        ensures capacity { vec_capacity self.old.rows ≤ vec_capacity self.new.rows }
+        ensures tables { self.new.tables ≡ self.old.tables }
     {
         self.reach(kept.table)?;
         let before = self.rows[kept.table as usize];
@@ -147,6 +149,7 @@ impl<A: Allocator + Copy> Counts<A> {
             OnOk result (AreCounts tables cs (ts ++ us) self.new) }
         ensures few { (n : ℕ) → AreFew n self.old → OnOk result (AreFew n self.new) }
         ensures refused { IfErr result (λ fault. fault ≡ OutOfMemory) }
+        ensures room { AreBelow (vec_capacity self.old.rows) (values maps.now) → vec_len self.old.tables + length (values maps.now) ≤ vec_capacity self.old.tables → IsOk result }
     {
         for map in maps.values() {
             if map.used {

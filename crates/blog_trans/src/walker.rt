@@ -17,7 +17,7 @@ pub(crate) struct Walker<'a, A: Allocator> {
 }
 
 impl<'a, A: Allocator + Copy> Walker<'a, A> {
-    ghost use Rattle.std.specs.Prelude.{◌≡◌, ◌+◌, ◌≤◌, ◌<◌, ◌^◌, ℕ, Option, List, [], ◌∷◌, map, length, Some, None, OnOk, IfErr, IfSome, MatchResult, vec_len};
+    ghost use Rattle.std.specs.Prelude.{◌≡◌, ◌+◌, ◌≤◌, ◌<◌, ◌^◌, ℕ, Option, List, [], ◌∷◌, map, length, Some, None, IsOk, OnOk, IfErr, IfSome, MatchResult, vec_len, vec_capacity};
     ghost use Rattle.blog_trans.specs.Places.{since};
     ghost use Rattle.indexmap.specs.IndexMap.{values, index_map_len};
     ghost use Rattle.blog_event.specs.declared.fault.Fault.TheVariants.{OutOfMemory};
@@ -39,7 +39,7 @@ impl<'a, A: Allocator + Copy> Walker<'a, A> {
     ghost use Rattle.blog_trans.specs.Refusals.{IsRefusal};
     ghost use Rattle.blog_trans.specs.KeeperView.{closed_by};
     ghost use Rattle.blog_trans.specs.JudgeView.{Knows};
-    ghost use Rattle.blog_trans.specs.CountsView.{AreFew};
+    ghost use Rattle.blog_trans.specs.CountsView.{AreBelow, AreFew};
     ghost use Rattle.blog_trans.specs.WalkerView.{Walks, IsWithin, IsWalked, Keeps, images_of, placed};
 
     /// Nothing was read yet.
@@ -64,6 +64,10 @@ impl<'a, A: Allocator + Copy> Walker<'a, A> {
         ensures few { vec_len self.new.keeper.entries ≤ vec_len self.old.keeper.entries + 1 }
         ensures numbers { (n : ℕ) → AreFew n self.old.counts → OnOk result (AreFew (n + kept.now.images) self.new.counts) }
         ensures refused { IfErr result (λ fault. fault ≡ OutOfMemory) }
+        ensures room { vec_len self.old.keeper.entries < vec_capacity self.old.keeper.entries → kept.now.table < vec_capacity self.old.counts.rows → IsOk result }
+        ensures entries_capacity { vec_capacity self.old.keeper.entries ≤ vec_capacity self.new.keeper.entries }
+        ensures rows_capacity { vec_capacity self.old.counts.rows ≤ vec_capacity self.new.counts.rows }
+        ensures tables { self.new.counts.tables ≡ self.old.counts.tables }
     {
         self.keeper.rows(at, kept.map)?;
         self.counts.count(kept)?;
@@ -82,6 +86,9 @@ impl<'a, A: Allocator + Copy> Walker<'a, A> {
         ensures few { OnOk result (vec_len self.new.keeper.entries + index_map_len self.new.judge.maps ≤ vec_len self.old.keeper.entries + index_map_len self.old.judge.maps) }
         ensures numbers { (n : ℕ) → AreFew n self.old.counts → OnOk result (AreFew n self.new.counts) }
         ensures refused { IfErr result (λ fault. fault ≡ OutOfMemory) }
+        ensures room { vec_len self.old.keeper.entries + index_map_len self.old.judge.maps ≤ vec_capacity self.old.keeper.entries
+            → AreBelow (vec_capacity self.old.counts.rows) (values self.old.judge.maps) → vec_len self.old.counts.tables + length (values self.old.judge.maps) ≤ vec_capacity self.old.counts.tables
+            → IsOk result }
     {
         self.keeper.close(self.judge.maps())?;
         self.counts.keep(self.judge.maps())?;
@@ -99,6 +106,10 @@ impl<'a, A: Allocator + Copy> Walker<'a, A> {
         ensures few { vec_len self.new.keeper.entries ≤ vec_len self.old.keeper.entries + 1 }
         ensures numbers { (n : ℕ) → AreFew n self.old.counts → OnOk result (AreFew (n + images_of kept) self.new.counts) }
         ensures refused { IfErr result (λ fault. fault ≡ OutOfMemory) }
+        ensures room { vec_len self.old.keeper.entries < vec_capacity self.old.keeper.entries → IfSome kept (λ rows. rows.table < vec_capacity self.old.counts.rows) → IsOk result }
+        ensures entries_capacity { vec_capacity self.old.keeper.entries ≤ vec_capacity self.new.keeper.entries }
+        ensures rows_capacity { vec_capacity self.old.counts.rows ≤ vec_capacity self.new.counts.rows }
+        ensures tables { self.new.counts.tables ≡ self.old.counts.tables }
     {
         match &kept {
             Some(kept) => self.keep(at, kept),
@@ -117,6 +128,9 @@ impl<'a, A: Allocator + Copy> Walker<'a, A> {
         ensures few { OnOk result (vec_len self.new.keeper.entries + index_map_len self.new.judge.maps ≤ vec_len self.old.keeper.entries + index_map_len self.old.judge.maps + 1) }
         ensures numbers { (n : ℕ) → AreFew n self.old.counts → OnOk result (AreFew (n + images_of kept) self.new.counts) }
         ensures refused { IfErr result (λ fault. fault ≡ OutOfMemory) }
+        ensures room { vec_len self.old.keeper.entries + index_map_len self.old.judge.maps < vec_capacity self.old.keeper.entries → IfSome kept (λ rows. rows.table < vec_capacity self.old.counts.rows)
+            → AreBelow (vec_capacity self.old.counts.rows) (values self.old.judge.maps) → vec_len self.old.counts.tables + length (values self.old.judge.maps) ≤ vec_capacity self.old.counts.tables
+            → IsOk result }
     {
         self.keep_if(at, kept)?;
         if last {

@@ -1,4 +1,4 @@
-use Rattle.std.proofs.Common.{slice_get, refl, ◌≡◌, ◌∙◌, ◌++◌, List, [], ◌∷◌, map, Some, ap, sym, subst, append-nil, append_assoc}
+use Rattle.std.proofs.Common.{slice_get, refl, ◌≡◌, ◌∙◌, ◌++◌, List, [], ◌∷◌, map, Some, ap, sym, subst, append-nil, append_assoc, length-append, arith}
 use Rattle.std.specs.Option.{option_and_then}
 use Rattle.std.proofs.lemmas.Iterator.Consumers.{YieldsList-end, YieldsList-from_rest}
 use Rattle.std.proofs.lemmas.Option.{none-some}
@@ -15,6 +15,9 @@ pub loop-map-init : goal.loop-map-init
 loop-map-init g c = record {
   counts = λ tables cs ts us at are. subst (λ vs. AreCounts tables cs vs c.args.self.now) (sym (append-nil ts) ∙ ap (λ vs. ts ++ vs) (no-tables us at)) are;
   few = λ n few. few;
+  rows_capacity = omega arith;
+  at_most = omega arith;
+  tables_capacity = omega arith;
 }
   where
     no-tables : (us : List Table) → [] ≡ map Some us → [] ≡ us
@@ -30,6 +33,9 @@ loop-map-preserved-in-Continue-1 g c = record {
       subst (λ vs. AreCounts tables cs vs c.keep_table.new.self) (append_assoc ts split.0 (split.1 ∷ []) ∙ ap (λ vs. ts ++ vs) (sym split.2))
       (c.in_ok-keep_table.ensures.counts tables cs (ts ++ split.0) split.1 number (c.loop-map.invariant.counts tables cs ts split.0 split.3 are));
   few = λ n few. c.in_ok-keep_table.ensures.few n (c.loop-map.invariant.few n few);
+  rows_capacity = omega (arith, c.loop-map.invariant.rows_capacity, c.in_ok-keep_table.ensures.capacity);
+  at_most = omega (arith, c.loop-map.invariant.at_most, c.in_ok-keep_table.ensures.tables, length-append c.loop-map.yielded (c.in-Some.map ∷ []));
+  tables_capacity = omega (arith, c.loop-map.invariant.tables_capacity, c.in_ok-keep_table.ensures.tables_capacity);
 }
 
 pub loop-map-preserved-in_default : goal.loop-map-preserved-in_default
@@ -39,6 +45,9 @@ loop-map-preserved-in_default g c = record {
       let split = split-last (table_at tables) (used_maps (map (λ m. m.now) c.loop-map.yielded)) c.in-Some.map.now us (sym (ap (map (table_at tables)) used) ∙ at) in
       absurd (none-some split.1 (ap (option_and_then (λ (t : SelectedTable). slice_get tables t.number)) (sym c.in_default.is) ∙ split.4));
   few = c.loop-map.invariant.few;
+  rows_capacity = c.loop-map.invariant.rows_capacity;
+  at_most = omega (arith, c.loop-map.invariant.at_most, length-append c.loop-map.yielded (c.in-Some.map ∷ []));
+  tables_capacity = c.loop-map.invariant.tables_capacity;
 }
 
 pub loop-map-preserved : goal.loop-map-preserved
@@ -47,6 +56,9 @@ loop-map-preserved g c = record {
       let used = used-none (λ m. m.now) c.loop-map.yielded c.in-Some.map c.if-map.false in
       c.loop-map.invariant.counts tables cs ts us (sym (ap (map (table_at tables)) used) ∙ at) are;
   few = c.loop-map.invariant.few;
+  rows_capacity = c.loop-map.invariant.rows_capacity;
+  at_most = omega (arith, c.loop-map.invariant.at_most, length-append c.loop-map.yielded (c.in-Some.map ∷ []));
+  tables_capacity = c.loop-map.invariant.tables_capacity;
 }
 
 pub returns-clause-counts : goal.returns-clause-counts
