@@ -1,6 +1,6 @@
 //! Going through the events of a log.
 
-ghost use Rattle.std.specs.Prelude.{◌≡◌, ◌≤◌, ◌+◌, ◌-◌, ◌/◌, length, IfSome};
+ghost use Rattle.std.specs.Prelude.{◌≡◌, ◌≤◌, ◌+◌, ◌-◌, ◌/◌, length, Some, IfSome};
 
 use crate::event::Event;
 use crate::fault::Fault;
@@ -63,6 +63,7 @@ impl<'a> Iterator for Events<'a> {
     /// one more.
     fn size_hint(&self) -> (usize, Option<usize>)
         ensures least { result.0 ≤ length (items_left self.now) }
+        ensures most { result.1 ≡ Some (most_left self.now) }
         ensures lower { IsWithinCount result.0 (at_most (most_left self.now)) }
         ensures upper { IfSome result.1 (UpTo (at_most (most_left self.now))) }
     {

@@ -1,6 +1,6 @@
 //! Going through the rows of a rows event.
 
-ghost use Rattle.std.specs.Prelude.{◌≡◌, ◌≤◌, ◌+◌, is_some, true, length, option_to_list, IfSome};
+ghost use Rattle.std.specs.Prelude.{◌≡◌, ◌≤◌, ◌+◌, is_some, true, length, option_to_list, Some, IfSome};
 ghost use Rattle.blog_row.specs.Image.{images_of};
 ghost use Rattle.blog_row.specs.LayoutView.{layout_columns};
 
@@ -88,6 +88,7 @@ impl<'a> Iterator for Rows<'a> {
     /// How many rows are left is known by going through them alone: at least none, and at most one for each byte.
     fn size_hint(&self) -> (usize, Option<usize>)
         ensures least { result.0 ≤ length (rows_left self.now) }
+        ensures most { result.1 ≡ Some (most_left self.now) }
         ensures lower { IsWithinCount result.0 (at_most (most_left self.now)) }
         ensures upper { IfSome result.1 (UpTo (at_most (most_left self.now))) }
     {
