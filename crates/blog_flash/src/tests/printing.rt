@@ -91,6 +91,32 @@ fn transactions_are_undone_from_the_last(rt: HostRuntime) -> Result<(), Fail> {
     Ok(())
 }
 
+// As many copies of a text, one behind the other.
+fn repeated(rt: &impl AllocGlobal, text: &[u8], copies: usize) -> Result<Vec<u8>, Fail> {
+    let mut all = Vec::new(rt.alloc());
+    for _ in 0..copies {
+        all.extend_from_slice(text)?;
+    }
+    Ok(all)
+}
+
+#[test]
+fn many_transactions_are_printed(rt: HostRuntime) -> Result<(), Fail> {
+    let all = Selection::all();
+    let mut log = INSERT_ONE_ROW[..120].to_vec(rt.alloc())?;
+    log.extend_from_slice(&repeated(&rt, &INSERT_ONE_ROW[120..], 1000)?)?;
+    let inserts = b"BEGIN\n### INSERT INTO `d`.`t`\n### SET\n###   @1=X'05000000'\nCOMMIT\n";
+    let deletes = b"BEGIN\n### DELETE FROM `d`.`t`\n### WHERE\n###   @1=X'05000000'\nCOMMIT\n";
+    let text = sql(rt.alloc(), &log, &all, false)?;
+    assert_eq!(rt; text.as_slice(), repeated(&rt, inserts, 1000)?.as_slice());
+    let text = sql(rt.alloc(), &log, &all, true)?;
+    assert_eq!(rt; text.as_slice(), repeated(&rt, deletes, 1000)?.as_slice());
+    let text = summary(rt.alloc(), &log, &all)?;
+    let wanted = b"transactions 1000\nstatements 1000\n`d`.`t` inserts 1000 updates 0 deletes 0\n";
+    assert_eq!(rt; text.as_slice(), wanted.as_slice());
+    Ok(())
+}
+
 #[test]
 fn tables_are_counted_in_order(rt: HostRuntime) -> Result<(), Fail> {
     let first: Part<'_> = (19, 38, b"\x01\0\0\0\0\0\x01\0\x01d\0\x02t1\0\x01\x03\0\x01");
