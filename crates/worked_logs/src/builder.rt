@@ -273,7 +273,17 @@ fn put_map(log: &mut Vec<u8>, table: &Table<'_>) -> Result<(), AllocError> {
 }
 
 fn put_rows(log: &mut Vec<u8>, rows: &Rows<'_>) -> Result<(), AllocError> {
-    let images = images_of(*log.allocator(), rows.images)?;
+    match rows.images {
+        Images::Longs(values) => {
+            let images = images_of_longs(*log.allocator(), values)?;
+            put_rows_with(log, rows, &images)
+        }
+        Images::Bytes(images) => put_rows_with(log, rows, images),
+    }
+}
+
+/// Appends a rows event with these images in the place of its own.
+fn put_rows_with(log: &mut Vec<u8>, rows: &Rows<'_>, images: &[u8]) -> Result<(), AllocError> {
     let id = rows.id.to_le_bytes();
     let [low, high] = rows.flags.to_le_bytes();
     let extra_len = low_byte(rows.extra).wrapping_add(2);
@@ -285,16 +295,12 @@ fn put_rows(log: &mut Vec<u8>, rows: &Rows<'_>) -> Result<(), AllocError> {
         rows.extra,
         &count,
         rows.bitmaps,
-        images.as_slice(),
+        images,
     ];
     put_event(log, rows.kind, 0, &body)
 }
 
-fn images_of(alloc: Global, images: Images<'_>) -> Result<Vec<u8>, AllocError> {
-    let values = match images {
-        Images::Longs(values) => values,
-        Images::Bytes(bytes) => return bytes.to_vec(alloc),
-    };
+fn images_of_longs(alloc: Global, values: &[u8]) -> Result<Vec<u8>, AllocError> {
     let mut bytes = Vec::new(alloc);
     for value in values {
         bytes.extend_from_slice(&[0xFE, *value, 0, 0, 0])?;
@@ -330,15 +336,21 @@ fn four_bytes(number: usize) -> [u8; 4] {
     [first, second, third, fourth]
 }
 
-/// A log with some of its bytes set to others: each pair is a position and a byte.
+/// Sets some bytes to others: each pair is a position and a byte.
+pub fn set_bytes(bytes: &mut [u8], edits: &[(usize, u8)]) -> Result<(), Fail> {
+    for (at, byte) in edits {
+        *bytes.get_mut(*at).ok_or("an edit past the end")? = *byte;
+    }
+    Ok(())
+}
+
+/// A log with some of its bytes set to others.
 pub fn with_bytes(
     rt: &impl AllocGlobal,
     log: &[u8],
     edits: &[(usize, u8)],
 ) -> Result<Vec<u8>, Fail> {
     let mut log = log.to_vec(rt.alloc())?;
-    for (at, byte) in edits {
-        *log.get_mut(*at).ok_or("an edit past the log's end")? = *byte;
-    }
+    set_bytes(&mut log, edits)?;
     Ok(log)
 }

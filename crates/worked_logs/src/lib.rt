@@ -16,6 +16,8 @@ mod group_tests;
 #[cfg(test)]
 mod index_view;
 #[cfg(test)]
+mod large_run_tests;
+#[cfg(test)]
 mod large_tests;
 #[cfg(test)]
 mod log_tests;
@@ -32,6 +34,8 @@ mod replay;
 #[cfg(test)]
 mod replay_tests;
 #[cfg(test)]
+mod run_tests;
+#[cfg(test)]
 mod sample_tests;
 #[cfg(test)]
 mod sample_undoing_tests;
@@ -39,5 +43,7 @@ mod sample_undoing_tests;
 mod samples;
 #[cfg(test)]
 mod selection_tests;
+#[cfg(test)]
+mod short_reads;
 #[cfg(test)]
 mod undoing_tests;

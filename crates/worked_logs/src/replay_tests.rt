@@ -1,15 +1,54 @@
 //! Applying a log's changes, and then those of the log that undoes them.
 
-use crate::calls::flashback;
+use crate::calls::{flashback, forward};
 use crate::logs::{two_statements, two_tables, two_transactions, two_updates};
 use crate::replay::{ReplayFault, Tables, changes_of};
 use crate::sample_tests::{BEFORE, BEHIND};
 use crate::samples::{ALTER_BETWEEN, INSERT, MULTI_TABLE, SAVEPOINT_KEPT, UPDATE};
-use blog_trans::Selection;
+use blog_event::Log;
+use blog_trans::{Selection, index};
+use std::alloc::Global;
 use std::process::Abort;
 use std::test::Fail;
 
-/// After each written transaction the tables are as they were before as many of the selected last ones.
+/// Where the fronts of a written log end: behind its format description, and behind each of its transactions.
+fn front_ends(alloc: Global, written: &[u8]) -> Result<Vec<usize>, Fail> {
+    let log = Log::open(written)?;
+    let index = index(alloc, &log, &Selection::all())?;
+    let mut ends = vec![in alloc; log.first() as usize]?;
+    for t in 0..index.transactions() {
+        let end = index.end(t);
+        ends.push(end.pos.wrapping_add(end.header.size) as usize)?;
+    }
+    Ok(ends)
+}
+
+/// A front of a written log is a log of its own with so many transactions, in normal form. Behind its changes the
+/// tables are as they were before as many of the selected last ones.
+fn check_front<'b, R: AllocGlobal + Abort>(
+    rt: &R,
+    log: &'b [u8],
+    sel: &Selection<'_>,
+    front: &'b [u8],
+    count: usize,
+) -> Result<(), Fail> {
+    let all = Selection::all();
+    let normal = forward(rt.alloc(), front, &all)?;
+    assert_eq!(rt; normal.as_slice(), front);
+    let source = changes_of(rt.alloc(), log, sel)?;
+    let undoing = changes_of(rt.alloc(), front, &all)?;
+    assert_eq!(rt; undoing.len(), count);
+    let mut tables = Tables::least(rt.alloc(), &source)?;
+    tables.apply(&source)?;
+    tables.apply(&undoing)?;
+    let kept = source.len().checked_sub(count).ok_or("too many")?;
+    let mut earlier = Tables::least(rt.alloc(), &source)?;
+    earlier.apply(&source[..kept])?;
+    assert!(rt; tables == earlier, "behind {count}");
+    Ok(())
+}
+
+/// So it is with each front of a written log, from its format description alone to the whole of it.
 fn check_stops<'b, R: AllocGlobal + Abort>(
     rt: &R,
     log: &'b [u8],
@@ -17,15 +56,12 @@ fn check_stops<'b, R: AllocGlobal + Abort>(
     written: &'b [u8],
 ) -> Result<(), Fail> {
     let source = changes_of(rt.alloc(), log, sel)?;
-    let undoing = changes_of(rt.alloc(), written, &Selection::all())?;
-    assert_eq!(rt; undoing.len(), source.len());
-    for count in 0..=source.len() {
-        let mut tables = Tables::least(rt.alloc(), &source)?;
-        tables.apply(&source)?;
-        tables.apply(&undoing[..count])?;
-        let mut earlier = Tables::least(rt.alloc(), &source)?;
-        earlier.apply(&source[..source.len() - count])?;
-        assert!(rt; tables == earlier, "behind {count}");
+    let ends = front_ends(rt.alloc(), written)?;
+    assert_eq!(rt; ends.len(), source.len() + 1);
+    assert_eq!(rt; ends.last(), Some(&written.len()));
+    for (count, end) in ends.iter().enumerate() {
+        let front = written.get(..*end).ok_or("too short")?;
+        check_front(rt, log, sel, front, count)?;
     }
     Ok(())
 }
@@ -86,6 +122,8 @@ fn check_in_turn<'b, R: AllocGlobal + Abort>(
     let source = changes_of(rt.alloc(), log, &Selection::all())?;
     let undoing = changes_of(rt.alloc(), written, &Selection::all())?;
     assert_eq!(rt; undoing.len(), 2);
+    let ends = front_ends(rt.alloc(), written)?;
+    assert_eq!(rt; ends.as_slice(), [120, 259, 411].as_slice());
     let mut tables = Tables::least(rt.alloc(), &source)?;
     assert_eq!(rt; tables.counts(rt.alloc())?.as_slice(), [(8, 1)].as_slice());
     tables.apply(&source)?;
