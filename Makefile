@@ -29,8 +29,9 @@ $(PROGRAM): $(SOURCES)
 demo: $(PROGRAM)
 	@sh examples/demo.sh $(PROGRAM) $(LOG) $(UNDO)
 
+# a lane for each processor: by itself rt holds lanes back for more memory than these checks take
 test:
-	@$(RT) ci
+	@RT_JOBS=$${RT_JOBS:-$$(nproc)} $(RT) ci
 
 # the program that measures the layers; rt runs it on a small log
 $(LAYERS): $(SOURCES)

@@ -1,5 +1,5 @@
 #!/usr/bin/env python3
-"""Writes a binary log of version 4 (rows events version 2, no checksum, server 5.6.51) to measure with.
+"""Writes a binary log of version 4 (rows events of version 2, or 1 in one shape, no checksum, server 5.6.51) to measure with.
 
     make_log.py SHAPE MB FILE
     make_log.py SHAPE COUNT FILE
@@ -35,6 +35,8 @@ def packed(number):
 class Events:
     """Events one after the other, and the places of their log positions."""
 
+    version_one = False  # of rows events: without an extra length, and of types 7 below those of version 2
+
     def __init__(self):
         self.bytes = bytearray()
         self.ends = []  # (place of the field, end of the event), both from the part's start
@@ -60,9 +62,9 @@ class Events:
     def rows_event(self, table, kind, images, last):
         """images: one for each row, two for an update."""
         bits = b"\xff" * ((table.count + 7) // 8)
-        body = table.id + struct.pack("<HH", END if last else 0, 2) + packed(table.count)
-        body += bits * (2 if kind == UPDATE else 1)
-        self.put(kind, body + b"".join(images))
+        body = table.id + struct.pack("<H", END if last else 0) + (b"" if self.version_one else b"\2\0")
+        body += packed(table.count) + bits * (2 if kind == UPDATE else 1)
+        self.put(kind - 7 if self.version_one else kind, body + b"".join(images))
         self.rows += len(images) // (2 if kind == UPDATE else 1)
 
 
@@ -175,6 +177,12 @@ def mixed(source, part, size):
         part.xid(number)
 
 
+def version_one(source, part, size):
+    """The same transactions as in mixed, with rows events of version 1."""
+    part.version_one = True
+    mixed(source, part, size)
+
+
 def one_row(source, part, size, count=0):
     """Transactions of one statement that inserts one row."""
     table, number = Table(70, b"shop", b"stock", [LONG, LONG, NULL_LONG, DATETIME2]), 0
@@ -277,7 +285,7 @@ def columns_of(count):
     return columns
 
 
-REPEATED = {"mixed": mixed, "one_row": one_row, "wide": wide, "many_statements": many_statements,
+REPEATED = {"mixed": mixed, "version_one": version_one, "one_row": one_row, "wide": wide, "many_statements": many_statements,
             "small_events": events_of(36), "large_events": events_of(8192),
             "columns_10": columns_of(10), "columns_512": columns_of(512), "columns_4096": columns_of(4096)}
 WHOLE = {"many_maps": many_maps, "many_tables": many_tables}

@@ -1,7 +1,9 @@
 //! Bench code: the walk from front to back that judges each event and keeps the groups.
 
 use crate::columns::{are_set, image_length, Columns, Map, Storage};
-use crate::{number_at, packed_at, Event, Fault, DELETE, QUERY, TABLE_MAP, UPDATE, WRITE, XID};
+use crate::{
+    number_at, packed_at, Event, Fault, DELETE, DELETE_V1, QUERY, TABLE_MAP, WRITE, WRITE_V1, XID,
+};
 use std::collections::HashMap;
 
 /// The groups, as positions of events. Each list ends where that of the next begins.
@@ -49,10 +51,11 @@ pub struct RowsBody<'a> {
 }
 
 impl<'a> RowsBody<'a> {
-    pub fn read(kind: u8, body: &'a [u8], columns: usize) -> Option<RowsBody<'a>> {
-        let extra = number_at(body, 8, 2).filter(|&extra| extra >= 2)?;
+    pub fn read(event: &Event<'a>, columns: usize) -> Option<RowsBody<'a>> {
+        let body = event.body;
+        let extra = if event.is_version_1() { 0 } else { number_at(body, 8, 2).filter(|&extra| extra >= 2)? };
         let (count, at) = packed_at(body, 8 + extra)?;
-        let images = at + columns.div_ceil(8) * if kind == UPDATE { 2 } else { 1 };
+        let images = at + columns.div_ceil(8) * if event.is_update() { 2 } else { 1 };
         let bitmaps = body.get(at..images).filter(|_| count == columns)?;
         Some(RowsBody { head: &body[..8], count: &body[8 + extra..at], bitmaps, images: &body[images..] })
     }
@@ -122,7 +125,7 @@ impl<'a> Walk<'a> {
             1 | 5..=14 | 17 | 18 => Err("Statement"),
             15 => Err("OutOfPlace"),
             TABLE_MAP => self.map(event),
-            WRITE..=DELETE => self.rows(event),
+            WRITE_V1..=DELETE_V1 | WRITE..=DELETE => self.rows(event),
             39 => Err("PartialImage"),
             0 | 27 | 28 | 36 | 41..=159 if event.is_ignorable() => Ok(()),
             _ => Err("UnknownEvent"),
@@ -202,7 +205,7 @@ impl<'a> Walk<'a> {
 
     fn rows(&mut self, event: Event<'a>) -> Result<(), &'static str> {
         self.inside()?;
-        if event.body.len() < 10 {
+        if event.body.len() < if event.is_version_1() { 8 } else { 10 } {
             return Err("BadBody");
         }
         let id = number_at(event.body, 0, 6).ok_or("BadBody")? as u64;
@@ -236,8 +239,7 @@ impl<'a> Walk<'a> {
 }
 
 fn judge_rows(event: &Event, columns: &[Storage]) -> Result<(), &'static str> {
-    let update = event.kind() == UPDATE;
-    let body = RowsBody::read(event.kind(), event.body, columns.len()).ok_or("BadBody")?;
+    let body = RowsBody::read(event, columns.len()).ok_or("BadBody")?;
     if !body.bitmaps.chunks(columns.len().div_ceil(8)).all(|bitmap| are_set(bitmap, columns.len())) {
         return Err("PartialImage");
     }
@@ -246,5 +248,5 @@ fn judge_rows(event: &Event, columns: &[Storage]) -> Result<(), &'static str> {
         rest = &rest[image_length(columns, rest).ok_or("BadBody")?..];
         count += 1;
     }
-    if update && count % 2 == 1 { Err("BadBody") } else { Ok(()) }
+    if event.is_update() && count % 2 == 1 { Err("BadBody") } else { Ok(()) }
 }

@@ -25,6 +25,10 @@ pub const QUERY: u8 = 2;
 pub const FORMAT: u8 = 15;
 pub const XID: u8 = 16;
 pub const TABLE_MAP: u8 = 19;
+/// Rows events of version 1, which have no extra bytes.
+pub const WRITE_V1: u8 = 23;
+pub const UPDATE_V1: u8 = 24;
+pub const DELETE_V1: u8 = 25;
 pub const WRITE: u8 = 30;
 pub const UPDATE: u8 = 31;
 pub const DELETE: u8 = 32;
@@ -74,6 +78,16 @@ impl<'a> Event<'a> {
         self.header[4]
     }
 
+    /// Whether it is an update.
+    pub fn is_update(&self) -> bool {
+        matches!(self.kind(), UPDATE_V1 | UPDATE)
+    }
+
+    /// Whether it is a rows event of version 1.
+    pub fn is_version_1(&self) -> bool {
+        self.kind() < WRITE
+    }
+
     pub fn end(&self) -> usize {
         self.at + HEADER + self.body.len()
     }
@@ -89,9 +103,13 @@ fn check_format(event: &Event) -> Result<(), Fault> {
     let passes = |good: bool, name| if good { Ok(()) } else { Err(Fault(name, event.at)) };
     passes(event.kind() == FORMAT && body.len() >= 57, "BadFormat")?;
     passes(body[0] == 4 && body[1] == 0 && body[56] == 19, "BadFormat")?;
-    passes(version(&body[2..52]).is_some_and(|version| version >= [5, 6, 1]), "OldServer")?;
-    let lengths = [(QUERY, 13), (TABLE_MAP, 8), (WRITE, 10), (UPDATE, 10), (DELETE, 10)];
+    let version = version(&body[2..52]).ok_or(Fault("OldServer", event.at))?;
     let agrees = |&(kind, length): &(u8, u8)| body[56 + kind as usize] == length;
+    if version < [5, 6, 1] {
+        let lengths = [(QUERY, 13), (TABLE_MAP, 8), (WRITE_V1, 8), (UPDATE_V1, 8), (DELETE_V1, 8)];
+        return passes(body.len() >= 82 && lengths.iter().all(agrees), "BadFormat");
+    }
+    let lengths = [(QUERY, 13), (TABLE_MAP, 8), (WRITE, 10), (UPDATE, 10), (DELETE, 10)];
     passes(body.len() >= 94 && lengths.iter().all(agrees), "BadFormat")?;
     passes(body[body.len() - 5] == 0, "Checksums")
 }

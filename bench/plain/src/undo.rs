@@ -2,7 +2,7 @@
 
 use crate::columns::{image_length, Storage};
 use crate::index::{Index, Rows, RowsBody};
-use crate::{Event, DELETE, HEADER, UPDATE, WRITE};
+use crate::{Event, DELETE, DELETE_V1, HEADER, WRITE, WRITE_V1};
 
 /// The log that undoes; the first bytes up to `first` are those of the old one.
 pub fn write(log: &[u8], first: usize, index: &Index) -> Vec<u8> {
@@ -66,18 +66,22 @@ impl<'a> Undo<'a> {
     fn rows(&mut self, rows: Rows, is_last: bool) {
         let event = self.event(rows.at);
         let columns = &self.index.tables[rows.table as usize].storages;
-        let body = RowsBody::read(event.kind(), event.body, columns.len()).expect("a rows event that was judged");
+        let body = RowsBody::read(&event, columns.len()).expect("a rows event that was judged");
         let kind = match event.kind() {
+            WRITE_V1 => DELETE_V1,
+            DELETE_V1 => WRITE_V1,
             WRITE => DELETE,
             DELETE => WRITE,
             other => other,
         };
-        let size = 10 + body.count.len() + body.bitmaps.len() + body.images.len();
+        let extra: &[u8] = if event.is_version_1() { &[] } else { &[2, 0] };
+        let size = 8 + extra.len() + body.count.len() + body.bitmaps.len() + body.images.len();
         self.header(event.header, kind, size);
         self.text.extend_from_slice(&body.head[..6]);
-        self.text.extend_from_slice(&[body.head[6] & !1 | u8::from(is_last), body.head[7], 2, 0]);
+        self.text.extend_from_slice(&[body.head[6] & !1 | u8::from(is_last), body.head[7]]);
+        self.text.extend_from_slice(extra);
         self.text.extend_from_slice(body.count);
-        let (before, after) = body.bitmaps.split_at(if kind == UPDATE { body.bitmaps.len() / 2 } else { 0 });
+        let (before, after) = body.bitmaps.split_at(if event.is_update() { body.bitmaps.len() / 2 } else { 0 });
         self.text.extend_from_slice(after);
         self.text.extend_from_slice(before);
         self.images(body.images, columns);

@@ -58,7 +58,7 @@ fn rows_events_of<'a, A: Allocator + Copy>(
             maps.push(mapped_by(&event)?)?;
         } else if let Some(kind) = RowsKind::of_type(event.header.kind) {
             let bad = Failure::Body { pos: event.pos };
-            let Ok(head) = RowsHead::read(event.body) else {
+            let Ok(head) = RowsHead::read(kind.version, event.body) else {
                 return Err(bad);
             };
             let Some(layout) = layout_of(&maps, head.table_id()) else {
@@ -123,7 +123,7 @@ fn sizes_of(read: &[RowsEvent<'_>]) -> Sizes {
     };
     for event in read {
         let rows = event.rows().count() as u64;
-        let images = rows.saturating_mul(event.kind().images_a_row() as u64);
+        let images = rows.saturating_mul(event.kind().action.images_a_row() as u64);
         sizes.rows = sizes.rows.saturating_add(rows);
         let values = images.saturating_mul(event.layout().columns() as u64);
         sizes.values = sizes.values.saturating_add(values);

@@ -10,7 +10,7 @@ use Rattle.std.proofs.Math.Numerals.{one-add}
 use Rattle.blog_event.specs.declared.fault.Fault.TheVariants.{BadFormat, OldServer, Checksums}
 use Rattle.blog_event.specs.Fault.{Cause, needs, first_failing}
 use Rattle.blog_event.specs.Event.{Event}
-use Rattle.blog_event.specs.Format.{Version, front_while, number_front, after_point, ◌>>=◌, version_of, version_text, binlog_version, header_length, has_lengths, checksum_algorithm, is_served, checked_lengths, format_fault}
+use Rattle.blog_event.specs.Format.{Version, front_while, number_front, after_point, ◌>>=◌, version_of, version_text, binlog_version, header_length, has_lengths, checksum_algorithm, is_old, old_lengths, checked_lengths, server_checks, format_fault}
 
 -- ---- the front of a list
 
@@ -123,15 +123,12 @@ three-checks true true false cause checks = refl
 three-checks true false c cause checks = refl
 three-checks false b c cause checks = refl
 
--- the checks, by what each says
-pub format-fault-is : (e : Event) (fixed served lengths plain : Bool)
+-- the checks, by what the first three say together
+pub format-fault-is : (e : Event) (fixed : Bool)
     → fixed ≡ (e.kind == 15 && (nat_le 57 (length e.body) && (binlog_version e.body == 4 && header_length e.body == 19)))
-    → served ≡ is_served (version_of (version_text e.body)) → lengths ≡ (nat_le 94 (length e.body) && has_lengths checked_lengths e.body)
-    → plain ≡ (checksum_algorithm e.body == 0)
-    → format_fault e ≡ first_failing (needs fixed BadFormat ∷ needs served OldServer ∷ needs lengths BadFormat ∷ needs plain Checksums ∷ [])
+    → format_fault e ≡ first_failing (needs fixed BadFormat ∷ server_checks (version_of (version_text e.body)) e.body)
 unfolding format_fault
-format-fault-is e fixed served lengths plain one two three four =
+format-fault-is e fixed one =
     three-checks (e.kind == 15) (nat_le 57 (length e.body)) (binlog_version e.body == 4 && header_length e.body == 19) BadFormat
-    (needs (is_served (version_of (version_text e.body))) OldServer
-    ∷ needs (nat_le 94 (length e.body) && has_lengths checked_lengths e.body) BadFormat ∷ needs (checksum_algorithm e.body == 0) Checksums ∷ [])
-    ∙ rw (one, two, three, four) refl
+    (server_checks (version_of (version_text e.body)) e.body)
+    ∙ rw (one) refl

@@ -1,7 +1,7 @@
 -- The format description event, the first of each file (MySQL Internals manual, "FORMAT_DESCRIPTION_EVENT").
 -- Body: binlog version, 2 bytes; server version, 50; creation time, 4; header length, 1; the post-header length of
--- each event type from 1 on, 1 each; checksum algorithm, 1; checksum, 4.
-use Rattle.std.specs.Prelude.{ℕ, ◌+◌, ◌-◌, ◌*◌, ◌==◌, ◌&&◌, ◌||◌, nat_lt, nat_le, not, Bool, false, if◌then◌else◌, List, [], ◌∷◌, length, take, drop, fold, slice_index, Option, Some, None}
+-- each event type from 1 on, 1 each; and of a server from 5.6.1 on checksum algorithm, 1; checksum, 4.
+use Rattle.std.specs.Prelude.{ℕ, ◌+◌, ◌-◌, ◌*◌, ◌==◌, ◌&&◌, ◌||◌, nat_lt, nat_le, not, Bool, if◌then◌else◌, List, [], ◌∷◌, length, take, drop, fold, slice_index, Option, Some, None}
 use Rattle.std.specs.Char.{is_ascii_digit}
 use Rattle.std.specs.List.{list_all}
 use Rattle.byteorder.specs.Endian.{little_number}
@@ -77,20 +77,31 @@ post_header_length body kind = slice_index body (56 + kind)
 abbrev pub has_lengths : List (ℕ × ℕ) → List ℕ → Bool
 has_lengths lengths body = list_all (λ entry. post_header_length body entry.0 == entry.1) lengths
 
--- the fifth byte from the end
+-- the fifth byte from the end, of a server from 5.6.1 on
 abbrev pub checksum_algorithm : List ℕ → ℕ
 checksum_algorithm body = slice_index body (length body - 5)
 
 -- ---- the checks
 
--- the servers of this profile: MySQL 5.6.1 brought the checksum algorithm into this event
-abbrev pub is_served : Option Version → Bool
-is_served None = false
-is_served (Some v) = not (is_older v (record { major = 5; minor = 6; patch = 1 }))
+-- a server below 5.6.1, which brought the checksum algorithm into this event
+abbrev pub is_old : Version → Bool
+is_old v = is_older v (record { major = 5; minor = 6; patch = 1 })
 
--- Query, Table_map, and the rows events of version 2
+-- before: 25 types at least; Query, Table_map, and the rows events of version 1
+abbrev pub old_lengths : List (ℕ × ℕ)
+old_lengths = (2, 13) ∷ (19, 8) ∷ (23, 8) ∷ (24, 8) ∷ (25, 8) ∷ []
+
+-- since then: 32 types at least; Query, Table_map, and the rows events of version 2
 abbrev pub checked_lengths : List (ℕ × ℕ)
 checked_lengths = (2, 13) ∷ (19, 8) ∷ (30, 10) ∷ (31, 10) ∷ (32, 10) ∷ []
+
+-- the checks by the server's version: it is readable; the post-header lengths; since 5.6.1, no checksum algorithm
+abbrev pub server_checks : Option Version → List ℕ → List (Option Cause)
+server_checks None body = Some OldServer ∷ []
+server_checks (Some v) body =
+    if is_old v
+    then needs (nat_le 82 (length body) && has_lengths old_lengths body) BadFormat ∷ []
+    else needs (nat_le 94 (length body) && has_lengths checked_lengths body) BadFormat ∷ needs (checksum_algorithm body == 0) Checksums ∷ []
 
 -- the first check of the event at 4 that fails
 unfoldable pub format_fault : Event → Option Cause
@@ -98,7 +109,4 @@ format_fault e = first_failing (
     needs (e.kind == 15) BadFormat
     ∷ needs (nat_le 57 (length e.body)) BadFormat
     ∷ needs (binlog_version e.body == 4 && header_length e.body == 19) BadFormat
-    ∷ needs (is_served (version_of (version_text e.body))) OldServer
-    ∷ needs (nat_le 94 (length e.body) && has_lengths checked_lengths e.body) BadFormat
-    ∷ needs (checksum_algorithm e.body == 0) Checksums
-    ∷ [])
+    ∷ server_checks (version_of (version_text e.body)) e.body)

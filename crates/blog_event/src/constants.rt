@@ -42,6 +42,12 @@ pub const BEGIN_LOAD_QUERY_EVENT: u8 = 17;
 pub const EXECUTE_LOAD_QUERY_EVENT: u8 = 18;
 /// The layout of a table, before its rows events.
 pub const TABLE_MAP_EVENT: u8 = 19;
+/// Rows inserted, version 1.
+pub const WRITE_ROWS_EVENT_V1: u8 = 23;
+/// Rows changed, version 1.
+pub const UPDATE_ROWS_EVENT_V1: u8 = 24;
+/// Rows deleted, version 1.
+pub const DELETE_ROWS_EVENT_V1: u8 = 25;
 /// A sign of life of an idle server.
 pub const HEARTBEAT_LOG_EVENT: u8 = 27;
 /// An event that any reader may skip.
@@ -71,6 +77,7 @@ pub fn types_have_their_numbers()
         ∷ CREATE_FILE_EVENT ∷ APPEND_BLOCK_EVENT ∷ EXEC_LOAD_EVENT ∷ DELETE_FILE_EVENT ∷ NEW_LOAD_EVENT ∷ RAND_EVENT ∷ USER_VAR_EVENT
         ∷ FORMAT_DESCRIPTION_EVENT ∷ XID_EVENT ∷ BEGIN_LOAD_QUERY_EVENT ∷ EXECUTE_LOAD_QUERY_EVENT ∷ TABLE_MAP_EVENT ∷ []
         ≡ 0 ∷ 1 ∷ 2 ∷ 3 ∷ 4 ∷ 5 ∷ 6 ∷ 7 ∷ 8 ∷ 9 ∷ 10 ∷ 11 ∷ 12 ∷ 13 ∷ 14 ∷ 15 ∷ 16 ∷ 17 ∷ 18 ∷ 19 ∷ [] }
+    ensures rows { WRITE_ROWS_EVENT_V1 ∷ UPDATE_ROWS_EVENT_V1 ∷ DELETE_ROWS_EVENT_V1 ∷ [] ≡ 23 ∷ 24 ∷ 25 ∷ [] }
     ensures later { HEARTBEAT_LOG_EVENT ∷ IGNORABLE_LOG_EVENT ∷ ROWS_QUERY_LOG_EVENT ∷ WRITE_ROWS_EVENT ∷ UPDATE_ROWS_EVENT ∷ DELETE_ROWS_EVENT
         ∷ GTID_LOG_EVENT ∷ ANONYMOUS_GTID_LOG_EVENT ∷ PREVIOUS_GTIDS_LOG_EVENT ∷ TRANSACTION_CONTEXT_EVENT ∷ PARTIAL_UPDATE_ROWS_EVENT ∷ []
         ≡ 27 ∷ 28 ∷ 29 ∷ 30 ∷ 31 ∷ 32 ∷ 33 ∷ 34 ∷ 35 ∷ 36 ∷ 39 ∷ [] }

@@ -19,7 +19,7 @@ pub enum Fault {
     /// The event at 4 isn't a format description of this profile; at 4.
     #[error("BadFormat at {pos}")]
     BadFormat { pos: u32 },
-    /// The server version is unreadable or below 5.6.1; at 4.
+    /// The server version is unreadable; at 4.
     #[error("OldServer at {pos}")]
     OldServer { pos: u32 },
     /// The checksum algorithm isn't 0; at 4.

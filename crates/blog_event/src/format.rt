@@ -6,13 +6,14 @@ ghost use Rattle.std.specs.Prelude.{◌≡◌, ◌+◌, ◌-◌, ◌<◌, ◌≤
 ghost use Rattle.std.specs.Result.{result_err};
 ghost use Rattle.std.specs.Char.{is_ascii_digit};
 ghost use Rattle.blog_event.specs.Event.{event_of};
-ghost use Rattle.blog_event.specs.Fault.{fault_at};
-ghost use Rattle.blog_event.specs.Format.{front_while, decimal, number_front, after_point, version_of, version_text, binlog_version, header_length, post_header_length, has_lengths, checked_lengths, is_served, format_fault};
+ghost use Rattle.blog_event.specs.Fault.{fault_at, first_failing};
+ghost use Rattle.blog_event.specs.Format.{front_while, decimal, number_front, after_point, version_of, version_text, binlog_version, header_length, post_header_length, has_lengths, old_lengths, checked_lengths, is_old, server_checks, format_fault};
 ghost use Rattle.blog_event.specs.Versions.{version_value};
 
 use crate::constants::{
-    DELETE_ROWS_EVENT, FORMAT_DESCRIPTION_EVENT, QUERY_EVENT, TABLE_MAP_EVENT, UPDATE_ROWS_EVENT,
-    WRITE_ROWS_EVENT,
+    DELETE_ROWS_EVENT, DELETE_ROWS_EVENT_V1, FORMAT_DESCRIPTION_EVENT, QUERY_EVENT,
+    TABLE_MAP_EVENT, UPDATE_ROWS_EVENT, UPDATE_ROWS_EVENT_V1, WRITE_ROWS_EVENT,
+    WRITE_ROWS_EVENT_V1,
 };
 use crate::event::Event;
 use crate::fault::Fault;
@@ -27,7 +28,7 @@ struct Version {
 }
 
 /// The version that brought the checksum algorithm into the format description.
-const FIRST_SERVED: Version = Version {
+const FIRST_WITH_ALGORITHM: Version = Version {
     major: 5,
     minor: 6,
     patch: 1,
@@ -96,14 +97,11 @@ fn version_of(text: &[u8]) -> Option<Version>
     })
 }
 
-/// Whether a server of this version text is served: it is readable and not below 5.6.1.
-fn is_served(text: &[u8]) -> bool
-    ensures { result ≡ is_served (version_of text.now) }
+/// Whether the format descriptions of a server have no checksum algorithm.
+fn is_old(version: Version) -> bool
+    ensures { result ≡ is_old (version_value version) }
 {
-    match version_of(text) {
-        Some(version) => version >= FIRST_SERVED,
-        None => false,
-    }
+    version < FIRST_WITH_ALGORITHM
 }
 
 /// The server version's text: its field of 50 bytes up to the first zero byte.
@@ -126,7 +124,19 @@ fn post_header_length(body: &[u8], kind: u8) -> u8
     body[56 + usize::from(kind)]
 }
 
-/// Whether the types that are read have the post-header lengths of this profile.
+/// Whether the types that are read of a server below 5.6.1 have the post-header lengths of this profile.
+fn has_old_lengths(body: &[u8]) -> bool
+    ensures { result ≡ (nat_le 82 (length body.now) && has_lengths old_lengths body.now) }
+{
+    body.len() >= 82
+        && post_header_length(body, QUERY_EVENT) == 13
+        && post_header_length(body, TABLE_MAP_EVENT) == 8
+        && post_header_length(body, WRITE_ROWS_EVENT_V1) == 8
+        && post_header_length(body, UPDATE_ROWS_EVENT_V1) == 8
+        && post_header_length(body, DELETE_ROWS_EVENT_V1) == 8
+}
+
+/// Whether the types that are read of a server from 5.6.1 on have the post-header lengths of this profile.
 fn has_checked_lengths(body: &[u8]) -> bool
     ensures { result ≡ (nat_le 94 (length body.now) && has_lengths checked_lengths body.now) }
 {
@@ -149,17 +159,20 @@ fn is_version_four(event: &Event<'_>) -> bool
         && body[56] == 19
 }
 
-/// The first check of a file's first event that fails, a fault at 4: it is a format description of this profile, of a server that is
-/// served, without checksums.
-pub fn check_format(event: &Event<'_>) -> Result<(), Fault>
-    ensures exact { result_err result ≡ fault_at 4 (format_fault (event_of event.now)) }
+/// The first check that fails of those that go by the server's version.
+fn check_server(body: &[u8]) -> Result<(), Fault>
+    requires { 57 ≤ length body.now }
+    ensures exact { result_err result ≡ fault_at 4 (first_failing (server_checks (version_of (version_text body.now)) body.now)) }
 {
-    if !is_version_four(event) {
-        return Err(Fault::BadFormat { pos: 4 });
-    }
-    let body = event.body;
-    if !is_served(version_text(body)) {
+    let Some(version) = version_of(version_text(body)) else {
         return Err(Fault::OldServer { pos: 4 });
+    };
+    if is_old(version) {
+        return if has_old_lengths(body) {
+            Ok(())
+        } else {
+            Err(Fault::BadFormat { pos: 4 })
+        };
     }
     if !has_checked_lengths(body) {
         return Err(Fault::BadFormat { pos: 4 });
@@ -168,4 +181,15 @@ pub fn check_format(event: &Event<'_>) -> Result<(), Fault>
         return Err(Fault::Checksums { pos: 4 });
     }
     Ok(())
+}
+
+/// The first check of a file's first event that fails, a fault at 4: it is a format description of this profile, of a
+/// server whose version can be read, without checksums.
+pub fn check_format(event: &Event<'_>) -> Result<(), Fault>
+    ensures exact { result_err result ≡ fault_at 4 (format_fault (event_of event.now)) }
+{
+    if !is_version_four(event) {
+        return Err(Fault::BadFormat { pos: 4 });
+    }
+    check_server(event.body)
 }

@@ -69,10 +69,10 @@ fn opens_a_body_of_zeros(rt: HostRuntime) -> Result<(), Fail> {
 }
 
 #[test]
-fn refuses_an_old_server(rt: HostRuntime) -> Result<(), Fail> {
+fn refuses_a_short_format(rt: HostRuntime) -> Result<(), Fail> {
     let mut file = vec![in rt.alloc(); 0xFE, 0x62, 0x69, 0x6E]?;
     file.extend_from_slice(&FIRST)?;
-    assert_eq!(rt; Log::open(&file).err(), Some(Fault::OldServer { pos: 4 }));
+    assert_eq!(rt; Log::open(&file).err(), Some(Fault::BadFormat { pos: 4 }));
     assert_eq!(rt;
         Log::open(&file[1..]).err(),
         Some(Fault::NotABinlog { pos: 0 })

@@ -9,7 +9,7 @@ use Rattle.blog_trans.specs.Groups.{groups}
 use Rattle.blog_trans.specs.Refusals.{IsRefusal}
 use Rattle.blog_flash.specs.Answers.{Answers, IsOutput}
 use Rattle.blog_flash.specs.declared.modes.Mode.TheVariants.{Flashback, Forward, FlashbackSql, ForwardSql, Summary}
-use Rattle.blog_flash.specs.declared.order.Order.TheVariants as order
+use Rattle.blog_row.specs.declared.order.Order.TheVariants as order
 use Rattle.blog_flash.specs.LaidOut.{groups_in}
 use Rattle.blog_flash.specs.Outputs.{output_of, MeetsHeadline}
 use Rattle.blog_flash.specs.Printed.{sql_text, summary_text}

@@ -2,13 +2,13 @@
 use Rattle.std.proofs.Common.{◌≡◌, ℕ, ◌+◌, ◌%◌, ◌<◌, ◌^◌, List, [], ◌∷◌, length, find, Bool, true, false, ◌&&◌, bytes_eq, Option, Some, Ok, ◌⊎◌}
 use Rattle.std.specs.List.{AllByRecursion, list_any}
 use Rattle.blog_event.specs.Event.{Event, unplaced}
-use Rattle.blog_row.specs.declared.kind.RowsKind.{RowsKind}
 use Rattle.blog_row.specs.RowsKind.{images_a_row}
 use Rattle.blog_row.specs.Packed.{IsPacked}
 use Rattle.blog_row.specs.Column.{Layout}
 use Rattle.blog_row.specs.Image.{IsSomeImage}
 use Rattle.blog_row.specs.TableMap.{Names, names_of, layout_of, is_same_layout}
 use Rattle.blog_row.specs.RowsEvent.{IsFullBitmap, table_id}
+use Rattle.blog_row.specs.RowsWriting.{RowsContent}
 use Rattle.blog_trans.specs.declared.kind.EventKind.TheVariants as kind
 use Rattle.blog_trans.specs.Kinds.{kind_of, is_map_kind}
 use Rattle.blog_trans.specs.Acceptance.{is_same_table}
@@ -17,13 +17,13 @@ use Rattle.blog_trans.specs.Groups.{RowsEvent, Statement, Transaction}
 -- ---- the content of a rows event
 
 -- the packed count, the bitmaps and the images are those of the layout
-pub record IsContent (layout : Layout) (rows : RowsKind) (count : List ℕ) (bitmaps images : List (List ℕ)) : Type 0 where
+pub record IsContent (layout : Layout) (c : RowsContent) : Type 0 where
   pub some : 0 < length layout
-  pub counted : IsPacked count (length layout)
-  pub enough : length bitmaps ≡ images_a_row rows
-  pub full : AllByRecursion (IsFullBitmap (length layout)) bitmaps
-  pub each : AllByRecursion (IsSomeImage layout) images
-  pub whole : length images % images_a_row rows ≡ 0
+  pub counted : IsPacked c.count (length layout)
+  pub enough : length c.bitmaps ≡ images_a_row c.kind.action
+  pub full : AllByRecursion (IsFullBitmap (length layout)) c.bitmaps
+  pub each : AllByRecursion (IsSomeImage layout) c.images
+  pub whole : length c.images % images_a_row c.kind.action ≡ 0
 
 -- ---- events
 
@@ -57,12 +57,12 @@ Agree Known = (a b : Event) → Known a → Known b → (n o : Names) → names_
 
 -- a rows event of groups: its map is there, and its body is read again
 pub record IsRowsEvent (maps : List Event) (r : RowsEvent) : Type 0 where
-  pub found : (m : Event) × (map_among maps r.id ≡ Some m) × (m.body ≡ r.map)
+  pub found : (m : Event) × (map_among maps r.content.id ≡ Some m) × (m.body ≡ r.map)
   pub names : (n : Names) × (names_of r.map ≡ Some n)
-  pub id : length r.id ≡ 6
-  pub flags : r.flags + 1 < 2 ^ 16
-  pub even : r.flags % 2 ≡ 0
-  pub content : (c : Layout) × (layout_of r.map ≡ Ok c) × IsContent c r.kind r.count r.bitmaps r.images
+  pub id : length r.content.id ≡ 6
+  pub flags : r.content.flags + 1 < 2 ^ 16
+  pub even : r.content.flags % 2 ≡ 0
+  pub content : (c : Layout) × (layout_of r.map ≡ Ok c) × IsContent c r.content
   pub timestamp_fits : r.timestamp < 2 ^ 32
   pub server_id_fits : r.server_id < 2 ^ 32
   pub header_flags_fit : r.header_flags < 2 ^ 16
@@ -76,7 +76,7 @@ AreDistinct (m ∷ ms) = AllByRecursion (λ o. bytes_eq (table_id o.body) (table
 
 -- some rows event goes by the map
 abbrev pub IsUsed : List RowsEvent → Event → Type 0
-IsUsed rows m = list_any (λ (r : RowsEvent). bytes_eq (table_id m.body) r.id) rows ≡ true
+IsUsed rows m = list_any (λ (r : RowsEvent). bytes_eq (table_id m.body) r.content.id) rows ≡ true
 
 pub record IsStatement (Known : Event → Type 0) (s : Statement) : Type 0 where
   pub maps_formed : AllByRecursion (IsMapEvent Known) s.maps

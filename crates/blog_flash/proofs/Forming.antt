@@ -6,9 +6,13 @@ use Rattle.std.proofs.lemmas.List.Folds.{list_any-append}
 use Rattle.std.proofs.Math.Bool.{or_comm}
 use Rattle.blog_event.specs.Event.{Event}
 use Rattle.blog_row.specs.declared.kind.RowsKind.{RowsKind}
-use Rattle.blog_row.specs.declared.kind.RowsKind.TheVariants.{Write, Update, Delete}
+use Rattle.blog_row.specs.declared.kind.RowsVersion.{RowsVersion}
+use Rattle.blog_row.specs.declared.kind.RowsVersion.TheVariants.{One, Two}
+use Rattle.blog_row.specs.declared.kind.RowsAction.{RowsAction}
+use Rattle.blog_row.specs.declared.kind.RowsAction.TheVariants.{Write, Update, Delete}
 use Rattle.blog_row.specs.declared.fault.RowFault.{RowFault}
-use Rattle.blog_row.specs.RowsKind.{number_of_kind}
+use Rattle.blog_row.specs.RowsKind.{number_by, number_of_kind}
+use Rattle.blog_row.specs.RowsWriting.{written_fields, written_body}
 use Rattle.blog_row.specs.Column.{Layout}
 use Rattle.blog_row.proofs.ReversedRows.{all-append, all-reverse}
 use Rattle.blog_trans.specs.declared.kind.EventKind.TheVariants as kind
@@ -16,9 +20,9 @@ use Rattle.blog_trans.specs.Kinds.{kind_of}
 use Rattle.blog_trans.specs.Acceptance.{rows_under, rows_by_map}
 use Rattle.blog_trans.specs.Groups.{RowsEvent, Statement, Transaction}
 use Rattle.blog_flash.specs.Reversal.{reversed_rows, reversed_statement, reversed_transaction, reversed}
-use Rattle.blog_flash.specs.Texts.{rows_body, rows_event, rows_events, statement_events, transaction_events, group_events}
+use Rattle.blog_flash.specs.Texts.{rows_event, rows_events, statement_events, transaction_events, group_events}
 use Rattle.blog_flash.proofs.Formed.{Fits, IsMapEvent, IsRowsEvent, IsUsed, IsStatement, IsTransaction, AreGroups}
-use Rattle.blog_flash.proofs.Content.{all-by, content-reversed, body-fields, body-again}
+use Rattle.blog_flash.proofs.Content.{all-by, content-reversed, body-again}
 
 -- ---- the events of groups
 
@@ -31,34 +35,45 @@ kind-placed e n = refl
 pub kind-numbered : (k : RowsKind) (timestamp server_id flags : ℕ) (body : List ℕ)
     → kind_of (record { timestamp = timestamp; kind = number_of_kind k; server_id = server_id; log_pos = 0; flags = flags; body = body }) ≡ kind.Rows k
 unfolding kind_of
-kind-numbered Write timestamp server_id flags body = refl
-kind-numbered Update timestamp server_id flags body = refl
-kind-numbered Delete timestamp server_id flags body = refl
+kind-numbered k timestamp server_id flags body = by_parts k.version k.action
+  where
+    by_parts : (version : RowsVersion) (action : RowsAction)
+        → kind_of (record { timestamp = timestamp; kind = number_by version action; server_id = server_id; log_pos = 0; flags = flags; body = body }) ≡ kind.Rows (record { version = version; action = action })
+    by_parts One Write = refl
+    by_parts One Update = refl
+    by_parts One Delete = refl
+    by_parts Two Write = refl
+    by_parts Two Update = refl
+    by_parts Two Delete = refl
 
 -- the event of a rows event has its kind
-pub rows_event-kind : (last : Bool) (r : RowsEvent) → kind_of (rows_event last r) ≡ kind.Rows r.kind
+pub rows_event-kind : (last : Bool) (r : RowsEvent) → kind_of (rows_event last r) ≡ kind.Rows r.content.kind
 unfolding rows_event
-rows_event-kind last r = kind-numbered r.kind r.timestamp r.server_id r.header_flags (rows_body last r)
+rows_event-kind last r = kind-numbered r.content.kind r.timestamp r.server_id r.header_flags (written_body last r.content)
 
 -- and its body
-pub rows_event-body : (last : Bool) (r : RowsEvent) → (rows_event last r).body ≡ rows_body last r
+pub rows_event-body : (last : Bool) (r : RowsEvent) → (rows_event last r).body ≡ written_body last r.content
 unfolding rows_event
 rows_event-body last r = refl
 
 -- an event type is one byte
-number-fits : (k : RowsKind) → number_of_kind k < 2 ^ 8
-number-fits Write = omega arith
-number-fits Update = omega arith
-number-fits Delete = omega arith
+number-fits : (version : RowsVersion) (action : RowsAction) → number_by version action < 2 ^ 8
+number-fits One Write = omega arith
+number-fits One Update = omega arith
+number-fits One Delete = omega arith
+number-fits Two Write = omega arith
+number-fits Two Update = omega arith
+number-fits Two Delete = omega arith
 
 -- its header fits
 pub rows_event-fits : (maps : List Event) (last : Bool) (r : RowsEvent) → IsRowsEvent maps r → Fits (rows_event last r)
 unfolding rows_event
-rows_event-fits maps last r h = record { timestamp = h.timestamp_fits; kind = number-fits r.kind; server_id = h.server_id_fits; flags = h.header_flags_fit }
+rows_event-fits maps last r h = record { timestamp = h.timestamp_fits; kind = number-fits r.content.kind.version r.content.kind.action; server_id = h.server_id_fits; flags = h.header_flags_fit }
 
 -- its body is read again
-pub reads : (maps : List Event) (last : Bool) (r : RowsEvent) → IsRowsEvent maps r → rows_by_map r.kind r.map (rows_body last r) ≡ Ok (body-fields last r)
-reads maps last r h = ap (λ (l : Result Layout RowFault). rows_under r.kind l (rows_body last r)) h.content.1 ∙ body-again last r h.content.0 h.id h.content.2
+pub reads : (maps : List Event) (last : Bool) (r : RowsEvent) → IsRowsEvent maps r → rows_by_map r.content.kind r.map (written_body last r.content) ≡ Ok (written_fields last r.content)
+reads maps last r h =
+    ap (λ (l : Result Layout RowFault). rows_under r.content.kind l (written_body last r.content)) h.content.1 ∙ body-again last r.content h.content.0 h.id h.content.2
 
 -- ---- lists
 
@@ -116,7 +131,7 @@ rows-reversed maps r h = record {
   id = h.id;
   flags = h.flags;
   even = h.even;
-  content = (h.content.0, h.content.1, content-reversed h.content.0 r.kind r.count r.bitmaps r.images h.content.2);
+  content = (h.content.0, h.content.1, content-reversed h.content.0 r.content h.content.2);
   timestamp_fits = h.timestamp_fits;
   server_id_fits = h.server_id_fits;
   header_flags_fit = h.header_flags_fit;

@@ -14,8 +14,8 @@ use Rattle.blog_event.proofs.Framing.{read-first}
 use Rattle.blog_trans.specs.Selection.{Selection}
 use Rattle.blog_trans.specs.Groups.{PlacedStatement, PlacedTransaction, Transaction, event_value, statement_value, transaction_value, placed_groups, groups}
 use Rattle.blog_trans.specs.IndexView.{placed, statement_at}
-use Rattle.blog_flash.specs.declared.order.Order.{Order}
-use Rattle.blog_flash.specs.declared.order.Order.TheVariants.{Forward, Backward}
+use Rattle.blog_row.specs.declared.order.Order.{Order}
+use Rattle.blog_row.specs.declared.order.Order.TheVariants.{Forward, Backward}
 use Rattle.blog_flash.specs.LaidOut.{number_in, statement_in, transaction_in, groups_in, statement_of, statements_of, transaction_of, transactions_of}
 use Rattle.blog_flash.specs.Texts.{rows_events, statement_events, transaction_events, group_events, laid_out, laid_out_after}
 use Rattle.blog_flash.proofs.Numbered.{some-over, next-over, done-over, number-within, found, statements-over, transactions-are, next, done}

@@ -9,8 +9,8 @@ use Rattle.blog_event.proofs.Framing.{bytes-drop, event-found, read-first, text-
 use Rattle.blog_trans.specs.Selection.{Selection}
 use Rattle.blog_trans.specs.Acceptance.{IsAccepted}
 use Rattle.blog_trans.specs.Groups.{Transaction, placed_groups, groups}
-use Rattle.blog_flash.specs.declared.order.Order.{Order}
-use Rattle.blog_flash.specs.declared.order.Order.TheVariants.{Forward, Backward}
+use Rattle.blog_row.specs.declared.order.Order.{Order}
+use Rattle.blog_row.specs.declared.order.Order.TheVariants.{Forward, Backward}
 use Rattle.blog_flash.specs.LaidOut.{text_from, groups_in, transactions_of}
 use Rattle.blog_flash.specs.Texts.{group_events, laid_out, laid_out_after}
 use Rattle.blog_flash.proofs.GroupParts.{first-laid, laid-end, groups-laid}

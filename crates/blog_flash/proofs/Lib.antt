@@ -22,7 +22,6 @@ pub mod ReadRows
 pub mod Placing
 pub mod GroupParts
 pub mod RowsText
-pub mod Overwriting
 pub mod LayingOut
 pub mod Headline
 pub mod Stops

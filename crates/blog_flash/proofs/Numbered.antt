@@ -7,8 +7,8 @@ use Rattle.std.proofs.lemmas.List.{length-map, length-reverse, length-drop, get_
 use Rattle.std.proofs.lemmas.Option.{none-some, same_Some, slice_get-map, slice_get-get_or, slice_get_within, get_or_from_slice_get}
 use Rattle.std.proofs.Math.Seq.{drop-cons}
 use Rattle.blog_trans.specs.Groups.{PlacedRows, PlacedStatement, PlacedTransaction, RowsEvent, rows_value, statement_value, transaction_value}
-use Rattle.blog_flash.specs.declared.order.Order.{Order}
-use Rattle.blog_flash.specs.declared.order.Order.TheVariants.{Forward, Backward}
+use Rattle.blog_row.specs.declared.order.Order.{Order}
+use Rattle.blog_row.specs.declared.order.Order.TheVariants.{Forward, Backward}
 use Rattle.blog_flash.specs.LaidOut.{in_order, number_in, rows_in, statement_in, transaction_in, groups_in}
 use Rattle.blog_flash.specs.Reversal.{reversed_rows, reversed_statement, reversed_transaction}
 use Rattle.blog_flash.specs.Texts.{rows_event, rows_events}

@@ -19,7 +19,8 @@ use Rattle.blog_trans.specs.Kinds.{is_map_kind}
 use Rattle.blog_trans.specs.Places.{kind_at, is_begin, is_map, is_last_rows, leads_to, place, since, is_map_of, map_in}
 use Rattle.blog_trans.specs.Acceptance.{is_same_table, are_of_same_table, have_same_layout, clashes_by_id, clashes_by_layout, event_fault}
 use Rattle.blog_trans.specs.Groups.{RowsEvent, Statement, Transaction}
-use Rattle.blog_flash.specs.Texts.{rows_body, rows_event, rows_events, statement_events, transaction_events, group_events}
+use Rattle.blog_row.specs.RowsWriting.{written_body}
+use Rattle.blog_flash.specs.Texts.{rows_event, rows_events, statement_events, transaction_events, group_events}
 use Rattle.blog_flash.proofs.Formed.{is_map_of_id, map_among, IsMapEvent, Agree, IsRowsEvent, AreDistinct, IsStatement, IsEndEvent, IsTransaction, AreGroups}
 use Rattle.blog_flash.proofs.Standing.{stood, stood-append}
 use Rattle.blog_flash.proofs.Content.{body-id, body-ends, body-long}
@@ -229,7 +230,7 @@ maps-lead Known agree pos (m ∷ ms) statement earlier formed distinct new h =
 
 -- its map stands in the statement
 abbrev Finds : List Placed → RowsEvent → Type 0
-Finds statement r = (q : Placed) × (map_in (reverse statement) r.id ≡ Some q) × (q.event.body ≡ r.map)
+Finds statement r = (q : Placed) × (map_in (reverse statement) r.content.id ≡ Some q) × (q.event.body ≡ r.map)
 
 -- the map that is found among maps is found where they stand
 map-stands : (pos : ℕ) (ms : List Event) (id : List ℕ) (m : Event) → map_among ms id ≡ Some m → (q : Placed) × (map_in (stood pos ms) id ≡ Some q) × (q.event.body ≡ m.body)
@@ -250,30 +251,30 @@ map-stands pos (x ∷ ms) id m found = by_case (is_map_of_id id x) refl (map-sta
 finds-all : (pos : ℕ) (ms : List Event) (rows : List RowsEvent) → AllByRecursion (IsRowsEvent ms) rows → AllByRecursion (Finds (pushed [] (stood pos ms))) rows
 finds-all pos ms [] formed = tt
 finds-all pos ms (r ∷ rows) formed =
-    let found = map-stands pos ms r.id formed.0.found.0 formed.0.found.1 in
+    let found = map-stands pos ms r.content.id formed.0.found.0 formed.0.found.1 in
     ((found.0, rw (reverse-pushed [] (stood pos ms)) found.1, found.2 ∙ formed.0.found.2), finds-all pos ms rows formed.1)
 
 -- also behind one more event
 finds-on : (statement : List Placed) (p : Placed) (rows : List RowsEvent) → AllByRecursion (Finds statement) rows → AllByRecursion (Finds (p ∷ statement)) rows
 finds-on statement p [] found = tt
 finds-on statement p (r ∷ rows) found =
-    let still : map_in (reverse (p ∷ statement)) r.id ≡ Some found.0.0 =
-    ap (λ ps. map_in ps r.id) (reverse-one p statement) ∙ find-append (is_map_of r.id) (reverse statement) (p ∷ []) ∙ ap (λ o. option_or o (map_in (p ∷ []) r.id)) found.0.1 in
+    let still : map_in (reverse (p ∷ statement)) r.content.id ≡ Some found.0.0 =
+    ap (λ ps. map_in ps r.content.id) (reverse-one p statement) ∙ find-append (is_map_of r.content.id) (reverse statement) (p ∷ []) ∙ ap (λ o. option_or o (map_in (p ∷ []) r.content.id)) found.0.1 in
     ((found.0.0, still, found.0.2), finds-on statement p rows found.1)
 
 -- the kind of a rows event, wherever it stands
-rows-kind : (pos : ℕ) (last : Bool) (r : RowsEvent) → kind_at (standing pos (rows_event last r)) ≡ kind.Rows r.kind
+rows-kind : (pos : ℕ) (last : Bool) (r : RowsEvent) → kind_at (standing pos (rows_event last r)) ≡ kind.Rows r.content.kind
 rows-kind pos last r = kind-placed (rows_event last r) (pos + event_size (rows_event last r)) ∙ rows_event-kind last r
 
 -- a rows event passes, if its map stands in the statement
-rows-passes : (Known : Event → Type 0) (ms : List Event) (statement earlier : List Placed) (last : Bool) (r : RowsEvent) (p : Placed) → kind_at p ≡ kind.Rows r.kind
-    → p.event.body ≡ rows_body last r → IsRowsEvent ms r → Finds statement r → IsAmid Known statement earlier → event_fault all earlier p ≡ None
+rows-passes : (Known : Event → Type 0) (ms : List Event) (statement earlier : List Placed) (last : Bool) (r : RowsEvent) (p : Placed) → kind_at p ≡ kind.Rows r.content.kind
+    → p.event.body ≡ written_body last r.content → IsRowsEvent ms r → Finds statement r → IsAmid Known statement earlier → event_fault all earlier p ≡ None
 rows-passes Known ms statement earlier last r p is body formed found h =
-    rw (is, body, h.inside, h.statement_is, body-long last r formed.id, body-id last r formed.id, found.1, found.2, formed.names.1, reads ms last r formed) refl
+    rw (is, body, h.inside, h.statement_is, body-long last r.content formed.id, body-id last r.content formed.id, found.1, found.2, formed.names.1, reads ms last r formed) refl
 
 -- it ends the statement if it is the last
-rows-closes : (last : Bool) (r : RowsEvent) (p : Placed) → kind_at p ≡ kind.Rows r.kind → p.event.body ≡ rows_body last r → length r.id ≡ 6
-    → has_end_flag (rows_body last r) ≡ last → (is_begin p || is_last_rows p) ≡ last
+rows-closes : (last : Bool) (r : RowsEvent) (p : Placed) → kind_at p ≡ kind.Rows r.content.kind → p.event.body ≡ written_body last r.content → length r.content.id ≡ 6
+    → has_end_flag (written_body last r.content) ≡ last → (is_begin p || is_last_rows p) ≡ last
 rows-closes last r p is body six ends = rw (is, body) ends
 
 -- the rows events of a statement pass, and end it
@@ -283,16 +284,16 @@ rows-lead : (Known : Event → Type 0) (ms : List Event) (pos : ℕ) (r : RowsEv
 rows-lead Known ms pos r [] statement earlier formed found h =
     let p = standing pos (rows_event true r) in
     let is = rows-kind pos true r in
-    let ends = rows-closes true r p is (rows_event-body true r) formed.0.id (body-ends true r formed.0.id formed.0.flags formed.0.even) in (
+    let ends = rows-closes true r p is (rows_event-body true r) formed.0.id (body-ends true r.content formed.0.id formed.0.flags formed.0.even) in (
       (rows-passes Known ms statement earlier true r p is (rows_event-body true r) formed.0 found.0 h, tt),
-      amid-anew Known statement earlier p h (rw is refl) ends (no-map Known p (kind.Rows r.kind) is refl),
+      amid-anew Known statement earlier p h (rw is refl) ends (no-map Known p (kind.Rows r.content.kind) is refl),
     )
 rows-lead Known ms pos r (s ∷ rows) statement earlier formed found h =
     let p = standing pos (rows_event false r) in
     let is = rows-kind pos false r in
-    let goes_on = rows-closes false r p is (rows_event-body false r) formed.0.id (body-ends false r formed.0.id formed.0.flags formed.0.even) in
+    let goes_on = rows-closes false r p is (rows_event-body false r) formed.0.id (body-ends false r.content formed.0.id formed.0.flags formed.0.even) in
     let others = rows-lead Known ms (pos + event_size (rows_event false r)) s rows (p ∷ statement) (p ∷ earlier) formed.1 (finds-on statement p (s ∷ rows) found.1)
-    (amid-on Known statement earlier p h (rw is refl) goes_on (no-map Known p (kind.Rows r.kind) is refl)) in
+    (amid-on Known statement earlier p h (rw is refl) goes_on (no-map Known p (kind.Rows r.content.kind) is refl)) in
     ((rows-passes Known ms statement earlier false r p is (rows_event-body false r) formed.0 found.0 h, others.0), others.1)
 
 -- ---- statements, transactions, groups

@@ -7,8 +7,9 @@ use Rattle.std.specs.Option.{option_map_or}
 use Rattle.std.specs.List.{flat_map}
 use Rattle.std.proofs.lemmas.Option.{none-some}
 use Rattle.blog_event.specs.File.{Placed}
+use Rattle.blog_row.specs.declared.kind.RowsAction.{RowsAction}
+use Rattle.blog_row.specs.declared.kind.RowsAction.TheVariants.{Write, Update, Delete}
 use Rattle.blog_row.specs.declared.kind.RowsKind.{RowsKind}
-use Rattle.blog_row.specs.declared.kind.RowsKind.TheVariants.{Write, Update, Delete}
 use Rattle.blog_row.specs.declared.rows_event.RowsEvent as seen
 use Rattle.blog_row.specs.declared.table_map.TableMap.{TableMap}
 use Rattle.blog_row.specs.Column.{Layout}
@@ -18,12 +19,12 @@ use Rattle.blog_row.specs.RowsEvent.{RowsBody, updated_rows, rows_by}
 use Rattle.blog_row.specs.RowsEventView.{rows_body}
 use Rattle.blog_row.specs.TableMap.{Table, Names, names_of, layout_of}
 use Rattle.blog_row.specs.TableMapView.{map_names}
-use Rattle.blog_trans.specs.Changes.{counts_of, Inserted, Deleted, Updated, updates, row_by, table_of, changes_by_kind, changes_of_rows, changes_of_statement}
+use Rattle.blog_trans.specs.Changes.{counts_of, Inserted, Deleted, Updated, updates, row_by, table_of, changes_by_action, changes_of_rows, changes_of_statement}
 use Rattle.blog_trans.specs.Groups.{PlacedRows, PlacedStatement, PlacedTransaction, RowsEvent, Statement, Transaction, rows_value, statement_value, transaction_value, placed_groups, groups}
 use Rattle.blog_trans.specs.Selection.{Selection}
 use Rattle.blog_trans.specs.Entries.{statements_in}
 use Rattle.blog_trans.specs.IndexView.{statement_at, rows_at}
-use Rattle.blog_flash.specs.declared.order.Order.TheVariants.{Forward}
+use Rattle.blog_row.specs.declared.order.Order.TheVariants.{Forward}
 use Rattle.blog_flash.specs.LaidOut.{rows_of, statements_of}
 use Rattle.blog_flash.specs.Printed.{line, change_lines, transaction_lines, count_line, summary_text}
 use Rattle.blog_flash.specs.PrintedRows.{images_lines, rows_lines_at, statement_lines_at, transaction_lines_at}
@@ -49,7 +50,7 @@ updates-lines t layout (before ∷ []) = refl
 updates-lines t layout (before ∷ after ∷ images) = ap (λ (text : List ℕ). change_lines (Updated t (row_of layout before) (row_of layout after)) ++ text) (updates-lines t layout images)
 
 -- rows by their images
-images-lines : (kind : RowsKind) (t : Table) (layout : Layout) (images : List (List ℕ)) → images_lines t layout (rows_by kind images) ≡ flat_map change_lines (changes_by_kind kind t (map (row_of layout) images))
+images-lines : (kind : RowsAction) (t : Table) (layout : Layout) (images : List (List ℕ)) → images_lines t layout (rows_by kind images) ≡ flat_map change_lines (changes_by_action kind t (map (row_of layout) images))
 images-lines Write t layout [] = refl
 images-lines Write t layout (image ∷ images) = ap (λ (text : List ℕ). change_lines (Inserted t (row_of layout image)) ++ text) (images-lines Write t layout images)
 images-lines Update t layout images = updates-lines t layout images
@@ -57,18 +58,18 @@ images-lines Delete t layout [] = refl
 images-lines Delete t layout (image ∷ images) = ap (λ (text : List ℕ). change_lines (Deleted t (row_of layout image)) ++ text) (images-lines Delete t layout images)
 
 -- of a rows event that was read
-abbrev lines_by : RowsKind → Table → List (List (Option (List ℕ))) → List ℕ
-lines_by kind t rows = flat_map change_lines (changes_by_kind kind t rows)
+abbrev lines_by : RowsAction → Table → List (List (Option (List ℕ))) → List ℕ
+lines_by kind t rows = flat_map change_lines (changes_by_action kind t rows)
 
 seen-lines : (x : PlacedRows) (m : TableMap) (r : seen.RowsEvent) → x.kind ≡ r.kind → x.body ≡ rows_body r → names_of x.map.event.body ≡ Some (map_names m) → layout_of x.map.event.body ≡ Ok (layout_columns r.layout)
-    → flat_map change_lines (changes_of_rows (rows_value x)) ≡ images_lines (map_names m).table (layout_columns r.layout) (rows_by r.kind (rows_body r).images)
+    → flat_map change_lines (changes_of_rows (rows_value x)) ≡ images_lines (map_names m).table (layout_columns r.layout) (rows_by r.kind.action (rows_body r).images)
 seen-lines x m r kind body names layout =
     let map_body : List ℕ = x.map.event.body in
-    ap (λ (k : RowsKind). lines_by k (table_of map_body) (map (row_by (layout_of map_body)) x.body.images)) kind
-    ∙ ap (λ (b : RowsBody). lines_by r.kind (table_of map_body) (map (row_by (layout_of map_body)) b.images)) body
-    ∙ ap (λ (n : Option Names). lines_by r.kind (option_map_or (λ names. names.table) n (record { schema = []; name = [] })) (map (row_by (layout_of map_body)) (rows_body r).images)) names
-    ∙ ap (λ l. lines_by r.kind (map_names m).table (map (row_by l) (rows_body r).images)) layout
-    ∙ sym (images-lines r.kind (map_names m).table (layout_columns r.layout) (rows_body r).images)
+    ap (λ (k : RowsKind). lines_by k.action (table_of map_body) (map (row_by (layout_of map_body)) x.body.images)) kind
+    ∙ ap (λ (b : RowsBody). lines_by r.kind.action (table_of map_body) (map (row_by (layout_of map_body)) b.images)) body
+    ∙ ap (λ (n : Option Names). lines_by r.kind.action (option_map_or (λ names. names.table) n (record { schema = []; name = [] })) (map (row_by (layout_of map_body)) (rows_body r).images)) names
+    ∙ ap (λ l. lines_by r.kind.action (map_names m).table (map (row_by l) (rows_body r).images)) layout
+    ∙ sym (images-lines r.kind.action (map_names m).table (layout_columns r.layout) (rows_body r).images)
 
 -- ---- the rows events of a statement
 
@@ -81,13 +82,13 @@ pub next-rows-lines : (ts : List PlacedTransaction) (t s n i : ℕ) (m : TableMa
     → IfSome (rows_at ts t s i) (λ x. x.kind ≡ r.kind) → IfSome (rows_at ts t s i) (λ x. x.body ≡ rows_body r) → IfSome (rows_at ts t s i) (λ x. names_of x.map.event.body ≡ Some (map_names m))
     → IfSome (rows_at ts t s i) (λ x. layout_of x.map.event.body ≡ Ok (layout_columns r.layout))
     → flat_map rows_lines (drop i (rows_of Forward ts t s))
-    ≡ images_lines (map_names m).table (layout_columns r.layout) (rows_by r.kind (rows_body r).images) ++ flat_map rows_lines (drop (i + 1) (rows_of Forward ts t s))
+    ≡ images_lines (map_names m).table (layout_columns r.layout) (rows_by r.kind.action (rows_body r).images) ++ flat_map rows_lines (drop (i + 1) (rows_of Forward ts t s))
 next-rows-lines ts t s n i m r e len within = by_row (rows_at ts t s i) refl
   where
     by_row : (o : Option PlacedRows) → rows_at ts t s i ≡ o → option_map (λ x. x.event) o ≡ Some e → IfSome o (λ x. x.kind ≡ r.kind) → IfSome o (λ x. x.body ≡ rows_body r)
         → IfSome o (λ x. names_of x.map.event.body ≡ Some (map_names m)) → IfSome o (λ x. layout_of x.map.event.body ≡ Ok (layout_columns r.layout))
         → flat_map rows_lines (drop i (rows_of Forward ts t s))
-        ≡ images_lines (map_names m).table (layout_columns r.layout) (rows_by r.kind (rows_body r).images) ++ flat_map rows_lines (drop (i + 1) (rows_of Forward ts t s))
+        ≡ images_lines (map_names m).table (layout_columns r.layout) (rows_by r.kind.action (rows_body r).images) ++ flat_map rows_lines (drop (i + 1) (rows_of Forward ts t s))
     by_row None is event kind body names layout = absurd (none-some e event)
     by_row (Some x) is event kind body names layout =
         ap (flat_map rows_lines) (next-over Forward (λ (a : PlacedStatement). a.rows) rows_value (statement_at ts t s) n i x len within is)

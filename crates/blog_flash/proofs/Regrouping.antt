@@ -5,7 +5,8 @@ use Rattle.std.proofs.lemmas.Slice.Eq.{bytes_eq-Decides}
 use Rattle.blog_event.specs.Event.{Event, event_size}
 use Rattle.blog_event.specs.File.{Placed, end_of}
 use Rattle.blog_row.specs.TableMap.{Names, names_of}
-use Rattle.blog_row.specs.RowsEvent.{table_id, flags_of}
+use Rattle.blog_row.specs.RowsEvent.{table_id}
+use Rattle.blog_row.specs.RowsWriting.{content_of, written_fields, written_body}
 use Rattle.blog_trans.specs.declared.kind.EventKind.TheVariants as kind
 use Rattle.blog_trans.specs.Selection.{all}
 use Rattle.blog_trans.specs.Kinds.{kind_of, is_map_kind}
@@ -13,10 +14,10 @@ use Rattle.blog_trans.specs.Places.{kind_at, is_map_of, map_in}
 use Rattle.blog_trans.specs.Acceptance.{is_selected, rows_by_map}
 use Rattle.blog_trans.specs.Groups.{PlacedRows, PlacedStatement, PlacedTransaction, Span, spans, statements_of, rows_by_kind, rows_if, kept_rows, first_maps, statement_if, kept_statement, transaction_if, kept_transaction, placed_groups_in}
 use Rattle.blog_trans.specs.Groups.{RowsEvent, Statement, Transaction, rows_value, event_value, statement_value, transaction_value}
-use Rattle.blog_flash.specs.Texts.{rows_body, rows_event, rows_events, statement_events, transaction_events, group_events}
+use Rattle.blog_flash.specs.Texts.{rows_event, rows_events, statement_events, transaction_events, group_events}
 use Rattle.blog_flash.proofs.Formed.{map_among, is_map_of_id, IsMapEvent, IsRowsEvent, AreDistinct, IsUsed, IsStatement, IsTransaction, AreGroups}
 use Rattle.blog_flash.proofs.Standing.{stood, stood-append}
-use Rattle.blog_flash.proofs.Content.{all-by, body-fields, body-id, body-clear}
+use Rattle.blog_flash.proofs.Content.{all-by, body-id, content-again}
 use Rattle.blog_flash.proofs.Forming.{rows_event-kind, rows_event-body, reads}
 use Rattle.blog_flash.proofs.Spans.{stands_at, by-kind, span_at, span-first, cut-first}
 
@@ -57,39 +58,39 @@ names-selected body n h = rw h refl
 
 -- a rows event where it stands, with its map and what its body says
 abbrev kept_at : ℕ → Bool → RowsEvent → Placed → PlacedRows
-kept_at pos last r map = record { event = stands_at pos (rows_event last r); map = map; kind = r.kind; body = body-fields last r }
+kept_at pos last r map = record { event = stands_at pos (rows_event last r); map = map; kind = r.content.kind; body = written_fields last r.content }
 
-rows-kept : (maps : List Event) (events : List Placed) (pos : ℕ) (last : Bool) (r : RowsEvent) (map : Placed) → IsRowsEvent maps r → map_in events r.id ≡ Some map
+rows-kept : (maps : List Event) (events : List Placed) (pos : ℕ) (last : Bool) (r : RowsEvent) (map : Placed) → IsRowsEvent maps r → map_in events r.content.id ≡ Some map
     → map.event.body ≡ r.map → kept_rows all events (stands_at pos (rows_event last r)) ≡ Some (kept_at pos last r map)
 rows-kept maps events pos last r map h found same =
     ap (option_and_then (λ m. if is_selected all m.event.body then rows_by_kind p m (kind_at p) else None)) by_id
-    ∙ rw (names-selected map.event.body h.names.0 names) (by_kind ∙ ap (rows_if p map r.kind) by_body)
+    ∙ rw (names-selected map.event.body h.names.0 names) (by_kind ∙ ap (rows_if p map r.content.kind) by_body)
   where
     p : Placed
     p = stands_at pos (rows_event last r)
 
     by_id : map_in events (table_id p.event.body) ≡ Some map
-    by_id = ap (λ body. map_in events (table_id body)) (rows_event-body last r) ∙ (ap (map_in events) (body-id last r h.id) ∙ found)
+    by_id = ap (λ body. map_in events (table_id body)) (rows_event-body last r) ∙ (ap (map_in events) (body-id last r.content h.id) ∙ found)
 
     names : names_of map.event.body ≡ Some h.names.0
     names = ap names_of same ∙ h.names.1
 
-    by_kind : rows_by_kind p map (kind_at p) ≡ rows_by_kind p map (kind.Rows r.kind)
-    by_kind = by-kind (rows_by_kind p map) pos (rows_event last r) (kind.Rows r.kind) (rows_event-kind last r)
+    by_kind : rows_by_kind p map (kind_at p) ≡ rows_by_kind p map (kind.Rows r.content.kind)
+    by_kind = by-kind (rows_by_kind p map) pos (rows_event last r) (kind.Rows r.content.kind) (rows_event-kind last r)
 
-    by_body : rows_by_map r.kind map.event.body p.event.body ≡ Ok (body-fields last r)
-    by_body = ap (rows_by_map r.kind map.event.body) (rows_event-body last r) ∙ (ap (λ body. rows_by_map r.kind body (rows_body last r)) same ∙ reads maps last r h)
+    by_body : rows_by_map r.content.kind map.event.body p.event.body ≡ Ok (written_fields last r.content)
+    by_body = ap (rows_by_map r.content.kind map.event.body) (rows_event-body last r) ∙ (ap (λ body. rows_by_map r.content.kind body (written_body last r.content)) same ∙ reads maps last r h)
 
 rows-value : (maps : List Event) (pos : ℕ) (last : Bool) (r : RowsEvent) (map : Placed) → IsRowsEvent maps r → map.event.body ≡ r.map → rows_value (kept_at pos last r map) ≡ r
 unfolding rows_event
 rows-value maps pos last r map h same =
-    ap (λ body. record r { map = body; flags = flags_of (rows_body last r) - flags_of (rows_body last r) % 2 }) same
-    ∙ ap (λ f. record r { flags = f }) (body-clear last r h.id h.flags h.even)
+    ap (λ body. record r { map = body; content = content_of r.content.kind (written_fields last r.content) }) same
+    ∙ ap (λ c. record r { content = c }) (content-again last r.content h.flags h.even)
 
 -- what is kept gives the rows events back, and their table ids
 record IsKept (rows : List RowsEvent) (kept : List PlacedRows) : Type 0 where
   values : map rows_value kept ≡ rows
-  ids : map (λ x. table_id x.event.event.body) kept ≡ map (λ r. r.id) rows
+  ids : map (λ x. table_id x.event.event.body) kept ≡ map (λ r. r.content.id) rows
 
 -- each map of these is found among the events
 abbrev HasMaps : List Placed → List Event → Type 0
@@ -114,14 +115,14 @@ kept-front : (maps : List Event) (events ps : List Placed) (pos : ℕ) (last : B
     → IsKept rows (filter_map (kept_rows all events) ps) → IsKept (r ∷ rows) (filter_map (kept_rows all events) (stands_at pos (rows_event last r) ∷ ps))
 kept-front maps events ps pos last r rows h found others = record {
   values = kept-more (kept_rows all events) rows_value p ps r rows (kept_at pos last r found_map.0, kept, rows-value maps pos last r found_map.0 h same) others.values;
-  ids = kept-more (kept_rows all events) (λ x. table_id x.event.event.body) p ps r.id (map (λ s. s.id) rows) (kept_at pos last r found_map.0, kept, id) others.ids;
+  ids = kept-more (kept_rows all events) (λ x. table_id x.event.event.body) p ps r.content.id (map (λ s. s.content.id) rows) (kept_at pos last r found_map.0, kept, id) others.ids;
 }
   where
     p : Placed
     p = stands_at pos (rows_event last r)
 
-    found_map : HasValue (map_in events r.id) (λ x. x.event.body) h.found.0.body
-    found_map = found r.id h.found.0 h.found.1
+    found_map : HasValue (map_in events r.content.id) (λ x. x.event.body) h.found.0.body
+    found_map = found r.content.id h.found.0 h.found.1
 
     same : found_map.0.event.body ≡ r.map
     same = found_map.2 ∙ h.found.2
@@ -129,8 +130,8 @@ kept-front maps events ps pos last r rows h found others = record {
     kept : kept_rows all events p ≡ Some (kept_at pos last r found_map.0)
     kept = rows-kept maps events pos last r found_map.0 h found_map.1 same
 
-    id : table_id p.event.body ≡ r.id
-    id = ap table_id (rows_event-body last r) ∙ body-id last r h.id
+    id : table_id p.event.body ≡ r.content.id
+    id = ap table_id (rows_event-body last r) ∙ body-id last r.content h.id
 
 all-kept : (maps : List Event) (events : List Placed) (pos : ℕ) (rows : List RowsEvent) → AllByRecursion (IsRowsEvent maps) rows → HasMaps events maps
     → IsKept rows (filter_map (kept_rows all events) (stood pos (rows_events rows)))
@@ -176,9 +177,9 @@ ids-left id ids (m ∷ maps) has differ =
 
 no-maps : (ids : List (List ℕ)) (pos : ℕ) (rows : List RowsEvent) → first_maps ids (stood pos (rows_events rows)) ≡ []
 no-maps ids pos [] = refl
-no-maps ids pos (r ∷ []) = rw (by-kind is_map_kind pos (rows_event true r) (kind.Rows r.kind) (rows_event-kind true r)) refl
+no-maps ids pos (r ∷ []) = rw (by-kind is_map_kind pos (rows_event true r) (kind.Rows r.content.kind) (rows_event-kind true r)) refl
 no-maps ids pos (r ∷ s ∷ rows) =
-    rw (by-kind is_map_kind pos (rows_event false r) (kind.Rows r.kind) (rows_event-kind false r)) (no-maps ids (pos + event_size (rows_event false r)) (s ∷ rows))
+    rw (by-kind is_map_kind pos (rows_event false r) (kind.Rows r.content.kind) (rows_event-kind false r)) (no-maps ids (pos + event_size (rows_event false r)) (s ∷ rows))
 
 maps-first : (Known : Event → Type 0) (ids : List (List ℕ)) (pos : ℕ) (maps : List Event) (ps : List Placed) → AllByRecursion (IsMapEvent Known) maps → AreDistinct maps
     → AllByRecursion (HasIdOf ids) maps → ((others : List (List ℕ)) → first_maps others ps ≡ []) → first_maps ids (stood pos maps ++ ps) ≡ stood pos maps
@@ -226,10 +227,10 @@ statement-again Known pos s h =
     kept = all-kept s.maps events behind s.rows h.rows_formed (maps-stand pos s.maps rows_stood)
 
     ids : List (List ℕ)
-    ids = map (λ r. r.id) s.rows
+    ids = map (λ r. r.content.id) s.rows
 
     has : AllByRecursion (HasIdOf ids) s.maps
-    has = all-by (IsUsed s.rows) (HasIdOf ids) (λ m used. any-map (λ r. r.id) (bytes_eq (table_id m.body)) s.rows ∙ used) s.maps h.used
+    has = all-by (IsUsed s.rows) (HasIdOf ids) (λ m used. any-map (λ r. r.content.id) (bytes_eq (table_id m.body)) s.rows ∙ used) s.maps h.used
 
     maps : map event_value (first_maps ids events) ≡ s.maps
     maps = ap (map event_value) (maps-first Known ids pos s.maps rows_stood h.maps_formed h.distinct has (λ others. no-maps others behind s.rows))

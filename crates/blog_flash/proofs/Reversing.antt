@@ -3,15 +3,16 @@ use Rattle.std.proofs.Common.{◌≡◌, ℕ, ◌%◌, List, [], ◌∷◌, ◌+
 use Rattle.std.specs.List.{AllByRecursion}
 use Rattle.std.proofs.lemmas.List.{map-append, reverse-append, reverse-reverse}
 use Rattle.std.proofs.lemmas.List.Concat.{flat_map-append}
-use Rattle.blog_row.specs.declared.kind.RowsKind.{RowsKind}
-use Rattle.blog_row.specs.declared.kind.RowsKind.TheVariants.{Write, Update, Delete}
+use Rattle.blog_row.specs.declared.kind.RowsAction.{RowsAction}
+use Rattle.blog_row.specs.declared.kind.RowsAction.TheVariants.{Write, Update, Delete}
 use Rattle.blog_row.specs.Image.{Row}
-use Rattle.blog_row.specs.RowsKind.{images_a_row}
+use Rattle.blog_row.specs.RowsKind.{images_a_row, opposite}
+use Rattle.blog_row.proofs.ReversedRows.{images-reversed, content-twice}
 use Rattle.blog_row.specs.TableMap.{Table, layout_of}
-use Rattle.blog_trans.specs.Changes.{Change, Inserted, Deleted, Updated, table_of, row_by, updates, changes_by_kind, changes_of_rows, changes_of_statement, changes_of_transaction, changes_of}
+use Rattle.blog_trans.specs.Changes.{Change, Inserted, Deleted, Updated, table_of, row_by, updates, changes_by_action, changes_of_rows, changes_of_statement, changes_of_transaction, changes_of}
 use Rattle.blog_trans.specs.Groups.{RowsEvent, Statement, Transaction}
 use Rattle.blog_flash.specs.States.{inverse, inverse_all}
-use Rattle.blog_flash.specs.Reversal.{opposite, reversed_rows, reversed_statement, reversed_transaction, reversed}
+use Rattle.blog_flash.specs.Reversal.{reversed_rows, reversed_statement, reversed_transaction, reversed}
 
 -- ---- lists in reverse order
 
@@ -35,14 +36,9 @@ turned-twice g twice xs = ap reverse (map-reverse g (map g xs)) ∙ reverse-reve
 
 -- ---- groups reversed twice
 
-opposite-twice : (k : RowsKind) → opposite (opposite k) ≡ k
-opposite-twice Write = refl
-opposite-twice Update = refl
-opposite-twice Delete = refl
-
 -- twice reversed, a rows event is itself
 pub rows-twice : (r : RowsEvent) → reversed_rows (reversed_rows r) ≡ r
-rows-twice r = λ i. record r { kind = opposite-twice r.kind i; bitmaps = reverse-reverse r.bitmaps i; images = reverse-reverse r.images i }
+rows-twice r = λ i. record r { content = content-twice r.content i }
 
 -- so is a statement
 pub statement-twice : (s : Statement) → reversed_statement (reversed_statement s) ≡ s
@@ -119,14 +115,14 @@ even-map f (x ∷ y ∷ xs) even = even-map f xs even
 -- ---- groups whose updates have both images of each row
 
 -- an update has an even number of images, or of rows read from them
-abbrev pub IsPaired : {A : Type 0} → RowsKind → List A → Type 0
+abbrev pub IsPaired : {A : Type 0} → RowsAction → List A → Type 0
 IsPaired Write xs = Unit {0}
 IsPaired Update xs = IsEven xs
 IsPaired Delete xs = Unit {0}
 
 -- a rows event that has all images of its rows
 abbrev pub IsPairedRows : RowsEvent → Type 0
-IsPairedRows r = IsPaired r.kind r.images
+IsPairedRows r = IsPaired r.content.kind.action r.content.images
 
 -- a statement of such rows events
 abbrev pub IsPairedStatement : Statement → Type 0
@@ -137,12 +133,12 @@ abbrev pub IsPairedTransaction : Transaction → Type 0
 IsPairedTransaction t = AllByRecursion IsPairedStatement t.statements
 
 -- an even number, from the remainder that whole rows leave
-pub paired-from-mod : {A : Type 0} (k : RowsKind) (xs : List A) → length xs % images_a_row k ≡ 0 → IsPaired k xs
+pub paired-from-mod : {A : Type 0} (k : RowsAction) (xs : List A) → length xs % images_a_row k ≡ 0 → IsPaired k xs
 paired-from-mod Write xs e = tt
 paired-from-mod Update xs e = even-from-mod xs e
 paired-from-mod Delete xs e = tt
 
-paired-map : {A B : Type 0} (f : A → B) (k : RowsKind) (xs : List A) → IsPaired k xs → IsPaired k (map f xs)
+paired-map : {A B : Type 0} (f : A → B) (k : RowsAction) (xs : List A) → IsPaired k xs → IsPaired k (map f xs)
 paired-map f Write xs paired = tt
 paired-map f Update xs paired = even-map f xs paired
 paired-map f Delete xs paired = tt
@@ -167,16 +163,18 @@ map-inverse : {A : Type 0} (f g : A → Change) → ((x : A) → inverse (f x) �
 map-inverse f g same [] = refl
 map-inverse f g same (x ∷ xs) = ap₂ ◌∷◌ (same x) (map-inverse f g same xs)
 
-kind-reverse : (k : RowsKind) (t : Table) (rows : List Row) → IsPaired k rows → changes_by_kind (opposite k) t (reverse rows) ≡ inverse_all (changes_by_kind k t rows)
-kind-reverse Write t rows paired = map-reverse (Deleted t) rows ∙ ap reverse (sym (map-inverse (Inserted t) (Deleted t) (λ r. refl) rows))
-kind-reverse Update t rows paired = updates-reverse t rows paired
-kind-reverse Delete t rows paired = map-reverse (Inserted t) rows ∙ ap reverse (sym (map-inverse (Deleted t) (Inserted t) (λ r. refl) rows))
+action-reverse : (k : RowsAction) (t : Table) (rows : List Row) → IsPaired k rows → changes_by_action (opposite k) t (reverse rows) ≡ inverse_all (changes_by_action k t rows)
+action-reverse Write t rows paired = map-reverse (Deleted t) rows ∙ ap reverse (sym (map-inverse (Inserted t) (Deleted t) (λ r. refl) rows))
+action-reverse Update t rows paired = updates-reverse t rows paired
+action-reverse Delete t rows paired = map-reverse (Inserted t) rows ∙ ap reverse (sym (map-inverse (Deleted t) (Inserted t) (λ r. refl) rows))
 
 -- the changes of a reversed rows event
 pub rows-changes : (r : RowsEvent) → IsPairedRows r → changes_of_rows (reversed_rows r) ≡ inverse_all (changes_of_rows r)
 rows-changes r paired =
-    ap (changes_by_kind (opposite r.kind) (table_of r.map)) (map-reverse row r.images)
-    ∙ kind-reverse r.kind (table_of r.map) (map row r.images) (paired-map row r.kind r.images paired)
+    let action = r.content.kind.action in
+    ap (λ (images : List (List ℕ)). changes_by_action (opposite action) (table_of r.map) (map row images)) (images-reversed action r.content.images)
+    ∙ ap (changes_by_action (opposite action) (table_of r.map)) (map-reverse row r.content.images)
+    ∙ action-reverse action (table_of r.map) (map row r.content.images) (paired-map row action r.content.images paired)
   where
     row : List ℕ → Row
     row = row_by (layout_of r.map)

@@ -2,11 +2,12 @@
 use Rattle.std.proofs.Common.{◌≡◌, ℕ, ◌+◌, Bool, true, false, List, [], ◌∷◌, ◌++◌, length, map, reverse, refl, sym, ap, ap₂, ◌∙◌, arith, length-append}
 use Rattle.std.specs.Prelude.{if◌then◌else◌}
 use Rattle.std.specs.List.{flat_map, concat}
-use Rattle.byteorder.specs.Endian.{little_bytes}
-use Rattle.byteorder.specs.Numbers.{length-bytes_low_first}
 use Rattle.blog_event.specs.Event.{Event, event_size}
 use Rattle.blog_event.specs.File.{end_of}
 use Rattle.blog_event.proofs.Framing.{texts-length}
+use Rattle.blog_row.specs.declared.order.Order.TheVariants.{Forward, Backward}
+use Rattle.blog_row.specs.RowsWriting.{written_body}
+use Rattle.blog_row.proofs.WrittenBody.{body-len}
 use Rattle.blog_trans.specs.Groups.{RowsEvent, Statement, Transaction}
 use Rattle.blog_flash.specs.Reversal.{reversed_rows, reversed_statement, reversed_transaction, reversed}
 use Rattle.blog_flash.specs.Texts.{rows_event, rows_events, statement_events, transaction_events, group_events, with_log_pos, laid_out}
@@ -32,15 +33,6 @@ sum-reverse f (x ∷ xs) =
     let others = sum-reverse f xs in
     omega arith
 
--- the length of lists of bytes joined
-pub length-concat : (lists : List (List ℕ)) → length (concat lists) ≡ sum_of length lists
-length-concat [] = refl
-length-concat (x ∷ lists) = length-append x (concat lists) ∙ ap (λ (n : ℕ). length x + n) (length-concat lists)
-
--- in reverse order they are as long
-pub length-concat-reverse : (lists : List (List ℕ)) → length (concat (reverse lists)) ≡ length (concat lists)
-length-concat-reverse lists = length-concat (reverse lists) ∙ sum-reverse length lists ∙ sym (length-concat lists)
-
 -- ---- events
 
 -- how long events are together
@@ -65,7 +57,7 @@ total-placed pos (e ∷ es) = ap (λ (n : ℕ). event_size e + n) (total-placed 
 
 -- how long the event of a rows event is
 abbrev pub rows_size : RowsEvent → ℕ
-rows_size r = 19 + (length r.id + (4 + (length r.count + (length (concat r.bitmaps) + length (concat r.images)))))
+rows_size r = 19 + length (written_body true r.content)
 
 -- the events of a statement
 abbrev pub statement_size : Statement → ℕ
@@ -78,15 +70,7 @@ transaction_size t = event_size t.begin + (sum_of statement_size t.statements + 
 -- the end flag changes no length
 pub rows_event-size : (last : Bool) (r : RowsEvent) → event_size (rows_event last r) ≡ rows_size r
 unfolding rows_event
-rows_event-size last r =
-    let flags : List ℕ = little_bytes 2 (if last then r.flags + 1 else r.flags) in
-    let images : List ℕ = concat r.bitmaps ++ concat r.images in
-    let two : length flags ≡ 2 = length-bytes_low_first 0 2 (if last then r.flags + 1 else r.flags) in
-    let whole = length-append r.id (flags ++ (2 ∷ 0 ∷ (r.count ++ images))) in
-    let behind_id = length-append flags (2 ∷ 0 ∷ (r.count ++ images)) in
-    let behind_fixed = length-append r.count images in
-    let behind_count = length-append (concat r.bitmaps) (concat r.images) in
-    omega arith
+rows_event-size last r = ap (λ (n : ℕ). 19 + n) (body-len Forward last r.content ∙ sym (body-len Forward true r.content))
 
 -- the rows events of a statement
 pub rows_events-total : (rows : List RowsEvent) → total (rows_events rows) ≡ sum_of rows_size rows
@@ -113,10 +97,7 @@ group-total ts = sum-joined event_size transaction_events transaction_size trans
 
 -- a rows event
 rows-turned : (r : RowsEvent) → rows_size (reversed_rows r) ≡ rows_size r
-rows-turned r =
-    let bitmaps = length-concat-reverse r.bitmaps in
-    let images = length-concat-reverse r.images in
-    omega arith
+rows-turned r = ap (λ (n : ℕ). 19 + n) (body-len Backward true r.content ∙ sym (body-len Forward true r.content))
 
 -- a statement
 statement-turned : (s : Statement) → statement_size (reversed_statement s) ≡ statement_size s

@@ -1,9 +1,11 @@
 -- The groups of an accepted log are well-formed.
-use Rattle.std.proofs.Common.{◌≡◌, ℕ, ◌+◌, ◌-◌, ◌%◌, ◌<◌, ◌^◌, Bool, true, false, ◌||◌, if◌then◌else◌, List, [], ◌∷◌, length, map, Option, Some, None, option_map, Result, Ok, Err, bytes_eq, ◌⊎◌, inl, inr, refl, sym, subst, ap, ◌∙◌, arith, take_at}
+use Rattle.std.proofs.Common.{◌≡◌, ℕ, ◌+◌, ◌-◌, ◌%◌, ◌<◌, ◌^◌, Bool, true, false, ◌||◌, if◌then◌else◌, List, [], ◌∷◌, length, map, Option, Some, None, option_map, Result, Ok, Err, bytes_eq, ◌⊎◌, inl, inr, refl, sym, subst, ap, ◌∙◌, arith, take_at, drop_at}
 use Rattle.std.specs.List.{AllByRecursion, list_any, filter_map}
 use Rattle.std.specs.Option.{option_map_or}
 use Rattle.std.proofs.lemmas.Bool.{and_parts, or_left, or_right, false≢true}
 use Rattle.std.proofs.lemmas.Option.{none-some, same_Some, option_and_then_some}
+use Rattle.byteorder.specs.Endian.{little_number}
+use Rattle.byteorder.specs.Numbers.{little_from-append}
 use Rattle.blog_event.specs.declared.fault.Fault.TheVariants.{CutEvent}
 use Rattle.blog_event.specs.Fault.{needs, fault_at}
 use Rattle.blog_event.specs.Event.{Event, IsEvent}
@@ -140,9 +142,13 @@ rows-asked (r ∷ rows) = (
 
 -- an id is among those of rows events as it is among those of their values
 ids-alike : (Member : Placed → Type 0) (sel : Selection) (events : List Placed) (rows : List PlacedRows) (id : List ℕ) → AllByRecursion (IsKept Member sel events) rows
-    → list_any (λ (r : RowsEvent). bytes_eq id r.id) (map rows_value rows) ≡ is_id_among (ids_of rows) id
+    → list_any (λ (r : RowsEvent). bytes_eq id r.content.id) (map rows_value rows) ≡ is_id_among (ids_of rows) id
 ids-alike Member sel events [] id all = refl
 ids-alike Member sel events (r ∷ rows) id all = rw (kept-id Member sel events r all.0, ids-alike Member sel events rows id all.1) refl
+
+-- the flags of a body are those of its fields
+own-flags : (k : RowsKind) (c : Layout) (body : List ℕ) (b : RowsBody) → IsRowsBody k c body b → flags_of body ≡ little_number 2 b.flags
+own-flags k c body b h = ap flags_of h.text ∙ ap (little_number 2) (drop_at b.id _ 6 h.id_len) ∙ little_from-append 2 b.flags _ (omega (arith, h.flags_len))
 
 -- flags less their last bit fit with it
 clear-fits : (n : ℕ) → n < 2 ^ 16 → (n - n % 2) + 1 < 2 ^ 16
@@ -164,8 +170,8 @@ row-formed Member sel events ids r asked h =
       found = (event_value r.map, value-among maps r.body.id ∙ ap (option_map event_value) among, refl);
       names = selected-names sel r.map.event.body h.selected;
       id = h.fields.id_len;
-      flags = clear-fits (flags_of r.event.event.body) mark;
-      even = clear-even (flags_of r.event.event.body);
+      flags = clear-fits (little_number 2 r.body.flags) (subst (λ (n : ℕ). n < 2 ^ 16) (own-flags r.kind h.layout r.event.event.body r.body h.fields) mark);
+      even = clear-even (little_number 2 r.body.flags);
       content = (h.layout, h.layout_is, content-of h.layout r.kind r.event.event.body r.body (layout_some r.map.event.body h.layout h.layout_is) h.fields);
       timestamp_fits = h.sound.event.timestamp;
       server_id_fits = h.sound.event.server_id;

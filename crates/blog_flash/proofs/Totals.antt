@@ -13,7 +13,9 @@ use Rattle.blog_row.specs.RowsEvent.{RowsBody, table_id, IsRowsBody}
 use Rattle.blog_row.proofs.Cutting.{and_then_found}
 use Rattle.blog_row.proofs.Images.{images_found, images_again}
 use Rattle.blog_row.proofs.Layouts.{layout_some}
+use Rattle.blog_row.specs.RowsWriting.{content_of, written_body}
 use Rattle.blog_row.proofs.Bodies.{rows_found}
+use Rattle.blog_row.proofs.WrittenBody.{written-fits}
 use Rattle.blog_trans.specs.declared.kind.EventKind.{EventKind}
 use Rattle.blog_trans.specs.declared.kind.EventKind.TheVariants as kind
 use Rattle.blog_trans.specs.Selection.{Selection}
@@ -38,36 +40,14 @@ placed_total ps = sum_of own_size ps
 
 -- ---- rows events that are kept
 
--- how long the fields of a body are together, without extra bytes
-abbrev fields_len : RowsBody → ℕ
-fields_len b = length b.id + (4 + (length b.count + (length (concat b.bitmaps) + length (concat b.images))))
-
--- they are no longer than the body
-fields-fit : (rows : RowsKind) (c : Layout) (body : List ℕ) (b : RowsBody) → IsRowsBody rows c body b → fields_len b ≤ length body
-fields-fit rows c body b h =
-    let images : List ℕ = concat b.bitmaps ++ concat b.images in
-    let behind_extra : List ℕ = b.count ++ images in
-    let behind_len : List ℕ = b.extra ++ behind_extra in
-    let behind_flags : List ℕ = b.extra_len ++ behind_len in
-    let lengths : length body ≡ length (b.id ++ (b.flags ++ behind_flags)) = ap length h.text in
-    let one = length-append b.id (b.flags ++ behind_flags) in
-    let two = length-append b.flags behind_flags in
-    let three = length-append b.extra_len behind_len in
-    let four = length-append b.extra behind_extra in
-    let five = length-append b.count images in
-    let six = length-append (concat b.bitmaps) (concat b.images) in
-    let flags_len = h.flags_len in
-    let extra_len_len = h.extra_len_len in
-    omega arith
-
--- nor are those that are read by a map
-read-fits : (rows : RowsKind) (m body : List ℕ) (b : RowsBody) → rows_by_map rows m body ≡ Ok b → fields_len b ≤ length body
+-- the body that is written is no longer than the body that was read
+read-fits : (rows : RowsKind) (m body : List ℕ) (b : RowsBody) → rows_by_map rows m body ≡ Ok b → length (written_body true (content_of rows b)) ≤ length body
 read-fits rows m body b e = by_layout (layout_of m) refl e
   where
-    by_layout : (l : Result Layout RowFault) → layout_of m ≡ l → rows_under rows l body ≡ Ok b → fields_len b ≤ length body
+    by_layout : (l : Result Layout RowFault) → layout_of m ≡ l → rows_under rows l body ≡ Ok b → length (written_body true (content_of rows b)) ≤ length body
     by_layout (Err fault) is e = absurd (cc)
     by_layout (Ok c) is e =
-        fields-fit rows c body b (rows_found rows c body b (λ bytes images. (images_found c bytes images, λ are. images_again c bytes images (layout_some m c is) are.0 are.1)) e)
+        written-fits rows c body b (rows_found rows c body b (λ bytes images. (images_found c bytes images, λ are. images_again c bytes images (layout_some m c is) are.0 are.1)) e)
 
 -- how long the event is that is written for a kept rows event
 abbrev kept_size : PlacedRows → ℕ

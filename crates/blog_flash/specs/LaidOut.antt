@@ -1,18 +1,16 @@
 -- The groups of an index as they are laid out, in either order: what is written for each part, found by its number.
-use Rattle.std.specs.Prelude.{ℕ, ◌+◌, ◌-◌, ◌%◌, Bool, if◌then◌else◌, List, [], map, reverse, slice_get}
+use Rattle.std.specs.Prelude.{ℕ, ◌+◌, ◌-◌, List, [], map, reverse, slice_get}
 use Rattle.std.specs.Option.{option_map_or}
 use Rattle.std.specs.List.{flat_map}
-use Rattle.byteorder.specs.Endian.{little_number}
 use Rattle.blog_event.specs.declared.event.Event as told
 use Rattle.blog_event.specs.Event.{Event, event_text}
-use Rattle.blog_row.specs.declared.kind.RowsKind.{RowsKind}
+use Rattle.blog_row.specs.declared.order.Order.{Order}
+use Rattle.blog_row.specs.declared.order.Order.TheVariants.{Forward, Backward}
 use Rattle.blog_row.specs.declared.rows_event.RowsEvent as seen
-use Rattle.blog_row.specs.RowsEventView.{rows_kind, rows_body}
+use Rattle.blog_row.specs.RowsEventView.{rows_content}
 use Rattle.blog_trans.specs.Groups.{PlacedTransaction, RowsEvent, Statement, Transaction, event_value, statement_value, transaction_value}
 use Rattle.blog_trans.specs.IndexView.{statement_at}
-use Rattle.blog_flash.specs.declared.order.Order.{Order}
-use Rattle.blog_flash.specs.declared.order.Order.TheVariants.{Forward, Backward}
-use Rattle.blog_flash.specs.Reversal.{opposite, reversed_rows, reversed_statement, reversed_transaction, reversed}
+use Rattle.blog_flash.specs.Reversal.{reversed_rows, reversed_statement, reversed_transaction, reversed}
 use Rattle.blog_flash.specs.Texts.{statement_events, transaction_events, with_log_pos}
 
 -- the texts of events that are appended to a file of `pos` bytes
@@ -29,10 +27,6 @@ in_order Backward xs = reverse xs
 abbrev pub number_in : Order → ℕ → ℕ → ℕ
 number_in Forward n i = i
 number_in Backward n i = n - (i + 1)
-
-abbrev pub kind_in : Order → RowsKind → RowsKind
-kind_in Forward kind = kind
-kind_in Backward kind = opposite kind
 
 abbrev pub rows_in : Order → RowsEvent → RowsEvent
 rows_in Forward r = r
@@ -54,22 +48,13 @@ groups_in Backward ts = reversed ts
 
 -- its value; what its map says isn't written
 abbrev pub rows_seen : told.Event → seen.RowsEvent → RowsEvent
-rows_seen e r = let b = rows_body r in record {
+rows_seen e r = record {
   timestamp = e.header.timestamp;
   server_id = e.header.server_id;
   header_flags = e.header.flags;
   map = [];
-  kind = rows_kind r;
-  id = b.id;
-  flags = little_number 2 b.flags - little_number 2 b.flags % 2;
-  count = b.count;
-  bitmaps = b.bitmaps;
-  images = b.images;
+  content = rows_content r;
 }
-
--- its flags, with the end flag set or clear
-abbrev pub flags_by : Bool → RowsEvent → ℕ
-flags_by last r = if last then r.flags + 1 else r.flags
 
 -- ---- by number
 

@@ -9,7 +9,7 @@ use Rattle.blog_row.specs.RowsEvent.{RowImages}
 use Rattle.blog_row.specs.TableMap.{Table}
 use Rattle.blog_trans.specs.Changes.{Inserted, Deleted, Updated, changes_of_rows, changes_of_statement}
 use Rattle.blog_trans.specs.Groups.{PlacedTransaction, transaction_value}
-use Rattle.blog_flash.specs.declared.order.Order.TheVariants.{Forward}
+use Rattle.blog_row.specs.declared.order.Order.TheVariants.{Forward}
 use Rattle.blog_flash.specs.LaidOut.{rows_of, statements_of}
 use Rattle.blog_flash.specs.Printed.{line, quoted_table, value_text, change_lines, transaction_lines}
 

@@ -1,19 +1,11 @@
 -- The groups that undo groups (MariaDB Knowledge Base, "Flashback").
 use Rattle.std.specs.Prelude.{List, map, reverse}
-use Rattle.blog_row.specs.declared.kind.RowsKind.{RowsKind}
-use Rattle.blog_row.specs.declared.kind.RowsKind.TheVariants.{Write, Update, Delete}
+use Rattle.blog_row.specs.RowsWriting.{reversed_content}
 use Rattle.blog_trans.specs.Groups.{RowsEvent, Statement, Transaction}
 
--- inserting and deleting are exchanged
-abbrev pub opposite : RowsKind → RowsKind
-opposite Write = Delete
-opposite Update = Update
-opposite Delete = Write
-
--- Rows in reverse order. An update also has its two bitmaps exchanged, and the two images of each row: so all images
--- and all bitmaps stand in reverse order.
+-- the rows of a rows event undone, the last one first
 abbrev pub reversed_rows : RowsEvent → RowsEvent
-reversed_rows r = record r { kind = opposite r.kind; bitmaps = reverse r.bitmaps; images = reverse r.images }
+reversed_rows r = record r { content = reversed_content r.content }
 
 -- rows events in reverse order; maps keep theirs
 abbrev pub reversed_statement : Statement → Statement

@@ -1,22 +1,24 @@
 -- The logs that are written: groups laid out behind the source's format description.
-use Rattle.std.specs.Prelude.{ℕ, ◌+◌, Bool, true, false, if◌then◌else◌, List, [], ◌∷◌, ◌++◌}
-use Rattle.std.specs.List.{flat_map, concat}
-use Rattle.byteorder.specs.Endian.{little_bytes}
+use Rattle.std.specs.Prelude.{ℕ, ◌+◌, Bool, true, false, List, [], ◌∷◌, ◌++◌}
+use Rattle.std.specs.List.{flat_map}
 use Rattle.blog_event.specs.Event.{Event, event_size}
 use Rattle.blog_event.specs.File.{file_text, read}
 use Rattle.blog_row.specs.RowsKind.{number_of_kind}
+use Rattle.blog_row.specs.RowsWriting.{written_body}
 use Rattle.blog_trans.specs.Selection.{Selection}
 use Rattle.blog_trans.specs.Groups.{RowsEvent, Statement, Transaction, groups}
 use Rattle.blog_flash.specs.Reversal.{reversed}
 
--- a rows event's body: an extra length of 2 and no extra bytes, and the end flag on the last of its statement
-abbrev pub rows_body : Bool → RowsEvent → List ℕ
-rows_body last r =
-    r.id ++ (little_bytes 2 (if last then r.flags + 1 else r.flags) ++ (2 ∷ 0 ∷ (r.count ++ (concat r.bitmaps ++ concat r.images))))
-
--- its header keeps timestamp, server id and flags
+-- a rows event, the last of its statement or not; its header keeps timestamp, server id and flags
 unfoldable pub rows_event : Bool → RowsEvent → Event
-rows_event last r = record { timestamp = r.timestamp; kind = number_of_kind r.kind; server_id = r.server_id; log_pos = 0; flags = r.header_flags; body = rows_body last r }
+rows_event last r = record {
+  timestamp = r.timestamp;
+  kind = number_of_kind r.content.kind;
+  server_id = r.server_id;
+  log_pos = 0;
+  flags = r.header_flags;
+  body = written_body last r.content;
+}
 
 abbrev pub rows_events : List RowsEvent → List Event
 rows_events [] = []

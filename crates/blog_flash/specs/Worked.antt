@@ -4,3 +4,4 @@ pub mod Surroundings
 pub mod Refused
 pub mod Written
 pub mod Lines
+pub mod Versions

@@ -1,33 +1,26 @@
 //! Laying out the groups of an index as a log: in normal form, or as the log that undoes them.
 
-ghost use Rattle.std.specs.Prelude.{◌≡◌, ◌+◌, ◌-◌, ◌<◌, ◌≤◌, [], ◌∷◌, ◌++◌, length, take, drop, reverse, IsSome, IfOk, IfErr, vec_len, vec_capacity};
-ghost use Rattle.std.specs.List.{flat_map, concat};
-ghost use Rattle.byteorder.specs.Endian.{little_bytes};
+ghost use Rattle.std.specs.Prelude.{◌≡◌, ◌+◌, ◌<◌, ◌≤◌, [], ◌∷◌, ◌++◌, length, take, IsSome, IfOk, IfErr, vec_len, vec_capacity};
+ghost use Rattle.std.specs.List.{flat_map};
 ghost use Rattle.blog_event.specs.Event.{event_of, unplaced};
 ghost use Rattle.blog_event.specs.File.{end_of, read};
-ghost use Rattle.blog_event.specs.Writing.{joined};
 ghost use Rattle.blog_event.specs.declared.fault.Fault.TheVariants.{OutOfMemory};
-ghost use Rattle.blog_row.specs.RowsEvent.{rows_text};
-ghost use Rattle.blog_row.specs.RowsEventView.{rows_body};
+ghost use Rattle.blog_row.specs.RowsEventView.{rows_content};
+ghost use Rattle.blog_row.specs.RowsWriting.{content_in, written_body};
 ghost use Rattle.blog_trans.specs.Groups.{groups};
 ghost use Rattle.blog_trans.specs.IndexView.{index_bytes, index_selection, index_groups, statement_at};
-ghost use Rattle.blog_flash.specs.LaidOut.{text_from, rows_in, rows_seen, flags_by, groups_in, maps_of, rows_of, statement_of, statements_of, transaction_of, transactions_of};
-ghost use Rattle.blog_flash.specs.Reversal.{reversed_rows};
+ghost use Rattle.blog_flash.specs.LaidOut.{text_from, rows_in, rows_seen, groups_in, maps_of, rows_of, statement_of, statements_of, transaction_of, transactions_of};
 ghost use Rattle.blog_flash.specs.Texts.{rows_event, rows_events, statement_events, group_events, laid_out_after};
 
-use crate::lengths::{rows_event_end, text_len};
-use crate::order::Order;
-use blog_event::{Event, Fault, HEADER_LEN, Header, open_event, put_event};
-use blog_row::RowsEvent;
+use crate::lengths::text_len;
+use crate::order::number;
+use blog_event::{Event, Fault, Header, open_event, put_event};
+use blog_row::{Order, RowsEvent};
 use blog_trans::Index;
-use byteorder::{ByteOrder, LittleEndian};
 use std::alloc::Allocator;
 
 /// The length of the magic number.
 const MAGIC_LEN: usize = 4;
-
-/// The length of the extra bytes of a rows event that has none: its own two bytes.
-const NO_EXTRA: [u8; 2] = [2, 0];
 
 /// Appends an event as it is, with the log_pos that it has there.
 fn put_same<A: Allocator>(out: &mut Vec<u8, A>, event: &Event<'_>)
@@ -40,108 +33,20 @@ fn put_same<A: Allocator>(out: &mut Vec<u8, A>, event: &Event<'_>)
     put_event(out, event.header, &[event.body]).unwrap();
 }
 
-/// The two bytes of a rows event's flags: the end flag is set on the last of its statement, and clear on the others.
-fn flag_bytes(event: &Event<'_>, rows: &RowsEvent<'_>, last: bool) -> [u8; 2]
-    ensures { result ≡ little_bytes 2 (flags_by last (rows_seen event.now rows.now)) }
-{
-    let flags = rows.flags() - rows.flags() % 2;
-    let mut bytes = [0u8; 2];
-    LittleEndian::write_u16(&mut bytes, if last { flags + 1 } else { flags });
-    bytes
-}
-
-/// Writes slices over bytes, one after the other, from the front on.
-fn write_over(to: &mut [u8], parts: &[&[u8]])
-    requires { length (joined parts.now) ≤ length to.old }
-    ensures { to.new ≡ joined parts.now ++ drop (length (joined parts.now)) to.old }
-{
-    let mut at = 0;
-    for part in parts {
-        to[at..at + part.len()].copy_from_slice(part);
-        at += part.len();
-    }
-}
-
-/// Writes slices over the bytes of `out` from position `at` on.
-fn write_behind<A: Allocator>(out: &mut Vec<u8, A>, at: usize, parts: &[&[u8]])
-    requires within { at + length (joined parts.now) ≤ vec_len out.old }
-    ensures items { out.new.items ≡ take at out.old.items ++ (joined parts.now ++ drop (at + length (joined parts.now)) out.old.items) }
-    ensures len { vec_len out.new ≡ vec_len out.old }
-    ensures capacity { vec_capacity out.old ≤ vec_capacity out.new }
-{
-    write_over(&mut out[at..], parts);
-}
-
-/// Puts the images of a rows event, whose room stands last, in reverse order.
-fn reverse_last<A: Allocator>(out: &mut Vec<u8, A>, rows: &RowsEvent<'_>)
-    requires within { length (concat (rows_body rows.now).images) ≤ vec_len out.old }
-    ensures items { out.new.items ≡ take (vec_len out.old - length (concat (rows_body rows.now).images)) out.old.items ++ concat (reverse (rows_body rows.now).images) }
-    ensures len { vec_len out.new ≡ vec_len out.old }
-    ensures capacity { vec_capacity out.old ≤ vec_capacity out.new }
-{
-    let start = out.len() - rows.rows_len();
-    rows.put_reversed(&mut out[start..]);
-}
-
-/// Appends a rows event as it was read, but for its flags and extra bytes.
-fn put_copied<A: Allocator>(
+/// Writes the body of a rows event over the last bytes, from position `at` on.
+fn put_body_at<A: Allocator>(
     out: &mut Vec<u8, A>,
-    event: &Event<'_>,
+    at: usize,
+    order: Order,
     rows: &RowsEvent<'_>,
     last: bool,
 )
-    requires body { event.now.body.now ≡ rows_text (rows_body rows.now) }
-    requires room { end_of (vec_len out.old) (rows_event last (rows_seen event.now rows.now) ∷ []) ≤ vec_capacity out.old }
-    requires short { end_of (vec_len out.old) (rows_event last (rows_seen event.now rows.now) ∷ []) ≤ 4294967295 }
-    ensures items { out.new.items ≡ out.old.items ++ text_from (vec_len out.old) (rows_event last (rows_seen event.now rows.now) ∷ []) }
-    ensures len { vec_len out.new ≡ end_of (vec_len out.old) (rows_event last (rows_seen event.now rows.now) ∷ []) }
+    requires room { vec_len out.old ≡ at + length (written_body last (content_in order (rows_content rows.now))) }
+    ensures items { out.new.items ≡ take at out.old.items ++ written_body last (content_in order (rows_content rows.now)) }
+    ensures len { vec_len out.new ≡ vec_len out.old }
     ensures capacity { vec_capacity out.old ≤ vec_capacity out.new }
 {
-    let header = Header {
-        kind: rows.kind().number(),
-        ..event.header
-    };
-    let id = &event.body[..6];
-    let flags = flag_bytes(event, rows, last);
-    let (first, second) = Order::Forward.bitmaps(rows);
-    let parts = [
-        id,
-        &flags,
-        &NO_EXTRA,
-        rows.count(),
-        first,
-        second,
-        rows.images(),
-    ];
-    put_event(out, header, &parts).unwrap();
-}
-
-/// Appends the rows event that undoes one: its images are put in reverse order into the end of its body.
-fn put_turned<A: Allocator>(
-    out: &mut Vec<u8, A>,
-    event: &Event<'_>,
-    rows: &RowsEvent<'_>,
-    last: bool,
-)
-    requires body { event.now.body.now ≡ rows_text (rows_body rows.now) }
-    requires room { end_of (vec_len out.old) (rows_event last (reversed_rows (rows_seen event.now rows.now)) ∷ []) ≤ vec_capacity out.old }
-    requires short { end_of (vec_len out.old) (rows_event last (reversed_rows (rows_seen event.now rows.now)) ∷ []) ≤ 4294967295 }
-    ensures items { out.new.items ≡ out.old.items ++ text_from (vec_len out.old) (rows_event last (reversed_rows (rows_seen event.now rows.now)) ∷ []) }
-    ensures len { vec_len out.new ≡ end_of (vec_len out.old) (rows_event last (reversed_rows (rows_seen event.now rows.now)) ∷ []) }
-    ensures capacity { vec_capacity out.old ≤ vec_capacity out.new }
-{
-    let header = Header {
-        kind: Order::Backward.kind(rows.kind()).number(),
-        ..event.header
-    };
-    let id = &event.body[..6];
-    let flags = flag_bytes(event, rows, last);
-    let (first, second) = Order::Backward.bitmaps(rows);
-    let body_len = rows_event_end(rows, event, 0) - HEADER_LEN;
-    let body = open_event(out, header, body_len).unwrap();
-    let front = [id, &flags, &NO_EXTRA, rows.count(), first, second];
-    write_behind(out, body, &front);
-    reverse_last(out, rows);
+    rows.put_body(order, last, &mut out[at..]);
 }
 
 /// Appends a rows event, with the log_pos that it has there and without extra bytes; backward it undoes its rows, the
@@ -153,17 +58,18 @@ fn put_rows_event<A: Allocator>(
     rows: &RowsEvent<'_>,
     last: bool,
 )
-    requires body { event.now.body.now ≡ rows_text (rows_body rows.now) }
     requires room { end_of (vec_len out.old) (rows_event last (rows_in order (rows_seen event.now rows.now)) ∷ []) ≤ vec_capacity out.old }
     requires short { end_of (vec_len out.old) (rows_event last (rows_in order (rows_seen event.now rows.now)) ∷ []) ≤ 4294967295 }
     ensures items { out.new.items ≡ out.old.items ++ text_from (vec_len out.old) (rows_event last (rows_in order (rows_seen event.now rows.now)) ∷ []) }
     ensures len { vec_len out.new ≡ end_of (vec_len out.old) (rows_event last (rows_in order (rows_seen event.now rows.now)) ∷ []) }
     ensures capacity { vec_capacity out.old ≤ vec_capacity out.new }
 {
-    match order {
-        Order::Forward => put_copied(out, event, rows, last),
-        Order::Backward => put_turned(out, event, rows, last),
-    }
+    let header = Header {
+        kind: order.kind(rows.kind()).number(),
+        ..event.header
+    };
+    let body = open_event(out, header, rows.body_len()).unwrap();
+    put_body_at(out, body, order, rows, last);
 }
 
 /// Appends the maps of statement `s` of transaction `t`, in order.
@@ -203,7 +109,7 @@ fn put_rows<A: Allocator, B: Allocator>(
 {
     let len = index.rows(t, s);
     for i in 0..len {
-        let (event, _, rows) = index.rows_event(t, s, order.number(len, i));
+        let (event, _, rows) = index.rows_event(t, s, number(order, len, i));
         put_rows_event(out, order, &event, &rows, i + 1 == len);
     }
 }
@@ -243,7 +149,7 @@ fn put_statements<A: Allocator, B: Allocator>(
 {
     let len = index.statements(t);
     for i in 0..len {
-        put_statement(out, index, order, t, order.number(len, i));
+        put_statement(out, index, order, t, number(order, len, i));
     }
 }
 
@@ -281,7 +187,7 @@ fn put_transactions<A: Allocator, B: Allocator>(
 {
     let len = index.transactions();
     for i in 0..len {
-        put_transaction(out, index, order, order.number(len, i));
+        put_transaction(out, index, order, number(order, len, i));
     }
 }
 

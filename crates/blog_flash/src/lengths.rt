@@ -5,22 +5,18 @@ ghost use Rattle.std.specs.List.{flat_map};
 ghost use Rattle.blog_event.specs.Event.{event_of, event_at};
 ghost use Rattle.blog_event.specs.File.{end_of, read};
 ghost use Rattle.blog_event.specs.LogView.{log_bytes};
-ghost use Rattle.blog_row.specs.RowsEvent.{rows_text};
-ghost use Rattle.blog_row.specs.RowsEventView.{rows_body};
+ghost use Rattle.blog_row.specs.RowsEventView.{rows_content};
+ghost use Rattle.blog_row.specs.RowsWriting.{written_body};
 ghost use Rattle.blog_trans.specs.Groups.{groups};
 ghost use Rattle.blog_trans.specs.IndexView.{index_bytes, index_selection, index_groups, statement_at};
 ghost use Rattle.blog_flash.specs.LaidOut.{maps_of, rows_of, rows_seen, statement_of, statements_of, transaction_of, transactions_of};
 ghost use Rattle.blog_flash.specs.Texts.{rows_event, rows_events, statement_events, group_events, laid_out_after};
-ghost use Rattle.blog_flash.specs.declared.order.Order.TheVariants.{Forward};
+ghost use Rattle.blog_row.specs.declared.order.Order.TheVariants.{Forward};
 
-use crate::order::Order;
 use blog_event::{Event, HEADER_LEN};
 use blog_row::RowsEvent;
 use blog_trans::Index;
 use std::alloc::Allocator;
-
-/// The length of a rows event's table id, flags and extra length, where it has no extra bytes.
-const FIXED_LEN: usize = 10;
 
 /// Where an event ends that begins at a position, in bytes.
 fn event_end(event: &Event<'_>, pos: usize) -> usize
@@ -31,13 +27,11 @@ fn event_end(event: &Event<'_>, pos: usize) -> usize
 }
 
 /// Where the event ends that is written at a position for a rows event.
-pub(crate) fn rows_event_end(rows: &RowsEvent<'_>, event: &Event<'_>, pos: usize) -> usize
-    requires short { end_of pos (rows_event true (rows_seen event.now rows.now) ∷ []) ≤ 4294967295 }
-    ensures { result ≡ end_of pos (rows_event true (rows_seen event.now rows.now) ∷ []) }
+fn rows_event_end(rows: &RowsEvent<'_>, pos: usize) -> usize
+    requires short { pos + (19 + length (written_body true (rows_content rows.now))) ≤ 4294967295 }
+    ensures { result ≡ pos + (19 + length (written_body true (rows_content rows.now))) }
 {
-    let (first, second) = Order::Forward.bitmaps(rows);
-    let bitmaps = first.len() + second.len();
-    pos + HEADER_LEN + FIXED_LEN + rows.count().len() + bitmaps + rows.rows_len()
+    pos + HEADER_LEN + rows.body_len()
 }
 
 /// Where the maps of statement `s` of transaction `t` end.
@@ -62,8 +56,8 @@ fn rows_end<A: Allocator>(index: &Index<'_, '_, A>, t: usize, s: usize, pos: usi
 {
     let mut end = pos;
     for r in 0..index.rows(t, s) {
-        let (event, _, rows) = index.rows_event(t, s, r);
-        end = rows_event_end(&rows, &event, end);
+        let (_, _, rows) = index.rows_event(t, s, r);
+        end = rows_event_end(&rows, end);
     }
     end
 }

@@ -13,10 +13,10 @@ ghost use Rattle.blog_flash.specs.Printed.{sql_text, summary_text};
 ghost use Rattle.blog_flash.specs.Texts.{laid_out_after};
 
 use crate::laid_out::lay_out;
-use crate::order::Order;
 use crate::put_sql::put_sql;
 use crate::put_summary::put_summary;
 use blog_event::{Fault, Log};
+use blog_row::Order;
 use blog_trans::{Index, Selection, index};
 use std::alloc::Allocator;
 

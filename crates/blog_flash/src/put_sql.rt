@@ -21,8 +21,8 @@ fn put_changes<A: Allocator>(
     map: &TableMap<'_>,
     rows: &RowsEvent<'_>,
 ) -> Result<(), AllocError>
-    ensures ok { OnOk result (out.new.items ≡ out.old.items ++ images_lines (map_names map.now).table (layout_columns (rows_layout rows.now)) (rows_by (rows_kind rows.now) (rows_body rows.now).images)) }
-    ensures room { vec_len out.old + length (images_lines (map_names map.now).table (layout_columns (rows_layout rows.now)) (rows_by (rows_kind rows.now) (rows_body rows.now).images)) ≤ vec_capacity out.old → IsOk result }
+    ensures ok { OnOk result (out.new.items ≡ out.old.items ++ images_lines (map_names map.now).table (layout_columns (rows_layout rows.now)) (rows_by (rows_kind rows.now).action (rows_body rows.now).images)) }
+    ensures room { vec_len out.old + length (images_lines (map_names map.now).table (layout_columns (rows_layout rows.now)) (rows_by (rows_kind rows.now).action (rows_body rows.now).images)) ≤ vec_capacity out.old → IsOk result }
     ensures capacity { vec_capacity out.old ≤ vec_capacity out.new }
 {
     let layout = rows.layout();

@@ -1,5 +1,5 @@
 //! Small logs, spelled byte by byte, and the answers that the definitions give for them: each by computation.
-#![tactic(auto, unfolding(blog_event::specs::Event::event_text, blog_event::specs::Event::event_at, blog_event::specs::File::events_from, blog_event::specs::File::read, blog_event::specs::Format::version_of, blog_event::specs::Format::format_fault, blog_row::specs::Packed::packed_front, blog_row::specs::Column::metadata_len_of, blog_row::specs::Column::plain_storage, blog_row::specs::Column::value_front, blog_row::specs::Image::values_front, blog_row::specs::Image::image_front, blog_row::specs::Image::images_up_to, blog_row::specs::TableMap::name_front, blog_row::specs::TableMap::names_of, blog_row::specs::TableMap::layout_fields, blog_row::specs::TableMap::layout_of, blog_row::specs::RowsEvent::rows_of, blog_trans::specs::Kinds::query_text, blog_trans::specs::Kinds::query_kind, blog_trans::specs::Kinds::kind_of, blog_trans::specs::Acceptance::fault, blog_trans::specs::Groups::placed_groups, blog_trans::specs::Groups::groups, blog_trans::specs::Shown::shown, crate::specs::Texts::rows_event, crate::specs::Texts::laid_out, crate::specs::Texts::normal_text, crate::specs::Texts::flashback_text))]
+#![tactic(auto, unfolding(blog_event::specs::Event::event_text, blog_event::specs::Event::event_at, blog_event::specs::File::events_from, blog_event::specs::File::read, blog_event::specs::Format::version_of, blog_event::specs::Format::format_fault, blog_row::specs::Packed::packed_front, blog_row::specs::Column::metadata_len_of, blog_row::specs::Column::plain_storage, blog_row::specs::Column::value_front, blog_row::specs::Image::values_front, blog_row::specs::Image::image_front, blog_row::specs::Image::images_up_to, blog_row::specs::TableMap::name_front, blog_row::specs::TableMap::names_of, blog_row::specs::TableMap::layout_fields, blog_row::specs::TableMap::layout_of, blog_row::specs::RowsEvent::rows_of, blog_trans::specs::Kinds::query_text, blog_trans::specs::Kinds::query_kind, blog_trans::specs::Kinds::kind_of, blog_trans::specs::Acceptance::fault, blog_trans::specs::Groups::placed_groups, blog_trans::specs::Groups::groups, blog_trans::specs::Shown::shown, blog_row::specs::RowsWriting::written_body, crate::specs::Texts::rows_event, crate::specs::Texts::laid_out, crate::specs::Texts::normal_text, crate::specs::Texts::flashback_text))]
 
 ghost use Rattle.std.specs.Prelude.{◌≡◌, ℕ, ◌≤◌, ◌^◌, Some, None, List, [], ◌∷◌, ◌++◌, length, take, drop, slice_set, codes};
 ghost use Rattle.blog_event.specs.declared.fault.Fault.TheVariants.{NotABinlog, CutEvent, BadFormat, OldServer, Checksums, NoEventAt, Statement, RolledBack, OutOfPlace, Unended, NoMap, MapClash, PartialImage, UnknownType, BadBody, UnknownEvent, TooLong};
@@ -16,6 +16,7 @@ ghost use Rattle.blog_flash.specs.Printed.{sql_text, summary_text};
 ghost use Rattle.blog_flash.specs.Worked.Logs.{no_changes, one_insert, two_inserts, no_rows, two_updates, two_columns, nine_columns, backtick_in_name, two_tables, extra_bytes, map_twice, two_statements, two_transactions};
 ghost use Rattle.blog_flash.specs.Worked.Surroundings.{map_alone, savepoint_inside, newer_server, longer_format, ignorable_after, drop_after};
 ghost use Rattle.blog_flash.specs.Worked.Refused.{no_begin, announced_twice, rotate_announced, commit_announced, short_xid, rollback_inside, one_map_for_two};
+ghost use Rattle.blog_flash.specs.Worked.Versions.{insert_of_version_1, updates_of_version_1, updates_of_version_1_undone, old_log, lengths_24, lengths_25, old_server};
 ghost use Rattle.blog_flash.specs.Worked.Written.{two_updates_undone, nine_columns_undone, two_tables_undone, second_table_undone, two_statements_undone, two_transactions_undone, first_transaction_undone, second_transaction_undone, newer_server_undone};
 ghost use Rattle.blog_flash.specs.Worked.Lines.{two_updates_lines, two_updates_undone_lines, two_columns_undone_lines, nine_columns_lines, backtick_lines, two_transactions_lines, two_tables_undone_lines, no_rows_lines, no_changes_summary, two_inserts_undone_summary, two_updates_summary, two_transactions_summary, two_tables_summary, no_rows_summary};
 
@@ -120,6 +121,24 @@ pub fn worked_starts()
     ensures rest_at_stop_undone { flashback_text (one_insert ++ 7 ∷ []) (record all { stop = Some 259 }) ≡ slice_set one_insert 200 32 }
 {}
 
+/// By the definitions rows events of version 1 are undone as such, and logs of servers before 5.6.1 are accepted, whatever
+/// stands behind the 25th post-header length of their format description.
+pub fn worked_versions()
+    ensures insert_accepted { fault insert_of_version_1 all ≡ None }
+    ensures insert_undone { flashback_text insert_of_version_1 all ≡ slice_set insert_of_version_1 200 25 }
+    ensures insert_normal { normal_text insert_of_version_1 all ≡ insert_of_version_1 }
+    ensures updates_accepted { fault updates_of_version_1 all ≡ None }
+    ensures updates_undone { flashback_text updates_of_version_1 all ≡ updates_of_version_1_undone }
+    ensures updates_undone_twice { flashback_text updates_of_version_1_undone all ≡ updates_of_version_1 }
+    ensures length_unread_accepted { fault (slice_set one_insert 102 10) all ≡ None }
+    ensures old_server_accepted { fault old_server all ≡ None }
+    ensures old_server_undone { flashback_text old_server all ≡ slice_set old_server 187 25 }
+    ensures old_server_normal { normal_text old_server all ≡ old_server }
+    ensures lengths_25_accepted { fault (old_log 101 lengths_25) all ≡ None }
+    ensures version_5_6_0_accepted { fault (take 25 one_insert ++ codes "5.6.0" ++ 0 ∷ drop 31 one_insert) all ≡ None }
+    ensures version_5_5_62_undone { flashback_text (take 25 one_insert ++ codes "5.5.62" ++ drop 31 one_insert) all ≡ slice_set (take 25 one_insert ++ codes "5.5.62" ++ drop 31 one_insert) 200 32 }
+{}
+
 /// By the definitions the groups of these small logs have the events at these positions, and their rows events go by the
 /// maps at these. Of two maps of one table id in a statement it is the first.
 pub fn worked_groups()
@@ -156,7 +175,7 @@ pub fn worked_faults()
     ensures not_a_binlog { fault (take 3 no_changes) all ≡ Some (NotABinlog 0) }
     ensures cut_event { fault (take 258 one_insert) all ≡ Some (CutEvent 232) }
     ensures bad_format { fault (slice_set one_insert 98 6) all ≡ Some (BadFormat 4) }
-    ensures old_server { fault (take 25 one_insert ++ codes "5.6.0" ++ 0 ∷ drop 31 one_insert) all ≡ Some (OldServer 4) }
+    ensures old_server { fault (take 25 one_insert ++ codes "abc" ++ 0 ∷ 0 ∷ 0 ∷ drop 31 one_insert) all ≡ Some (OldServer 4) }
     ensures checksums { fault (slice_set one_insert 115 1) all ≡ Some (Checksums 4) }
     ensures no_event_at { fault one_insert (record all { start = 160 }) ≡ Some (NoEventAt 160) }
     ensures statement { fault drop_after all ≡ Some (Statement 259) }
@@ -193,8 +212,8 @@ pub fn worked_first_faults()
 pub fn worked_file_faults()
     ensures no_bytes { fault [] all ≡ Some (NotABinlog 0) }
     ensures magic_alone { fault (take 4 no_changes) all ≡ Some (CutEvent 4) }
-    ensures version_5_5_62 { fault (take 25 one_insert ++ codes "5.5.62" ++ drop 31 one_insert) all ≡ Some (OldServer 4) }
-    ensures version_abc { fault (take 25 one_insert ++ codes "abc" ++ 0 ∷ 0 ∷ 0 ∷ drop 31 one_insert) all ≡ Some (OldServer 4) }
+    ensures lengths_24 { fault (old_log 100 lengths_24) all ≡ Some (BadFormat 4) }
+    ensures two_numbers { fault (take 25 one_insert ++ codes "5.6" ++ 0 ∷ 0 ∷ 0 ∷ drop 31 one_insert) all ≡ Some (OldServer 4) }
     ensures from_map { fault one_insert (record all { start = 159 }) ≡ Some (OutOfPlace 159) }
     ensures from_second_map { fault two_transactions (record all { start = 203 }) ≡ Some (OutOfPlace 203) }
     ensures from_past_end { fault one_insert (record all { start = 300 }) ≡ Some (NoEventAt 300) }
@@ -209,6 +228,8 @@ pub fn worked_event_faults()
     ensures no_map_since_begin { fault (map_alone ++ take 39 (drop 120 one_insert) ++ drop 196 one_insert) all ≡ Some (NoMap 275) }
     ensures no_second_map { fault one_map_for_two all ≡ Some (NoMap 232) }
     ensures xid_length { fault short_xid all ≡ Some (BadBody 232) }
+    ensures type_22 { fault (slice_set one_insert 200 22) all ≡ Some (UnknownEvent 196) }
+    ensures columns_of_version_2 { fault (slice_set one_insert 200 23) all ≡ Some (BadBody 196) }
     ensures not_ignorable { fault (slice_set ignorable_after 276 0) all ≡ Some (UnknownEvent 259) }
     ensures query_layout { fault (slice_set one_insert 147 200) all ≡ Some (BadBody 120) }
     ensures variable_of_a_statement { fault (one_insert ++ slice_set (drop 232 one_insert) 4 5) all ≡ Some (Statement 259) }

@@ -1,5 +1,5 @@
 -- The body of a rows event: what is read is what stands there.
-use Rattle.std.proofs.Common.{◌≡◌, ◌≤◌, ◌<◌, ◌+◌, ◌-◌, ◌%◌, ℕ, zero, suc, true, eqb, leb, List, [], ◌∷◌, ◌++◌, length, Ok, refl, sym, ap, ◌∙◌, subst, arith}
+use Rattle.std.proofs.Common.{◌≡◌, ◌≤◌, ◌<◌, ◌+◌, ◌-◌, ◌%◌, ℕ, zero, suc, Bool, true, false, eqb, leb, List, [], ◌∷◌, ◌++◌, length, Option, Some, None, option_and_then, option_map, Ok, refl, sym, ap, ◌∙◌, subst, arith}
 use Rattle.std.specs.List.{list_all, concat, AllByRecursion}
 use Rattle.std.specs.Bool.{Decides}
 use Rattle.std.proofs.lemmas.Bool.{eqb-true, eq-eqb, leb-true, le-leb, and_parts, and_from}
@@ -7,16 +7,19 @@ use Rattle.std.proofs.lemmas.Bool.Decides.{Decides-below_and}
 use Rattle.std.proofs.lemmas.List.{append_assoc}
 use Rattle.byteorder.specs.Endian.{little_number}
 use Rattle.blog_row.specs.declared.kind.RowsKind.{RowsKind}
+use Rattle.blog_row.specs.declared.kind.RowsVersion.{RowsVersion}
+use Rattle.blog_row.specs.declared.kind.RowsVersion.TheVariants.{One, Two}
 use Rattle.blog_row.specs.declared.fault.RowFault.TheVariants.{BadBody, PartialImage}
 use Rattle.blog_row.specs.RowsKind.{images_a_row}
 use Rattle.blog_row.specs.Checks.{cut}
 use Rattle.blog_row.specs.Packed.{IsPacked, packed_front}
 use Rattle.blog_row.specs.Column.{Layout}
 use Rattle.blog_row.specs.Image.{bitmap_len, is_marked, images_of}
-use Rattle.blog_row.specs.RowsEvent.{RowsBody, IsFullBitmap, IsRowsBody, are_marked, pieces, rows_of}
+use Rattle.blog_row.specs.RowsEvent.{RowsBody, HasExtra, IsFullBitmap, IsRowsBody, are_marked, counted_extra, extra_of, pieces, rows_of}
 use Rattle.blog_row.specs.Laws.{ReadsImages}
 use Rattle.blog_row.proofs.Results.{step_found, step_again, reading_found, reading_again, check_found, check_again, same_ok}
-use Rattle.blog_row.proofs.Cutting.{cut_found, cut_again}
+use Rattle.std.proofs.lemmas.Option.{same_Some}
+use Rattle.blog_row.proofs.Cutting.{cut_found, cut_again, map_found}
 use Rattle.blog_row.proofs.PackedLemmas.{packed_found, packed_again}
 
 -- ---- bitmaps
@@ -76,6 +79,42 @@ pieces_again (suc k) n (first ∷ found) rest enough each =
     (step_again (cut n (first ++ (concat found ++ rest))) _ (first, concat found ++ rest) (first ∷ found, rest) (cut_again n first (concat found ++ rest) each.0)
     (reading_again (pieces k n (concat found ++ rest)) _ (found, rest) (first ∷ found, rest) others refl))
 
+-- ---- the extra bytes
+
+-- what is read at the front is there
+extra_found : (version : RowsVersion) (bytes : List ℕ) (e : List ℕ × List ℕ × List ℕ) → extra_of version bytes ≡ Some e → HasExtra version e.0 e.1 × (bytes ≡ e.0 ++ (e.1 ++ e.2))
+extra_found One bytes e is =
+    let same : ([], [], bytes) ≡ e = same_Some ([], [], bytes) e is in
+    subst (λ (f : List ℕ × List ℕ × List ℕ). HasExtra One f.0 f.1 × (bytes ≡ f.0 ++ (f.1 ++ f.2))) same ((refl, refl), refl)
+extra_found Two bytes e is = by_len (cut 2 bytes) refl is
+  where
+    by_test : (len : List ℕ × List ℕ) → cut 2 bytes ≡ Some len → (b : Bool) → leb 2 (little_number 2 len.0) ≡ b → counted_extra len ≡ Some e → HasExtra Two e.0 e.1 × (bytes ≡ e.0 ++ (e.1 ++ e.2))
+    by_test len len_is false few is = absurd (let none : counted_extra len ≡ None = rw few refl in cc)
+    by_test len len_is true enough is =
+        let own : option_map (λ extra. (len.0, extra.0, extra.1)) (cut (little_number 2 len.0 - 2) len.1) ≡ Some e = sym (rw enough refl) ∙ is in
+        let r : (r : List ℕ × List ℕ) × (cut (little_number 2 len.0 - 2) len.1 ≡ Some r) × ((len.0, r.0, r.1) ≡ e) = map_found (λ (extra : List ℕ × List ℕ). (len.0, extra.0, extra.1)) (cut (little_number 2 len.0 - 2) len.1) e own in
+        let from_len = cut_found 2 bytes len.0 len.1 len_is in
+        let from_extra = cut_found (little_number 2 len.0 - 2) len.1 r.0.0 r.0.1 r.1 in
+        let least : 2 ≤ little_number 2 len.0 = leb-true 2 (little_number 2 len.0) enough in
+        let counted : little_number 2 len.0 ≡ length r.0.0 + 2 = omega (arith, from_extra.0) in
+        subst (λ (f : List ℕ × List ℕ × List ℕ). HasExtra Two f.0 f.1 × (bytes ≡ f.0 ++ (f.1 ++ f.2))) r.2
+        ((from_len.0, counted), from_len.1 ∙ ap (λ (x : List ℕ). len.0 ++ x) from_extra.1)
+
+    by_len : (o : Option (List ℕ × List ℕ)) → cut 2 bytes ≡ o → option_and_then counted_extra o ≡ Some e → HasExtra Two e.0 e.1 × (bytes ≡ e.0 ++ (e.1 ++ e.2))
+    by_len None len_is is = absurd (cc)
+    by_len (Some len) len_is is = by_test len len_is (leb 2 (little_number 2 len.0)) refl is
+
+-- what is there is read
+extra_again : (version : RowsVersion) (len extra rest : List ℕ) → HasExtra version len extra → extra_of version (len ++ (extra ++ rest)) ≡ Some (len, extra, rest)
+extra_again One len extra rest h = rw (h.0, h.1) refl
+extra_again Two len extra rest h =
+    let enough : 2 ≤ little_number 2 len = omega (arith, h.1) in
+    let long : length extra ≡ little_number 2 len - 2 = omega (arith, h.1) in
+    let test : leb 2 (little_number 2 len) ≡ true = le-leb 2 (little_number 2 len) enough in
+    let front : cut 2 (len ++ (extra ++ rest)) ≡ Some (len, extra ++ rest) = cut_again 2 len (extra ++ rest) h.0 in
+    let behind : cut (little_number 2 len - 2) (extra ++ rest) ≡ Some (extra, rest) = cut_again (little_number 2 len - 2) extra rest long in
+    ap (option_and_then counted_extra) front ∙ rw (test, behind) refl
+
 -- ---- rows bodies
 
 -- fields that are read are those of the body
@@ -84,41 +123,32 @@ unfolding rows_of
 rows_found kind layout body fields reads_images e =
     step_found (cut 6 body) _ fields e (λ id id_is e1.
     step_found (cut 2 id.1) _ fields e1 (λ flags flags_is e2.
-    step_found (cut 2 flags.1) _ fields e2 (λ extra_len extra_len_is e3.
-    check_found (leb 2 (little_number 2 extra_len.0)) BadBody _ fields e3 (λ least e4.
-    step_found (cut (little_number 2 extra_len.0 - 2) extra_len.1) _ fields e4 (λ extra extra_is e5.
-    step_found (packed_front extra.1) _ fields e5 (λ counted counted_is e6.
+    step_found (extra_of kind.version flags.1) _ fields e2 (λ extra extra_is e5.
+    step_found (packed_front extra.2) _ fields e5 (λ counted counted_is e6.
     check_found (eqb counted.0 (length layout)) BadBody _ fields e6 (λ own e7.
-    reading_found (pieces (images_a_row kind) (bitmap_len (length layout)) counted.2) _ fields e7 (λ bitmaps bitmaps_is e8.
+    reading_found (pieces (images_a_row kind.action) (bitmap_len (length layout)) counted.2) _ fields e7 (λ bitmaps bitmaps_is e8.
     check_found (list_all (are_marked (length layout)) bitmaps.0) PartialImage _ fields e8 (λ marked e9.
     step_found (images_of layout bitmaps.1) _ fields e9 (λ images images_is e10.
-    check_found (eqb (length images % images_a_row kind) 0) BadBody _ fields e10 (λ whole e11.
+    check_found (eqb (length images % images_a_row kind.action) 0) BadBody _ fields e10 (λ whole e11.
     let from_id = cut_found 6 body id.0 id.1 id_is in
     let from_flags = cut_found 2 id.1 flags.0 flags.1 flags_is in
-    let from_extra_len = cut_found 2 flags.1 extra_len.0 extra_len.1 extra_len_is in
-    let from_extra = cut_found (little_number 2 extra_len.0 - 2) extra_len.1 extra.0 extra.1 extra_is in
-    let from_count = packed_found extra.1 counted.0 counted.1 counted.2 counted_is in
-    let from_bitmaps = pieces_found (images_a_row kind) (bitmap_len (length layout)) counted.2 bitmaps bitmaps_is in
+    let from_extra = extra_found kind.version flags.1 extra extra_is in
+    let from_count = packed_found extra.2 counted.0 counted.1 counted.2 counted_is in
+    let from_bitmaps = pieces_found (images_a_row kind.action) (bitmap_len (length layout)) counted.2 bitmaps bitmaps_is in
     let from_images = (reads_images bitmaps.1 images).0 images_is in
-    let enough : 2 ≤ little_number 2 extra_len.0 = leb-true 2 (little_number 2 extra_len.0) least in
-    let extra_is_long : length extra.0 ≡ little_number 2 extra_len.0 - 2 = from_extra.0 in
-    let found : RowsBody = record { id = id.0; flags = flags.0; extra_len = extra_len.0; extra = extra.0; count = counted.1; bitmaps = bitmaps.0; images = images } in
+    let found : RowsBody = record { id = id.0; flags = flags.0; extra_len = extra.0; extra = extra.1; count = counted.1; bitmaps = bitmaps.0; images = images } in
     subst (λ (f : RowsBody). IsRowsBody kind layout body f) (same_ok found fields e11) (record {
       id_len = from_id.0;
       flags_len = from_flags.0;
-      extra_len_len = from_extra_len.0;
-      extra_counted = counts (little_number 2 extra_len.0) (length extra.0) enough extra_is_long;
+      extra_counted = from_extra.0;
       counted = subst (IsPacked counted.1) (eqb-true counted.0 (length layout) own) from_count.0;
       bitmaps_enough = from_bitmaps.enough;
       bitmaps_full = full_found (length layout) bitmaps.0 from_bitmaps.each marked;
       images_each = from_images.0;
-      rows_whole = eqb-true (length images % images_a_row kind) 0 whole;
-      text = from_id.1 ∙ ap (λ (x : List ℕ). id.0 ++ x) (from_flags.1 ∙ ap (λ (x : List ℕ). flags.0 ++ x) (from_extra_len.1 ∙ ap (λ (x : List ℕ). extra_len.0 ++ x)
-          (from_extra.1 ∙ ap (λ (x : List ℕ). extra.0 ++ x) (from_count.1 ∙ ap (λ (x : List ℕ). counted.1 ++ x) (from_bitmaps.text ∙ ap (λ (x : List ℕ). concat bitmaps.0 ++ x) from_images.1)))));
-    }))))))))))))
-  where
-    counts : (n m : ℕ) → 2 ≤ n → m ≡ n - 2 → n ≡ m + 2
-    counts n m low e = omega arith
+      rows_whole = eqb-true (length images % images_a_row kind.action) 0 whole;
+      text = from_id.1 ∙ ap (λ (x : List ℕ). id.0 ++ x) (from_flags.1 ∙ ap (λ (x : List ℕ). flags.0 ++ x) (from_extra.1 ∙ ap (λ (x : List ℕ). extra.0 ++ (extra.1 ++ x))
+          (from_count.1 ∙ ap (λ (x : List ℕ). counted.1 ++ x) (from_bitmaps.text ∙ ap (λ (x : List ℕ). concat bitmaps.0 ++ x) from_images.1))));
+    }))))))))))
 
 -- the fields of a body are read
 pub rows_again : (kind : RowsKind) (layout : Layout) (body : List ℕ) (fields : RowsBody) → ((bytes : List ℕ) (images : List (List ℕ)) → ReadsImages layout bytes images) → IsRowsBody kind layout body fields → rows_of kind layout body ≡ Ok fields
@@ -132,20 +162,15 @@ rows_again kind layout body fields reads_images h =
     let bytes_6 = concat fields.images in
     let bytes_5 = concat fields.bitmaps ++ bytes_6 in
     let bytes_4 = fields.count ++ bytes_5 in
-    let bytes_3 = extra ++ bytes_4 in
-    let bytes_2 = extra_len ++ bytes_3 in
+    let bytes_2 = extra_len ++ (extra ++ bytes_4) in
     let bytes_1 = flags ++ bytes_2 in
-    let enough : 2 ≤ little_number 2 extra_len = omega (arith, h.extra_counted) in
-    let extra_is_long : length extra ≡ little_number 2 extra_len - 2 = omega (arith, h.extra_counted) in
     rw h.text
     (step_again (cut 6 (id ++ bytes_1)) _ (id, bytes_1) fields (cut_again 6 id bytes_1 h.id_len)
     (step_again (cut 2 bytes_1) _ (flags, bytes_2) fields (cut_again 2 flags bytes_2 h.flags_len)
-    (step_again (cut 2 bytes_2) _ (extra_len, bytes_3) fields (cut_again 2 extra_len bytes_3 h.extra_len_len)
-    (check_again _ BadBody _ fields (le-leb 2 (little_number 2 extra_len) enough)
-    (step_again (cut (little_number 2 extra_len - 2) bytes_3) _ (extra, bytes_4) fields (cut_again (little_number 2 extra_len - 2) extra bytes_4 extra_is_long)
+    (step_again (extra_of kind.version bytes_2) _ (extra_len, extra, bytes_4) fields (extra_again kind.version extra_len extra bytes_4 h.extra_counted)
     (step_again (packed_front bytes_4) _ (n, fields.count, bytes_5) fields (packed_again n fields.count bytes_5 h.counted)
     (check_again _ BadBody _ fields (eq-eqb n n refl)
-    (reading_again (pieces (images_a_row kind) (bitmap_len n) bytes_5) _ (fields.bitmaps, bytes_6) fields (pieces_again (images_a_row kind) (bitmap_len n) fields.bitmaps bytes_6 h.bitmaps_enough (full_long n fields.bitmaps h.bitmaps_full))
+    (reading_again (pieces (images_a_row kind.action) (bitmap_len n) bytes_5) _ (fields.bitmaps, bytes_6) fields (pieces_again (images_a_row kind.action) (bitmap_len n) fields.bitmaps bytes_6 h.bitmaps_enough (full_long n fields.bitmaps h.bitmaps_full))
     (check_again _ PartialImage _ fields (full_again n fields.bitmaps h.bitmaps_full)
     (step_again (images_of layout bytes_6) _ fields.images fields ((reads_images bytes_6 fields.images).1 (h.images_each, refl))
-    (check_again _ BadBody _ fields (eq-eqb (length fields.images % images_a_row kind) 0 h.rows_whole) refl)))))))))))
+    (check_again _ BadBody _ fields (eq-eqb (length fields.images % images_a_row kind.action) 0 h.rows_whole) refl)))))))))

@@ -13,7 +13,9 @@ pub mod ValueWalking
 pub mod LayoutCode
 pub mod TableMapCode
 pub mod RowsCode
+pub mod Overwriting
 pub mod Reversing
 pub mod ReversedRows
 pub mod KnownRows
 pub mod RowsWalking
+pub mod WrittenBody

@@ -4,7 +4,11 @@ use Rattle.std.specs.Result.{IfOk}
 use Rattle.std.specs.List.{list_all, concat}
 use Rattle.std.proofs.lemmas.Bool.{and_from}
 use Rattle.byteorder.specs.Endian.{little_number}
+use Rattle.blog_row.specs.declared.kind.RowsAction.{RowsAction}
+use Rattle.blog_row.specs.declared.kind.RowsAction.TheVariants.{Write, Update, Delete}
 use Rattle.blog_row.specs.declared.kind.RowsKind.{RowsKind}
+use Rattle.blog_row.specs.declared.kind.RowsVersion.{RowsVersion}
+use Rattle.blog_row.specs.declared.kind.RowsVersion.TheVariants.{One, Two}
 use Rattle.blog_row.specs.declared.fault.RowFault.{RowFault}
 use Rattle.blog_row.specs.declared.fault.RowFault.TheVariants.{BadBody, PartialImage}
 use Rattle.blog_row.specs.declared.rows_event.RowsEvent as told
@@ -15,8 +19,9 @@ use Rattle.blog_row.specs.Checks.{◌>>=◌, check, or_bad, cut}
 use Rattle.blog_row.specs.Packed.{packed_front}
 use Rattle.blog_row.specs.Column.{Layout}
 use Rattle.blog_row.specs.Image.{Row, bitmap_len, is_marked, IsImage, image_front, image_len_of, images_up_to, images_of}
-use Rattle.blog_row.specs.RowsEvent.{RowsBody, IsRowsBody, are_marked, pieces, rows_of}
-use Rattle.blog_row.specs.RowsEventView.{FrontParts, extra_front, rows_front, rows_body, counted_seen}
+use Rattle.blog_row.specs.RowsEvent.{RowsBody, HasExtra, IsRowsBody, are_marked, bitmaps_by, two_bitmaps, counted_extra, extra_of, pieces, rows_of}
+use Rattle.blog_row.specs.RowsWriting.{no_extra}
+use Rattle.blog_row.specs.RowsEventView.{FrontParts, front_of, rows_front, rows_body, counted_seen}
 use Rattle.blog_row.proofs.Cutting.{none_is_not, map_found}
 use Rattle.blog_row.proofs.NamesCode.{then_of, nothing_then}
 use Rattle.blog_row.proofs.Images.{image_found, image_positive, images_found, images_again}
@@ -25,29 +30,26 @@ use Rattle.blog_row.proofs.Bodies.{marks, rows_found, rows_again}
 
 -- ---- the fields up to the extra bytes
 
-pub no_id : (body : List ℕ) → cut 6 body ≡ None → rows_front body ≡ None
+pub no_id : (version : RowsVersion) (body : List ℕ) → cut 6 body ≡ None → rows_front version body ≡ None
 unfolding rows_front
-no_id body e = rw e
+no_id version body e = rw e
 
-pub no_flags : (body : List ℕ) (id : List ℕ × List ℕ) → cut 6 body ≡ Some id → cut 2 id.1 ≡ None → rows_front body ≡ None
+pub no_flags : (version : RowsVersion) (body : List ℕ) (id : List ℕ × List ℕ) → cut 6 body ≡ Some id → cut 2 id.1 ≡ None → rows_front version body ≡ None
 unfolding rows_front
-no_flags body id e f = rw (e, f)
+no_flags version body id e f = rw (e, f)
 
-pub no_extra_len : (body : List ℕ) (id flags : List ℕ × List ℕ) → cut 6 body ≡ Some id → cut 2 id.1 ≡ Some flags → cut 2 flags.1 ≡ None → rows_front body ≡ None
+pub by_extra : (version : RowsVersion) (body : List ℕ) (id flags : List ℕ × List ℕ) (o : Option (List ℕ × List ℕ × List ℕ)) → cut 6 body ≡ Some id → cut 2 id.1 ≡ Some flags → extra_of version flags.1 ≡ o
+    → rows_front version body ≡ option_map (front_of id.0 flags.0) o
 unfolding rows_front
-no_extra_len body id flags e f g = rw (e, f, g)
+by_extra version body id flags o e f g = rw (e, f, g) refl
 
-pub by_extra : (body : List ℕ) (id flags extra_len : List ℕ × List ℕ) → cut 6 body ≡ Some id → cut 2 id.1 ≡ Some flags → cut 2 flags.1 ≡ Some extra_len → rows_front body ≡ extra_front id flags extra_len
-unfolding rows_front
-by_extra body id flags extra_len e f g = rw (e, f, g)
+pub few_extra : (len : List ℕ × List ℕ) → leb 2 (little_number 2 len.0) ≡ false → counted_extra len ≡ None
+few_extra len e = rw e
 
-pub few_extra : (id flags extra_len : List ℕ × List ℕ) → leb 2 (little_number 2 extra_len.0) ≡ false → extra_front id flags extra_len ≡ None
-few_extra id flags extra_len e = rw e
-
-pub some_extra : (id flags extra_len : List ℕ × List ℕ) (n : ℕ) (o : Option (List ℕ × List ℕ)) → n ≡ little_number 2 extra_len.0 → leb 2 (little_number 2 extra_len.0) ≡ true → cut (n - 2) extra_len.1 ≡ o
-    → extra_front id flags extra_len ≡ option_map (λ extra. (id.0, flags.0, extra_len.0, extra.0, extra.1)) o
-some_extra id flags extra_len n o same e f =
-    let own : cut (little_number 2 extra_len.0 - 2) extra_len.1 ≡ o = ap (λ k. cut (k - 2) extra_len.1) (sym same) ∙ f in
+pub some_extra : (len : List ℕ × List ℕ) (n : ℕ) (o : Option (List ℕ × List ℕ)) → n ≡ little_number 2 len.0 → leb 2 (little_number 2 len.0) ≡ true → cut (n - 2) len.1 ≡ o
+    → counted_extra len ≡ option_map (λ extra. (len.0, extra.0, extra.1)) o
+some_extra len n o same e f =
+    let own : cut (little_number 2 len.0 - 2) len.1 ≡ o = ap (λ k. cut (k - 2) len.1) (sym same) ∙ f in
     rw (e, own)
 
 -- ---- bitmaps
@@ -168,10 +170,6 @@ by_next : {A B D : Type 0} (o : Option A) (f : A → Result B RowFault) (part : 
 by_next None f part g same = refl
 by_next (Some x) f part g same = same x
 
-by_test : {B D : Type 0} (b : Bool) (r : Result B RowFault) (part : Option D) (g : D → Result B RowFault) → r ≡ (or_bad part >>= g) → check b BadBody r ≡ (or_bad (cond b part None) >>= g)
-by_test false r part g same = refl
-by_test true r part g same = same
-
 by_last : {A B D : Type 0} (o : Option A) (f : A → Result B RowFault) (h : A → D) (g : D → Result B RowFault) → ((x : A) → f x ≡ g (h x)) → (or_bad o >>= f) ≡ (or_bad (option_map h o) >>= g)
 by_last None f h g same = refl
 by_last (Some x) f h g same = same x
@@ -180,55 +178,53 @@ by_last (Some x) f h g same = same x
 abbrev pub after_bitmaps : RowsKind → Layout → FrontParts → List ℕ → List (List ℕ) × List ℕ → Result RowsBody RowFault
 after_bitmaps kind layout front count b =
     check (list_all (are_marked (length layout)) b.0) PartialImage
-    (or_bad (images_of layout b.1) >>= (λ images. check (eqb (length images % images_a_row kind) 0) BadBody
+    (or_bad (images_of layout b.1) >>= (λ images. check (eqb (length images % images_a_row kind.action) 0) BadBody
     (Ok (record { id = front.0; flags = front.1; extra_len = front.2; extra = front.3; count = count; bitmaps = b.0; images = images }))))
 
 -- what follows the extra bytes
 abbrev pub after_front : RowsKind → Layout → FrontParts → Result RowsBody RowFault
 after_front kind layout front =
     or_bad (packed_front front.4) >>= (λ n. check (eqb n.0 (length layout)) BadBody
-    (pieces (images_a_row kind) (bitmap_len (length layout)) n.2 >>= after_bitmaps kind layout front n.1))
+    (pieces (images_a_row kind.action) (bitmap_len (length layout)) n.2 >>= after_bitmaps kind layout front n.1))
 
-pub body_parts : (kind : RowsKind) (layout : Layout) (body : List ℕ) → rows_of kind layout body ≡ (or_bad (rows_front body) >>= after_front kind layout)
+pub body_parts : (kind : RowsKind) (layout : Layout) (body : List ℕ) → rows_of kind layout body ≡ (or_bad (rows_front kind.version body) >>= after_front kind layout)
 unfolding rows_of rows_front
 body_parts kind layout body =
     by_next (cut 6 body) _ _ (after_front kind layout) (λ id.
     by_next (cut 2 id.1) _ _ (after_front kind layout) (λ flags.
-    by_next (cut 2 flags.1) _ _ (after_front kind layout) (λ extra_len.
-    by_test (leb 2 (little_number 2 extra_len.0)) _ _ (after_front kind layout)
-    (by_last (cut (little_number 2 extra_len.0 - 2) extra_len.1) _ _ (after_front kind layout) (λ extra. refl)))))
+    by_last (extra_of kind.version flags.1) _ _ (after_front kind layout) (λ extra. refl)))
 
 -- ---- what each stop of the code gives
 
-pub no_front : (kind : RowsKind) (layout : Layout) (body : List ℕ) → rows_front body ≡ None → rows_of kind layout body ≡ Err BadBody
+pub no_front : (kind : RowsKind) (layout : Layout) (body : List ℕ) → rows_front kind.version body ≡ None → rows_of kind layout body ≡ Err BadBody
 no_front kind layout body e = body_parts kind layout body ∙ rw e
 
 -- the front is there
-pub front_there : (kind : RowsKind) (layout : Layout) (body : List ℕ) (front : FrontParts) → rows_front body ≡ Some front → rows_of kind layout body ≡ after_front kind layout front
+pub front_there : (kind : RowsKind) (layout : Layout) (body : List ℕ) (front : FrontParts) → rows_front kind.version body ≡ Some front → rows_of kind layout body ≡ after_front kind layout front
 front_there kind layout body front e = body_parts kind layout body ∙ ap (λ (o : Option FrontParts). or_bad o >>= after_front kind layout) e
 
-pub no_count : (kind : RowsKind) (layout : Layout) (body : List ℕ) (front : FrontParts) → rows_front body ≡ Some front → packed_front front.4 ≡ None → rows_of kind layout body ≡ Err BadBody
+pub no_count : (kind : RowsKind) (layout : Layout) (body : List ℕ) (front : FrontParts) → rows_front kind.version body ≡ Some front → packed_front front.4 ≡ None → rows_of kind layout body ≡ Err BadBody
 no_count kind layout body front e f = front_there kind layout body front e ∙ rw f
 
-pub other_count : (kind : RowsKind) (layout : Layout) (body : List ℕ) (front : FrontParts) (n : ℕ × List ℕ × List ℕ) → rows_front body ≡ Some front → packed_front front.4 ≡ Some n → eqb n.0 (length layout) ≡ false → rows_of kind layout body ≡ Err BadBody
+pub other_count : (kind : RowsKind) (layout : Layout) (body : List ℕ) (front : FrontParts) (n : ℕ × List ℕ × List ℕ) → rows_front kind.version body ≡ Some front → packed_front front.4 ≡ Some n → eqb n.0 (length layout) ≡ false → rows_of kind layout body ≡ Err BadBody
 other_count kind layout body front n e f g = front_there kind layout body front e ∙ rw (f, g)
 
 -- the count is there
 pub record Counted (kind : RowsKind) (layout : Layout) (body : List ℕ) (front : FrontParts) (n : ℕ × List ℕ × List ℕ) : Type 0 where
-  pub front_is : rows_front body ≡ Some front
+  pub front_is : rows_front kind.version body ≡ Some front
   pub count_is : packed_front front.4 ≡ Some n
   pub own : eqb n.0 (length layout) ≡ true
 
 pub count_there : (kind : RowsKind) (layout : Layout) (body : List ℕ) (front : FrontParts) (n : ℕ × List ℕ × List ℕ) → Counted kind layout body front n
-    → rows_of kind layout body ≡ (pieces (images_a_row kind) (bitmap_len (length layout)) n.2 >>= after_bitmaps kind layout front n.1)
+    → rows_of kind layout body ≡ (pieces (images_a_row kind.action) (bitmap_len (length layout)) n.2 >>= after_bitmaps kind layout front n.1)
 count_there kind layout body front n c = front_there kind layout body front c.front_is ∙ rw (c.count_is, c.own) refl
 
 pub no_bitmaps : (kind : RowsKind) (layout : Layout) (body : List ℕ) (front : FrontParts) (n : ℕ × List ℕ × List ℕ) → Counted kind layout body front n
-    → pieces (images_a_row kind) (bitmap_len (length layout)) n.2 ≡ Err BadBody → rows_of kind layout body ≡ Err BadBody
+    → pieces (images_a_row kind.action) (bitmap_len (length layout)) n.2 ≡ Err BadBody → rows_of kind layout body ≡ Err BadBody
 no_bitmaps kind layout body front n c e = count_there kind layout body front n c ∙ ap (λ (r : Result (List (List ℕ) × List ℕ) RowFault). r >>= after_bitmaps kind layout front n.1) e
 
 pub bitmaps_there : (kind : RowsKind) (layout : Layout) (body : List ℕ) (front : FrontParts) (n : ℕ × List ℕ × List ℕ) (b : List (List ℕ) × List ℕ) → Counted kind layout body front n
-    → pieces (images_a_row kind) (bitmap_len (length layout)) n.2 ≡ Ok b → rows_of kind layout body ≡ after_bitmaps kind layout front n.1 b
+    → pieces (images_a_row kind.action) (bitmap_len (length layout)) n.2 ≡ Ok b → rows_of kind layout body ≡ after_bitmaps kind layout front n.1 b
 bitmaps_there kind layout body front n b c e = count_there kind layout body front n c ∙ ap (λ (r : Result (List (List ℕ) × List ℕ) RowFault). r >>= after_bitmaps kind layout front n.1) e
 
 pub partial : (kind : RowsKind) (layout : Layout) (front : FrontParts) (count : List ℕ) (b : List (List ℕ) × List ℕ) → list_all (are_marked (length layout)) b.0 ≡ false → after_bitmaps kind layout front count b ≡ Err PartialImage
@@ -243,18 +239,18 @@ not_images kind layout front count b e f = by_case (images_of layout b.1) refl
     by_case (Some images) h = none_is_not (length images) (sym f ∙ ap (option_map length) h)
 
 pub odd_images : (kind : RowsKind) (layout : Layout) (front : FrontParts) (count : List ℕ) (b : List (List ℕ) × List ℕ) (len : ℕ) → list_all (are_marked (length layout)) b.0 ≡ true → option_map length (images_of layout b.1) ≡ Some len
-    → eqb (len % images_a_row kind) 0 ≡ false → after_bitmaps kind layout front count b ≡ Err BadBody
+    → eqb (len % images_a_row kind.action) 0 ≡ false → after_bitmaps kind layout front count b ≡ Err BadBody
 odd_images kind layout front count b len e f g =
     let i : (images : List (List ℕ)) × (images_of layout b.1 ≡ Some images) × (length images ≡ len) = map_found length (images_of layout b.1) len f in
-    let own : eqb (length i.0 % images_a_row kind) 0 ≡ false = ap (λ (k : ℕ). eqb (k % images_a_row kind) 0) i.2 ∙ g in
+    let own : eqb (length i.0 % images_a_row kind.action) 0 ≡ false = ap (λ (k : ℕ). eqb (k % images_a_row kind.action) 0) i.2 ∙ g in
     rw (e, i.1, own)
 
 pub all_there : (kind : RowsKind) (layout : Layout) (front : FrontParts) (count : List ℕ) (b : List (List ℕ) × List ℕ) (len : ℕ) → list_all (are_marked (length layout)) b.0 ≡ true → option_map length (images_of layout b.1) ≡ Some len
-    → eqb (len % images_a_row kind) 0 ≡ true
+    → eqb (len % images_a_row kind.action) 0 ≡ true
     → after_bitmaps kind layout front count b ≡ Ok (record { id = front.0; flags = front.1; extra_len = front.2; extra = front.3; count = count; bitmaps = b.0; images = unwrap_or (images_of layout b.1) [] })
 all_there kind layout front count b len e f g =
     let i : (images : List (List ℕ)) × (images_of layout b.1 ≡ Some images) × (length images ≡ len) = map_found length (images_of layout b.1) len f in
-    let own : eqb (length i.0 % images_a_row kind) 0 ≡ true = ap (λ (k : ℕ). eqb (k % images_a_row kind) 0) i.2 ∙ g in
+    let own : eqb (length i.0 % images_a_row kind.action) 0 ≡ true = ap (λ (k : ℕ). eqb (k % images_a_row kind.action) 0) i.2 ∙ g in
     rw (e, i.1, own)
 
 -- ---- what the reading says
@@ -270,11 +266,55 @@ event_only kind layout body r some e fields is = e ∙ rows_again kind layout bo
 pub some_columns : (layout : columns.Layout) → 0 < length (layout_columns layout)
 some_columns layout = omega (arith, layout.some, length_of_columns layout.kinds.now layout.metadata.now)
 
--- how long the id and the flags are
-pub front_lengths : (kind : RowsKind) (layout : Layout) (body : List ℕ) (fields : RowsBody) → 0 < length layout → rows_of kind layout body ≡ Ok fields → (length fields.id ≡ 6) × (length fields.flags ≡ 2)
+-- the extra length is at least as long as one that is written
+pub extra-long : (version : RowsVersion) (len extra : List ℕ) → HasExtra version len extra → length (no_extra version) ≤ length len
+extra-long One len extra h = omega arith
+extra-long Two len extra h = omega (arith, h.0)
+
+-- how long the fields are
+pub record FieldLengths (kind : RowsKind) (body : List ℕ) (fields : RowsBody) : Type 0 where
+  pub id_len : length fields.id ≡ 6
+  pub flags_len : length fields.flags ≡ 2
+  pub extra_long : length (no_extra kind.version) ≤ length fields.extra_len
+  pub within : 8 + length fields.extra_len + length fields.count + length (concat fields.bitmaps) + length (concat fields.images) ≤ length body
+
+pub front_lengths : (kind : RowsKind) (layout : Layout) (body : List ℕ) (fields : RowsBody) → 0 < length layout → rows_of kind layout body ≡ Ok fields → FieldLengths kind body fields
 front_lengths kind layout body fields some e =
     let h = rows_found kind layout body fields (λ bytes images. (images_found layout bytes images, λ h. images_again layout bytes images some h.0 h.1)) e in
-    (h.id_len, h.flags_len)
+    let pictures = concat fields.images in
+    let bits = concat fields.bitmaps ++ pictures in
+    let counted = fields.count ++ bits in
+    let extra = fields.extra ++ counted in
+    let extra_len = fields.extra_len ++ extra in
+    let flags = fields.flags ++ extra_len in
+    let whole = ap length h.text in
+    record {
+      id_len = h.id_len;
+      flags_len = h.flags_len;
+      extra_long = extra-long kind.version fields.extra_len fields.extra h.extra_counted;
+      within =
+          omega (
+            arith,
+            whole,
+            h.id_len,
+            h.flags_len,
+            length-append fields.id flags,
+            length-append fields.flags extra_len,
+            length-append fields.extra_len extra,
+            length-append fields.extra counted,
+            length-append fields.count bits,
+            length-append (concat fields.bitmaps) pictures,
+          );
+    }
+
+-- the bitmaps as two are as long as they are together
+pub two_lengths : (action : RowsAction) (first second : List ℕ) → (first, second) ≡ two_bitmaps (bitmaps_by action first second)
+    → length (concat (bitmaps_by action first second)) ≡ length first + length second
+two_lengths Write first second two = let none : second ≡ [] = ap (λ (b : List ℕ × List ℕ). b.1) two in rw none (length-append first [])
+two_lengths Update first second two =
+    let own = length-append first (second ++ []) in
+    omega (arith, own, length-append second [])
+two_lengths Delete first second two = let none : second ≡ [] = ap (λ (b : List ℕ × List ℕ). b.1) two in rw none (length-append first [])
 
 -- bytes that are images are these, joined
 pub images_are_joined : (layout : Layout) (bytes : List ℕ) → is_some (images_of layout bytes) ≡ true → bytes ≡ concat (unwrap_or (images_of layout bytes) [])

@@ -17,4 +17,5 @@ pub mod LayoutReading
 pub mod TableMapView
 pub mod RowsEventView
 pub mod RowsView
+pub mod RowsWriting
 pub mod ValuesView

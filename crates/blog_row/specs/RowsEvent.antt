@@ -1,9 +1,12 @@
--- The body of a rows event, version 2 (MySQL Internals manual, "Rows_event").
-use Rattle.std.specs.Prelude.{◌≡◌, ◌+◌, ◌-◌, ◌%◌, ◌<◌, ℕ, zero, suc, ◌==◌, nat_le, Bool, true, ◌&&◌, List, [], ◌∷◌, ◌++◌, length, take, drop, map, reverse, Option, Some, None, Result, Ok}
+-- The body of a rows event (MySQL Internals manual, "Rows_event").
+use Rattle.std.specs.Prelude.{◌≡◌, ◌+◌, ◌-◌, ◌%◌, ◌<◌, ℕ, zero, suc, ◌==◌, nat_le, Bool, true, ◌&&◌, List, [], ◌∷◌, ◌++◌, length, take, drop, map, if◌then◌else◌, Option, Some, None, option_map, option_and_then, Result, Ok}
 use Rattle.std.specs.List.{list_all, concat, AllByRecursion}
 use Rattle.byteorder.specs.Endian.{little_number}
+use Rattle.blog_row.specs.declared.kind.RowsAction.{RowsAction}
+use Rattle.blog_row.specs.declared.kind.RowsAction.TheVariants.{Write, Update, Delete}
 use Rattle.blog_row.specs.declared.kind.RowsKind.{RowsKind}
-use Rattle.blog_row.specs.declared.kind.RowsKind.TheVariants.{Write, Update, Delete}
+use Rattle.blog_row.specs.declared.kind.RowsVersion.{RowsVersion}
+use Rattle.blog_row.specs.declared.kind.RowsVersion.TheVariants.{One, Two}
 use Rattle.blog_row.specs.declared.fault.RowFault.{RowFault}
 use Rattle.blog_row.specs.declared.fault.RowFault.TheVariants.{BadBody, PartialImage}
 use Rattle.blog_row.specs.RowsKind.{images_a_row}
@@ -14,8 +17,8 @@ use Rattle.blog_row.specs.Image.{bitmap_len, is_marked, IsSomeImage, images_of}
 
 -- ---- what a body is
 
--- six bytes of id, two of flags, two of the extra length, the extra bytes, the packed column count, one bitmap for each
--- image that a row has, and the images of all rows
+-- six bytes of id, two of flags, in version 2 two of the extra length and the extra bytes, the packed column count, one bitmap
+-- for each image that a row has, and the images of all rows
 pub record RowsBody : Type 0 where
   pub id : List ℕ
   pub flags : List ℕ
@@ -34,17 +37,21 @@ pub record IsFullBitmap (n : ℕ) (bitmap : List ℕ) : Type 0 where
   pub long : length bitmap ≡ bitmap_len n
   pub full : (i : ℕ) → i < n → is_marked bitmap i ≡ true
 
--- what the fields are: the extra length counts its own two bytes, and updates have an even number of images
+-- the extra length counts its own two bytes; version 1 has neither it nor extra bytes
+abbrev pub HasExtra : RowsVersion → List ℕ → List ℕ → Type 0
+HasExtra One extra_len extra = (extra_len ≡ []) × (extra ≡ [])
+HasExtra Two extra_len extra = (length extra_len ≡ 2) × (little_number 2 extra_len ≡ length extra + 2)
+
+-- what the fields are; updates have an even number of images
 pub record IsRowsBody (kind : RowsKind) (layout : Layout) (body : List ℕ) (b : RowsBody) : Type 0 where
   pub id_len : length b.id ≡ 6
   pub flags_len : length b.flags ≡ 2
-  pub extra_len_len : length b.extra_len ≡ 2
-  pub extra_counted : little_number 2 b.extra_len ≡ length b.extra + 2
+  pub extra_counted : HasExtra kind.version b.extra_len b.extra
   pub counted : IsPacked b.count (length layout)
-  pub bitmaps_enough : length b.bitmaps ≡ images_a_row kind
+  pub bitmaps_enough : length b.bitmaps ≡ images_a_row kind.action
   pub bitmaps_full : AllByRecursion (IsFullBitmap (length layout)) b.bitmaps
   pub images_each : AllByRecursion (IsSomeImage layout) b.images
-  pub rows_whole : length b.images % images_a_row kind ≡ 0
+  pub rows_whole : length b.images % images_a_row kind.action ≡ 0
   pub text : body ≡ rows_text b
 
 -- ---- reading it
@@ -62,26 +69,36 @@ pieces (suc k) n bytes = do
   (others, rest) ← pieces k n rest
   Ok (first ∷ others, rest)
 
+-- the extra bytes behind their length, which counts its own two bytes
+abbrev pub counted_extra : List ℕ × List ℕ → Option (List ℕ × List ℕ × List ℕ)
+counted_extra len =
+    if nat_le 2 (little_number 2 len.0)
+    then option_map (λ extra. (len.0, extra.0, extra.1)) (cut (little_number 2 len.0 - 2) len.1)
+    else None
+
+-- the extra length and the extra bytes at the front, and the bytes behind them
+abbrev pub extra_of : RowsVersion → List ℕ → Option (List ℕ × List ℕ × List ℕ)
+extra_of One bytes = Some ([], [], bytes)
+extra_of Two bytes = option_and_then counted_extra (cut 2 bytes)
+
 -- the fields of a rows event's body, or the first check that fails
 unfoldable pub rows_of : RowsKind → Layout → List ℕ → Result RowsBody RowFault
 rows_of kind layout body = do
   (id, rest) ← or_bad (cut 6 body)
   (flags, rest) ← or_bad (cut 2 rest)
-  (extra_len, rest) ← or_bad (cut 2 rest)
-  check (nat_le 2 (little_number 2 extra_len)) BadBody (do
-    (extra, rest) ← or_bad (cut (little_number 2 extra_len - 2) rest)
-    (n, count, rest) ← or_bad (packed_front rest)
-    check (n == length layout) BadBody (do
-      (bitmaps, rest) ← pieces (images_a_row kind) (bitmap_len (length layout)) rest
-      check (list_all (are_marked (length layout)) bitmaps) PartialImage (do
-        images ← or_bad (images_of layout rest)
-        check (length images % images_a_row kind == 0) BadBody
-            (Ok (record { id = id; flags = flags; extra_len = extra_len; extra = extra; count = count; bitmaps = bitmaps; images = images })))))
+  (extra_len, extra, rest) ← or_bad (extra_of kind.version rest)
+  (n, count, rest) ← or_bad (packed_front rest)
+  check (n == length layout) BadBody (do
+    (bitmaps, rest) ← pieces (images_a_row kind.action) (bitmap_len (length layout)) rest
+    check (list_all (are_marked (length layout)) bitmaps) PartialImage (do
+      images ← or_bad (images_of layout rest)
+      check (length images % images_a_row kind.action == 0) BadBody
+          (Ok (record { id = id; flags = flags; extra_len = extra_len; extra = extra; count = count; bitmaps = bitmaps; images = images }))))
 
 -- ---- bitmaps
 
 -- a second bitmap is that of an update
-abbrev pub bitmaps_by : RowsKind → List ℕ → List ℕ → List (List ℕ)
+abbrev pub bitmaps_by : RowsAction → List ℕ → List ℕ → List (List ℕ)
 bitmaps_by Write first second = first ∷ []
 bitmaps_by Update first second = first ∷ second ∷ []
 bitmaps_by Delete first second = first ∷ []
@@ -94,9 +111,10 @@ two_bitmaps (first ∷ second ∷ others) = (first, second)
 
 -- ---- the fixed part of any rows body
 
--- the ten bytes of id, flags and extra length
-abbrev pub fixed_len : ℕ
-fixed_len = 10
+-- eight bytes of id and flags, and in version 2 two of the extra length
+abbrev pub fixed_len : RowsVersion → ℕ
+fixed_len One = 8
+fixed_len Two = 10
 
 -- the table id, six bytes of a table map and of a rows event alike
 abbrev pub table_id : List ℕ → List ℕ
@@ -122,12 +140,7 @@ updated_rows [] = []
 updated_rows (before ∷ []) = []
 updated_rows (before ∷ after ∷ images) = record { before = Some before; after = Some after } ∷ updated_rows images
 
-abbrev pub rows_by : RowsKind → List (List ℕ) → List RowImages
+abbrev pub rows_by : RowsAction → List (List ℕ) → List RowImages
 rows_by Write images = map (λ image. record { before = None; after = Some image }) images
 rows_by Update images = updated_rows images
 rows_by Delete images = map (λ image. record { before = Some image; after = None }) images
-
--- the fields with the bitmaps and the images in reverse order: so the rows are, and of an update the two bitmaps and each
--- row's two images are exchanged
-abbrev pub reversed_body : RowsBody → RowsBody
-reversed_body b = record b { bitmaps = reverse b.bitmaps; images = reverse b.images }

@@ -16,7 +16,7 @@ images_left rows = unwrap_or (images_of (layout_columns rows.layout) rows.rest.n
 
 -- the rows that are left
 abbrev pub rows_left : told.Rows → List RowImages
-rows_left rows = rows_by rows.kind (images_left rows)
+rows_left rows = rows_by rows.action (images_left rows)
 
 -- how many they are at most: one for each byte of the images
 abbrev pub most_left : told.Rows → ℕ

@@ -10,6 +10,7 @@ mod laws;
 mod layout;
 mod layout_parts;
 mod names;
+mod order;
 mod packed;
 mod reversal;
 mod rows;
@@ -21,10 +22,14 @@ mod types;
 mod values;
 
 pub use fault::RowFault;
-pub use kind::RowsKind;
-pub use laws::{images_stand_alone, reading_is_exact, reversed_rows_are_read};
+pub use kind::{RowsAction, RowsKind, RowsVersion};
+pub use laws::{
+    images_stand_alone, reading_is_exact, reversed_rows_have_their_images_from_the_last,
+    written_rows_are_read,
+};
 pub use layout::Layout;
 pub use names::{Names, names_at};
+pub use order::Order;
 pub use packed::{Packed, packed_at};
 pub use rows::{RowChange, Rows};
 pub use rows_event::RowsEvent;

@@ -1,9 +1,11 @@
-//! Rows events that are read, that are known, and whose images are put in reverse order.
+//! Rows events that are read, that are known, and that are written in either order.
 
-use crate::kind::RowsKind;
+use crate::kind::{RowsAction, RowsKind, RowsVersion};
 use crate::layout::Layout;
+use crate::order::Order;
 use crate::rows_event::RowsEvent;
 use crate::table_map::TableMap;
+use std::alloc::AllocError;
 use std::process::Abort;
 use std::test::Fail;
 
@@ -14,7 +16,7 @@ static MAP: [u8; 21] = [
 
 /// A rows event of that table.
 struct Case {
-    kind: RowsKind,
+    action: RowsAction,
     body: &'static [u8],
     bitmaps: (&'static [u8], &'static [u8]),
     images: &'static [u8],
@@ -24,10 +26,20 @@ struct Case {
     reversed: &'static [u8],
 }
 
+impl Case {
+    /// Its kind, of version 2.
+    fn kind(&self) -> RowsKind {
+        RowsKind {
+            version: RowsVersion::Two,
+            action: self.action,
+        }
+    }
+}
+
 static CASES: [Case; 4] = [
     // no rows
     Case {
-        kind: RowsKind::Delete,
+        action: RowsAction::Delete,
         body: b"\x6C\x00\x00\x00\x00\x00\x01\x00\x02\x00\x01\x01",
         bitmaps: (b"\x01", b""),
         images: b"",
@@ -36,7 +48,7 @@ static CASES: [Case; 4] = [
     },
     // the rows "a" and "bcd"
     Case {
-        kind: RowsKind::Write,
+        action: RowsAction::Write,
         body: b"\x6C\x00\x00\x00\x00\x00\x01\x00\x02\x00\x01\x01\xFE\x01\x61\xFE\x03\x62\x63\x64",
         bitmaps: (b"\x01", b""),
         images: b"\xFE\x01\x61\xFE\x03\x62\x63\x64",
@@ -45,7 +57,7 @@ static CASES: [Case; 4] = [
     },
     // a row changed from "a" to "bcd"; the free bits of the second bitmap are set
     Case {
-        kind: RowsKind::Update,
+        action: RowsAction::Update,
         body: b"\x6C\x00\x00\x00\x00\x00\x01\x00\x02\x00\x01\x01\xFF\xFE\x01\x61\xFE\x03\x62\x63\x64",
         bitmaps: (b"\x01", b"\xFF"),
         images: b"\xFE\x01\x61\xFE\x03\x62\x63\x64",
@@ -54,7 +66,7 @@ static CASES: [Case; 4] = [
     },
     // a row changed from "a" to "bcd", and one from NULL to ""
     Case {
-        kind: RowsKind::Update,
+        action: RowsAction::Update,
         body: b"\x6C\x00\x00\x00\x00\x00\x01\x00\x02\x00\x01\x01\x01\xFE\x01\x61\xFE\x03\x62\x63\x64\xFF\xFE\x00",
         bitmaps: (b"\x01", b"\x01"),
         images: b"\xFE\x01\x61\xFE\x03\x62\x63\x64\xFF\xFE\x00",
@@ -71,7 +83,7 @@ fn columns(rt: &impl Abort) -> Layout<'static> {
 
 /// Whether the event answers what its body says.
 fn check_event(rt: &impl Abort, event: RowsEvent<'_>, case: &Case) {
-    assert_eq!(rt; event.kind(), case.kind);
+    assert_eq!(rt; event.kind(), case.kind());
     assert_eq!(rt; event.table_id(), 0x6C);
     assert_eq!(rt; event.flags(), 1);
     assert!(rt; event.ends());
@@ -86,10 +98,11 @@ fn check_event(rt: &impl Abort, event: RowsEvent<'_>, case: &Case) {
 fn reads_and_knows_events(rt: HostRuntime) {
     let layout = columns(&rt);
     for case in &CASES {
-        let event = RowsEvent::read_as(case.kind, case.body, &layout).expect(&rt, "an event");
+        let kind = case.kind();
+        let event = RowsEvent::read_as(kind, case.body, &layout).expect(&rt, "an event");
         check_event(&rt, event, case);
-        check_event(&rt, RowsEvent::known(case.kind, case.body, &layout), case);
-        let (event, len) = RowsEvent::read_counted(case.kind, case.body, &layout).expect(
+        check_event(&rt, RowsEvent::known(kind, case.body, &layout), case);
+        let (event, len) = RowsEvent::read_counted(kind, case.body, &layout).expect(
             &rt, "an event",
         );
         check_event(&rt, event, case);
@@ -101,10 +114,70 @@ fn reads_and_knows_events(rt: HostRuntime) {
 fn puts_images_in_reverse_order(rt: HostRuntime) -> Result<(), Fail> {
     let layout = columns(&rt);
     for case in &CASES {
-        let event = RowsEvent::read_as(case.kind, case.body, &layout).expect(&rt, "an event");
+        let event = RowsEvent::read_as(case.kind(), case.body, &layout).expect(&rt, "an event");
         let mut room = vec![in rt.alloc(); 0xAA; event.rows_len()]?;
         event.put_reversed(&mut room);
         assert_eq!(rt; room.as_slice(), case.reversed);
     }
+    Ok(())
+}
+
+/// The body that is written for an event.
+fn written(
+    rt: &impl AllocGlobal,
+    event: &RowsEvent<'_>,
+    order: Order,
+    last: bool,
+) -> Result<Vec<u8>, AllocError> {
+    let mut room = vec![in rt.alloc(); 0xAA; event.body_len()]?;
+    event.put_body(order, last, &mut room);
+    Ok(room)
+}
+
+#[test]
+fn writes_bodies_without_extra_bytes(rt: HostRuntime) -> Result<(), Fail> {
+    let layout = columns(&rt);
+    // flags of 3, an extra length of 4 with two bytes in version 2, and two rows that are changed
+    let two = b"\x6C\0\0\0\0\0\x03\0\x04\0\xAA\xBB\x01\x01\xFF\xFE\x01a\xFE\x02bc\xFF\xFE\0";
+    let one = b"\x6C\0\0\0\0\0\x03\0\x01\x01\xFF\xFE\x01a\xFE\x02bc\xFF\xFE\0";
+    let event = RowsEvent::read(31, two, &layout).expect(&rt, "an event");
+    let older = RowsEvent::read(24, one, &layout).expect(&rt, "an event");
+    assert_eq!(rt;
+        (event.body_len(), older.body_len()),
+        (two.len() - 2, one.len())
+    );
+    assert_eq!(rt;
+        written(&rt, &event, Order::Forward, true)?.as_slice(),
+        b"\x6C\0\0\0\0\0\x03\0\x02\0\x01\x01\xFF\xFE\x01a\xFE\x02bc\xFF\xFE\0".as_slice()
+    );
+    assert_eq!(rt;
+        written(&rt, &event, Order::Backward, false)?.as_slice(),
+        b"\x6C\0\0\0\0\0\x02\0\x02\0\x01\xFF\x01\xFE\0\xFF\xFE\x02bc\xFE\x01a".as_slice()
+    );
+    assert_eq!(rt;
+        written(&rt, &older, Order::Forward, true)?.as_slice(),
+        one.as_slice()
+    );
+    assert_eq!(rt;
+        written(&rt, &older, Order::Backward, false)?.as_slice(),
+        b"\x6C\0\0\0\0\0\x02\0\x01\xFF\x01\xFE\0\xFF\xFE\x02bc\xFE\x01a".as_slice()
+    );
+    Ok(())
+}
+
+#[test]
+fn writes_inserts_as_deletes(rt: HostRuntime) -> Result<(), Fail> {
+    let layout = columns(&rt);
+    for (number, opposite) in [(23, 25), (24, 24), (25, 23), (30, 32), (31, 31), (32, 30)] {
+        let kind = RowsKind::of_type(number).expect(&rt, "a kind");
+        assert_eq!(rt; Order::Forward.kind(kind).number(), number);
+        assert_eq!(rt; Order::Backward.kind(kind).number(), opposite);
+    }
+    let body = b"\x6C\0\0\0\0\0\0\0\x01\x01\xFE\x01a\xFE\x02bc";
+    let event = RowsEvent::read(23, body, &layout).expect(&rt, "an event");
+    assert_eq!(rt;
+        written(&rt, &event, Order::Backward, true)?.as_slice(),
+        b"\x6C\0\0\0\0\0\x01\0\x01\x01\xFE\x02bc\xFE\x01a".as_slice()
+    );
     Ok(())
 }

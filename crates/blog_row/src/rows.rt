@@ -4,7 +4,7 @@ ghost use Rattle.std.specs.Prelude.{◌≡◌, ◌≤◌, ◌+◌, is_some, true
 ghost use Rattle.blog_row.specs.Image.{images_of};
 ghost use Rattle.blog_row.specs.LayoutView.{layout_columns};
 
-use crate::kind::RowsKind;
+use crate::kind::RowsAction;
 use crate::layout::Layout;
 use crate::rows_event::RowsEvent;
 
@@ -20,7 +20,7 @@ pub struct RowChange<'a> {
 /// The rows of a rows event, in order. An update's row is two images, the one before and the one after.
 #[derive(Debug, Drop)]
 pub struct Rows<'a> {
-    kind: RowsKind,
+    action: RowsAction,
     layout: Layout<'a>,
     // The images that are left.
     rest: &'a [u8],
@@ -36,11 +36,11 @@ impl<'a> RowsEvent<'a> {
     /// The rows, in order: of an insert each image after, of a delete each image before, and of an update the images
     /// before and after, each two of which are a row. It takes no memory, and reads each image once.
     pub fn rows(&self) -> Rows<'a>
-        ensures rows { rows_left result ≡ rows_by (rows_kind self.now) (rows_body self.now).images }
+        ensures rows { rows_left result ≡ rows_by (rows_kind self.now).action (rows_body self.now).images }
         ensures most { most_left result ≡ length (concat (rows_body self.now).images) }
     {
         Rows {
-            kind: self.kind(),
+            action: self.kind().action,
             layout: self.layout(),
             rest: self.images(),
         }
@@ -54,7 +54,7 @@ impl<'a> Rows<'a> {
     /// The next image.
     fn image(&mut self) -> Option<&'a [u8]>
         ensures images { YieldsFirstRef images_left self.old result self.new }
-        ensures kind { self.new.kind ≡ self.old.kind }
+        ensures action { self.new.action ≡ self.old.action }
         ensures bytes { length self.new.rest.now + length (option_to_list result) ≤ length self.old.rest.now }
     {
         let len = self.layout.image_len(self.rest)?;
@@ -77,10 +77,10 @@ impl<'a> Iterator for Rows<'a> {
 
     fn next(&mut self) -> Option<RowChange<'a>> {
         let image = self.image()?;
-        let (before, after) = match self.kind {
-            RowsKind::Write => (None, Some(image)),
-            RowsKind::Update => (Some(image), Some(self.image()?)),
-            RowsKind::Delete => (Some(image), None),
+        let (before, after) = match self.action {
+            RowsAction::Write => (None, Some(image)),
+            RowsAction::Update => (Some(image), Some(self.image()?)),
+            RowsAction::Delete => (Some(image), None),
         };
         Some(RowChange { before, after })
     }

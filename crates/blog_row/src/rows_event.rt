@@ -1,9 +1,10 @@
 //! Rows events.
 
-ghost use Rattle.std.specs.Prelude.{◌≡◌, ◌%◌, ◌==◌, Some, length, is_some, true};
+ghost use Rattle.std.specs.Prelude.{◌≡◌, ◌+◌, ◌≤◌, ◌<◌, ◌%◌, ◌^◌, ◌==◌, Some, length, is_some, true};
 ghost use Rattle.blog_row.specs.Image.{images_of, bitmap_len};
 ghost use Rattle.blog_row.specs.LayoutView.{layout_columns};
 ghost use Rattle.blog_row.specs.RowsEvent.{bitmaps_by, two_bitmaps};
+ghost use Rattle.blog_row.specs.RowsWriting.{no_extra};
 
 use crate::fault::RowFault;
 use crate::kind::RowsKind;
@@ -27,7 +28,9 @@ pub struct RowsEvent<'a> {
     layout: Layout<'a>,
     pub ghost id_len: { length id.now ≡ 6 },
     pub ghost flags_len: { length flags.now ≡ 2 },
-    pub ghost two: { (first.now, second.now) ≡ two_bitmaps (bitmaps_by kind first.now second.now) },
+    pub ghost extra_long: { length (no_extra kind.version) ≤ length extra_len.now },
+    pub ghost fits: { 8 + length extra_len.now + length count.now + length first.now + length second.now + length images.now < 2 ^ 64 },
+    pub ghost two: { (first.now, second.now) ≡ two_bitmaps (bitmaps_by kind.action first.now second.now) },
     pub ghost imaged: { is_some (images_of (layout_columns layout) images.now) ≡ true },
 }
 
@@ -98,7 +101,7 @@ impl<'a> RowsEvent<'a> {
         ensures of_kind { IfOk result (λ read. rows_kind read.0 ≡ kind) }
         ensures of_layout { IfOk result (λ read. rows_layout read.0 ≡ layout.now) }
     {
-        let Some(front) = front_at(body) else {
+        let Some(front) = front_at(kind.version, body) else {
             return Err(RowFault::BadBody);
         };
         let Some(count) = packed_at(front.rest) else {
@@ -108,16 +111,16 @@ impl<'a> RowsEvent<'a> {
         if count.value != columns as u64 {
             return Err(RowFault::BadBody);
         }
-        let Some(bitmaps) = bitmaps_at(kind, columns.div_ceil(8), count.rest) else {
+        let Some(bitmaps) = bitmaps_at(kind.action, columns.div_ceil(8), count.rest) else {
             return Err(RowFault::BadBody);
         };
-        if !all_set(kind, bitmaps.first, bitmaps.second, columns) {
+        if !all_set(kind.action, bitmaps.first, bitmaps.second, columns) {
             return Err(RowFault::PartialImage);
         }
         let Some(len) = images_in(layout, bitmaps.rest) else {
             return Err(RowFault::BadBody);
         };
-        if len % kind.images_a_row() != 0 {
+        if len % kind.action.images_a_row() != 0 {
             return Err(RowFault::BadBody);
         }
         let event = RowsEvent {
@@ -143,14 +146,14 @@ impl<'a> RowsEvent<'a> {
         ensures of_kind { rows_kind result ≡ kind }
         ensures of_layout { rows_layout result ≡ layout.now }
     {
-        let Some(front) = front_at(body) else {
+        let Some(front) = front_at(kind.version, body) else {
             unreachable!();
         };
         let Some(count) = packed_at(front.rest) else {
             unreachable!();
         };
         let len = layout.columns().div_ceil(8);
-        let Some(bitmaps) = bitmaps_at(kind, len, count.rest) else {
+        let Some(bitmaps) = bitmaps_at(kind.action, len, count.rest) else {
             unreachable!();
         };
         RowsEvent {
@@ -186,6 +189,13 @@ impl<'a> RowsEvent<'a> {
         ensures ends { result ≡ (little_number 2 (rows_body self.now).flags % 2 == 1) }
     {
         self.flags() % 2 == 1
+    }
+
+    /// The six bytes of the table id.
+    pub(crate) fn id(&self) -> &'a [u8]
+        ensures { result.now ≡ (rows_body self.now).id }
+    {
+        self.id
     }
 
     /// The bytes of the packed column count.
@@ -225,7 +235,7 @@ impl<'a> RowsEvent<'a> {
         self.layout
     }
 
-    /// What the event does to its rows.
+    /// The kind of the event: the version of its body, and what it does to its rows.
     pub fn kind(&self) -> RowsKind
         ensures { result ≡ rows_kind self.now }
     {

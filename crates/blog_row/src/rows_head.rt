@@ -1,12 +1,22 @@
 //! The fixed part of a rows event's body.
 
 ghost use Rattle.std.specs.Prelude.{◌≡◌, ◌%◌, ◌==◌, length};
+ghost use Rattle.blog_row.specs.declared.kind.RowsVersion.{RowsVersion};
+ghost use Rattle.blog_row.specs.RowsEvent.{fixed_len};
 
 use crate::fault::RowFault;
+use crate::kind::RowsVersion;
 use byteorder::{ByteOrder, LittleEndian};
 
-/// The ten bytes of the fixed part: id, flags, and the length of the extra bytes.
-const FIXED_LEN: usize = 10;
+/// How long the fixed part is: id and flags, and in version 2 the length of the extra bytes.
+fn fixed_len(version: RowsVersion) -> usize
+    ensures { result ≡ fixed_len version }
+{
+    match version {
+        RowsVersion::One => 8,
+        RowsVersion::Two => 10,
+    }
+}
 
 /// The table id and the flags of a rows event (MySQL Internals manual, "Rows_event").
 #[derive(Clone, Copy, Debug, PartialEq, Eq)]
@@ -21,11 +31,12 @@ impl RowsHead {
     ghost use Rattle.byteorder.specs.Endian.{little_number};
     ghost use Rattle.blog_row.specs.RowsEventView.{head_of, head_table, head_flags};
 
-    /// Reads the table id and the flags: `BadBody` where the body is shorter than its fixed part of ten bytes.
-    pub fn read(body: &[u8]) -> Result<RowsHead, RowFault>
-        ensures { result ≡ head_of body.now }
+    /// Reads the table id and the flags: `BadBody` where the body is shorter than the fixed part, of eight bytes in version
+    /// 1 and of ten in version 2.
+    pub fn read(version: RowsVersion, body: &[u8]) -> Result<RowsHead, RowFault>
+        ensures { result ≡ head_of version body.now }
     {
-        if body.len() < FIXED_LEN {
+        if body.len() < fixed_len(version) {
             return Err(RowFault::BadBody);
         }
         let (id, behind) = body.split_at(6);
@@ -38,7 +49,7 @@ impl RowsHead {
     /// The table id, from 0 to 2^48 - 1: six bytes, the lowest first.
     pub fn table_id(&self) -> u64
         ensures own { result ≡ head_table self.now }
-        ensures body { (body : List ℕ) → head_of body ≡ Ok self.now → result ≡ little_number 6 (table_id body) }
+        ensures body { (version : RowsVersion) → (body : List ℕ) → head_of version body ≡ Ok self.now → result ≡ little_number 6 (table_id body) }
     {
         self.table
     }
@@ -46,7 +57,7 @@ impl RowsHead {
     /// The flags.
     pub fn flags(&self) -> u16
         ensures own { result ≡ head_flags self.now }
-        ensures body { (body : List ℕ) → head_of body ≡ Ok self.now → result ≡ flags_of body }
+        ensures body { (version : RowsVersion) → (body : List ℕ) → head_of version body ≡ Ok self.now → result ≡ flags_of body }
     {
         self.bits
     }
@@ -54,7 +65,7 @@ impl RowsHead {
     /// Whether the event is marked as the last rows event of its statement.
     pub fn ends(&self) -> bool
         ensures own { result ≡ (head_flags self.now % 2 == 1) }
-        ensures body { (body : List ℕ) → head_of body ≡ Ok self.now → result ≡ has_end_flag body }
+        ensures body { (version : RowsVersion) → (body : List ℕ) → head_of version body ≡ Ok self.now → result ≡ has_end_flag body }
     {
         self.bits % 2 == 1
     }

@@ -6,11 +6,12 @@ ghost use Rattle.blog_row.specs.Checks.{or_bad};
 ghost use Rattle.blog_row.specs.RowsKind.{images_a_row};
 ghost use Rattle.blog_row.specs.Image.{images_of, bitmap_len};
 ghost use Rattle.blog_row.specs.LayoutView.{layout_columns};
-ghost use Rattle.blog_row.specs.RowsEvent.{are_marked, pieces, bitmaps_by, two_bitmaps};
-ghost use Rattle.blog_row.specs.RowsEventView.{front_seen, rows_front, bitmaps_seen};
+ghost use Rattle.blog_row.specs.RowsEvent.{are_marked, pieces, bitmaps_by, extra_of, two_bitmaps};
+ghost use Rattle.blog_row.specs.RowsEventView.{extra_seen, front_seen, rows_front, bitmaps_seen};
+ghost use Rattle.blog_row.specs.declared.kind.RowsVersion.TheVariants.{Two};
 
 use crate::image::{cut_at, is_set};
-use crate::kind::RowsKind;
+use crate::kind::{RowsAction, RowsVersion};
 use crate::layout::Layout;
 use byteorder::{ByteOrder, LittleEndian};
 
@@ -29,24 +30,60 @@ pub(crate) struct Front<'a> {
     pub(crate) rest: &'a [u8],
 }
 
+/// The extra bytes of a rows event's body; all empty in version 1.
+#[derive(Clone, Copy, Debug)]
+pub(crate) struct Extra<'a> {
+    /// The two bytes of their length, which counts itself.
+    pub(crate) len: &'a [u8],
+    /// The extra bytes.
+    pub(crate) bytes: &'a [u8],
+    /// The bytes behind them.
+    pub(crate) rest: &'a [u8],
+}
+
+/// The extra bytes at the front, behind their length.
+fn counted_extra_at(bytes: &[u8]) -> Option<Extra<'_>>
+    ensures { option_map extra_seen result ≡ extra_of Two bytes.now }
+{
+    let (len, behind) = cut_at(2, bytes)?;
+    let counted = usize::from(LittleEndian::read_u16(len));
+    if counted < 2 {
+        return None;
+    }
+    let (bytes, rest) = cut_at(counted - 2, behind)?;
+    Some(Extra { len, bytes, rest })
+}
+
+/// The extra length and the extra bytes at the front, which only version 2 has.
+pub(crate) fn extra_at(version: RowsVersion, bytes: &[u8]) -> Option<Extra<'_>>
+    ensures { option_map extra_seen result ≡ extra_of version bytes.now }
+{
+    match version {
+        RowsVersion::One => {
+            let (none, rest) = bytes.split_at(0);
+            Some(Extra {
+                len: none,
+                bytes: none,
+                rest,
+            })
+        }
+        RowsVersion::Two => counted_extra_at(bytes),
+    }
+}
+
 /// The fields up to the extra bytes, where the body has them.
-pub(crate) fn front_at(body: &[u8]) -> Option<Front<'_>>
-    ensures { option_map front_seen result ≡ rows_front body.now }
+pub(crate) fn front_at(version: RowsVersion, body: &[u8]) -> Option<Front<'_>>
+    ensures { option_map front_seen result ≡ rows_front version body.now }
 {
     let (id, behind) = cut_at(6, body)?;
     let (flags, behind) = cut_at(2, behind)?;
-    let (extra_len, behind) = cut_at(2, behind)?;
-    let len = usize::from(LittleEndian::read_u16(extra_len));
-    if len < 2 {
-        return None;
-    }
-    let (extra, rest) = cut_at(len - 2, behind)?;
+    let extra = extra_at(version, behind)?;
     Some(Front {
         id,
         flags,
-        extra_len,
-        extra,
-        rest,
+        extra_len: extra.len,
+        extra: extra.bytes,
+        rest: extra.rest,
     })
 }
 
@@ -62,13 +99,13 @@ pub(crate) struct Bitmaps<'a> {
 }
 
 /// The bitmaps at the front, of `len` bytes each.
-pub(crate) fn bitmaps_at(kind: RowsKind, len: usize, bytes: &[u8]) -> Option<Bitmaps<'_>>
-    ensures exact { or_bad (option_map (bitmaps_seen kind) result) ≡ pieces (images_a_row kind) len bytes.now }
-    ensures two { IfSome result (λ b. (b.first.now, b.second.now) ≡ two_bitmaps (bitmaps_by kind b.first.now b.second.now)) }
+pub(crate) fn bitmaps_at(action: RowsAction, len: usize, bytes: &[u8]) -> Option<Bitmaps<'_>>
+    ensures exact { or_bad (option_map (bitmaps_seen action) result) ≡ pieces (images_a_row action) len bytes.now }
+    ensures two { IfSome result (λ b. (b.first.now, b.second.now) ≡ two_bitmaps (bitmaps_by action b.first.now b.second.now)) }
 {
     let (first, behind) = cut_at(len, bytes)?;
-    match kind {
-        RowsKind::Write | RowsKind::Delete => {
+    match action {
+        RowsAction::Write | RowsAction::Delete => {
             let (second, rest) = behind.split_at(0);
             Some(Bitmaps {
                 first,
@@ -76,7 +113,7 @@ pub(crate) fn bitmaps_at(kind: RowsKind, len: usize, bytes: &[u8]) -> Option<Bit
                 rest,
             })
         }
-        RowsKind::Update => {
+        RowsAction::Update => {
             let (second, rest) = cut_at(len, behind)?;
             Some(Bitmaps {
                 first,
@@ -101,13 +138,13 @@ pub(crate) fn are_set(bitmap: &[u8], columns: usize) -> bool
 }
 
 /// Whether the first `columns` bits of each bitmap that the kind has are set.
-pub(crate) fn all_set(kind: RowsKind, first: &[u8], second: &[u8], columns: usize) -> bool
-    requires { AllByRecursion (λ bitmap. length bitmap ≡ bitmap_len columns) (bitmaps_by kind first.now second.now) }
-    ensures { result ≡ list_all (are_marked columns) (bitmaps_by kind first.now second.now) }
+pub(crate) fn all_set(action: RowsAction, first: &[u8], second: &[u8], columns: usize) -> bool
+    requires { AllByRecursion (λ bitmap. length bitmap ≡ bitmap_len columns) (bitmaps_by action first.now second.now) }
+    ensures { result ≡ list_all (are_marked columns) (bitmaps_by action first.now second.now) }
 {
-    match kind {
-        RowsKind::Write | RowsKind::Delete => are_set(first, columns),
-        RowsKind::Update => are_set(first, columns) && are_set(second, columns),
+    match action {
+        RowsAction::Write | RowsAction::Delete => are_set(first, columns),
+        RowsAction::Update => are_set(first, columns) && are_set(second, columns),
     }
 }
 

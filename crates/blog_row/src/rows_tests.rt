@@ -1,8 +1,37 @@
 //! Rows events of the format's own bytes.
 
-use super::RowsKind::{Delete, Update, Write};
 use super::*;
 use std::process::Abort;
+
+const WRITE: RowsKind = RowsKind {
+    version: RowsVersion::Two,
+    action: RowsAction::Write,
+};
+
+const UPDATE: RowsKind = RowsKind {
+    version: RowsVersion::Two,
+    action: RowsAction::Update,
+};
+
+const DELETE: RowsKind = RowsKind {
+    version: RowsVersion::Two,
+    action: RowsAction::Delete,
+};
+
+const WRITE_V1: RowsKind = RowsKind {
+    version: RowsVersion::One,
+    action: RowsAction::Write,
+};
+
+const UPDATE_V1: RowsKind = RowsKind {
+    version: RowsVersion::One,
+    action: RowsAction::Update,
+};
+
+const DELETE_V1: RowsKind = RowsKind {
+    version: RowsVersion::One,
+    action: RowsAction::Delete,
+};
 
 /// Table maps of `d`.`t`: of one LONG column, of two, and of nine TINY columns.
 const ONE_LONG: &[u8] = b"\x01\0\0\0\0\0\x01\0\x01d\0\x01t\0\x01\x03\0\x01";
@@ -39,10 +68,66 @@ struct Worked {
     rows: &'static [RowChange<'static>],
 }
 
-static WORKED: [Worked; 7] = [
+static WORKED: [Worked; 10] = [
+    // Version 1: the column count stands behind the flags. A row that is inserted, one that is changed, and two that are
+    // deleted.
+    Worked {
+        kind: WRITE_V1,
+        map: ONE_LONG,
+        body: b"\x01\0\0\0\0\0\x01\0\x01\xFF\xFE\x05\0\0\0",
+        id: 1,
+        flags: 1,
+        ends: true,
+        count: b"\x01",
+        bitmaps: (b"\xFF", b""),
+        images: b"\xFE\x05\0\0\0",
+        columns: 1,
+        rows: &[RowChange {
+            before: None,
+            after: Some(b"\xFE\x05\0\0\0"),
+        }],
+    },
+    Worked {
+        kind: UPDATE_V1,
+        map: ONE_LONG,
+        body: b"\x01\0\0\0\0\0\0\0\x01\xFF\x01\xFF\xFE\x02\0\0\0",
+        id: 1,
+        flags: 0,
+        ends: false,
+        count: b"\x01",
+        bitmaps: (b"\xFF", b"\x01"),
+        images: b"\xFF\xFE\x02\0\0\0",
+        columns: 1,
+        rows: &[RowChange {
+            before: Some(b"\xFF"),
+            after: Some(b"\xFE\x02\0\0\0"),
+        }],
+    },
+    Worked {
+        kind: DELETE_V1,
+        map: ONE_LONG,
+        body: b"\x01\0\0\0\0\0\x03\0\x01\xFF\xFE\x05\0\0\0\xFF",
+        id: 1,
+        flags: 3,
+        ends: true,
+        count: b"\x01",
+        bitmaps: (b"\xFF", b""),
+        images: b"\xFE\x05\0\0\0\xFF",
+        columns: 1,
+        rows: &[
+            RowChange {
+                before: Some(b"\xFE\x05\0\0\0"),
+                after: None,
+            },
+            RowChange {
+                before: Some(b"\xFF"),
+                after: None,
+            },
+        ],
+    },
     // Two rows of two columns; the second has a NULL.
     Worked {
-        kind: Write,
+        kind: WRITE,
         map: TWO_LONGS,
         body: b"\x6C\x01\0\0\0\0\x01\0\x02\0\x02\xFF\xFC\x01\0\0\0\x02\0\0\0\xFE\x03\0\0\0",
         id: 0x16C,
@@ -65,7 +150,7 @@ static WORKED: [Worked; 7] = [
     },
     // Two rows, each changed; the second was NULL.
     Worked {
-        kind: Update,
+        kind: UPDATE,
         map: ONE_LONG,
         body: b"\x01\0\0\0\0\0\0\0\x02\0\x01\xFF\x01\xFE\x01\0\0\0\xFE\x02\0\0\0\xFF\xFE\x03\0\0\0",
         id: 1,
@@ -88,7 +173,7 @@ static WORKED: [Worked; 7] = [
     },
     // Two extra bytes, a column count of three bytes, and two rows.
     Worked {
-        kind: Delete,
+        kind: DELETE,
         map: ONE_LONG,
         body: b"\x01\x02\x03\x04\x05\x06\x03\x80\x04\0\xAA\xBB\xFC\x01\0\x01\xFE\x05\0\0\0\xFF",
         id: 0x0605_0403_0201,
@@ -111,7 +196,7 @@ static WORKED: [Worked; 7] = [
     },
     // Nine columns have two bytes of bits; only the first and the last are not NULL.
     Worked {
-        kind: Write,
+        kind: WRITE,
         map: NINE_TINIES,
         body: b"\xFF\xFF\xFF\xFF\xFF\xFF\xFE\xFF\x02\0\x09\xFF\x01\xFE\xFEab",
         id: 0xFFFF_FFFF_FFFF,
@@ -128,7 +213,7 @@ static WORKED: [Worked; 7] = [
     },
     // No rows.
     Worked {
-        kind: Write,
+        kind: WRITE,
         map: ONE_LONG,
         body: b"\x01\0\0\0\0\0\0\0\x02\0\x01\xFF",
         id: 1,
@@ -141,7 +226,7 @@ static WORKED: [Worked; 7] = [
         rows: &[],
     },
     Worked {
-        kind: Update,
+        kind: UPDATE,
         map: ONE_LONG,
         body: b"\x01\0\0\0\0\0\0\0\x02\0\x01\xFF\x01",
         id: 1,
@@ -154,7 +239,7 @@ static WORKED: [Worked; 7] = [
         rows: &[],
     },
     Worked {
-        kind: Delete,
+        kind: DELETE,
         map: ONE_LONG,
         body: b"\x01\0\0\0\0\0\0\0\x02\0\x01\xFF",
         id: 1,
@@ -201,21 +286,26 @@ fn reads_by_event_types(rt: HostRuntime) {
     for want in &WORKED {
         let map = TableMap::read(want.map).expect(&rt, "names");
         let layout = map.layout().expect(&rt, "a layout");
-        let read = match want.kind {
-            Write => RowsEvent::read(30, want.body, &layout),
-            Update => RowsEvent::read(31, want.body, &layout),
-            Delete => RowsEvent::read(32, want.body, &layout),
+        let read = match (want.kind.version, want.kind.action) {
+            (RowsVersion::One, RowsAction::Write) => RowsEvent::read(23, want.body, &layout),
+            (RowsVersion::One, RowsAction::Update) => RowsEvent::read(24, want.body, &layout),
+            (RowsVersion::One, RowsAction::Delete) => RowsEvent::read(25, want.body, &layout),
+            (RowsVersion::Two, RowsAction::Write) => RowsEvent::read(30, want.body, &layout),
+            (RowsVersion::Two, RowsAction::Update) => RowsEvent::read(31, want.body, &layout),
+            (RowsVersion::Two, RowsAction::Delete) => RowsEvent::read(32, want.body, &layout),
         };
         check_event(&rt, &read.expect(&rt, "an event"), want);
-        let cut = RowsEvent::read(31, b"", &layout).err();
-        assert_eq!(rt; cut, Some(RowFault::BadBody));
+        for number in [24, 31] {
+            let cut = RowsEvent::read(number, b"", &layout).err();
+            assert_eq!(rt; cut, Some(RowFault::BadBody));
+        }
     }
 }
 
 #[test]
 fn reads_the_heads_of_rows_events(rt: HostRuntime) {
     for want in &WORKED {
-        let head = RowsHead::read(want.body).expect(&rt, "a head");
+        let head = RowsHead::read(want.kind.version, want.body).expect(&rt, "a head");
         assert_eq!(rt; head.table_id(), want.id);
         assert_eq!(rt; head.flags(), want.flags);
         assert_eq!(rt; head.ends(), want.ends);
@@ -223,60 +313,68 @@ fn reads_the_heads_of_rows_events(rt: HostRuntime) {
 }
 
 /// Bodies that don't have their layout.
-static BAD: [(RowsKind, &[u8], &[u8]); 19] = [
+static BAD: [(RowsKind, &[u8], &[u8]); 24] = [
+    // Version 1: seven bytes; eight, and no column count; no bitmap; one image of an update; columns counted as the extra
+    // length of version 2 is.
+    (WRITE_V1, ONE_LONG, b"\x01\0\0\0\0\0\0"),
+    (WRITE_V1, ONE_LONG, b"\x01\0\0\0\0\0\0\0"),
+    (DELETE_V1, ONE_LONG, b"\x01\0\0\0\0\0\0\0\x01"),
+    (UPDATE_V1, ONE_LONG, b"\x01\0\0\0\0\0\0\0\x01\xFF\xFF\xFF"),
+    (WRITE_V1, ONE_LONG, b"\x01\0\0\0\0\0\0\0\x02\0\x01\xFF\xFF"),
     // Nine bytes; ten, and no column count.
-    (Write, ONE_LONG, b"\x01\0\0\0\0\0\0\0\x02"),
-    (Write, ONE_LONG, b"\x01\0\0\0\0\0\0\0\x02\0"),
+    (WRITE, ONE_LONG, b"\x01\0\0\0\0\0\0\0\x02"),
+    (WRITE, ONE_LONG, b"\x01\0\0\0\0\0\0\0\x02\0"),
     // Extra lengths of 1, 0 and 65,535; extra bytes cut short.
-    (Write, ONE_LONG, b"\x01\0\0\0\0\0\0\0\x01\0\x01\xFF"),
-    (Write, ONE_LONG, b"\x01\0\0\0\0\0\0\0\0\0\x01\xFF"),
-    (Write, ONE_LONG, b"\x01\0\0\0\0\0\0\0\xFF\xFF\x01\xFF"),
-    (Write, ONE_LONG, b"\x01\0\0\0\0\0\0\0\x04\0\xAA"),
+    (WRITE, ONE_LONG, b"\x01\0\0\0\0\0\0\0\x01\0\x01\xFF"),
+    (WRITE, ONE_LONG, b"\x01\0\0\0\0\0\0\0\0\0\x01\xFF"),
+    (WRITE, ONE_LONG, b"\x01\0\0\0\0\0\0\0\xFF\xFF\x01\xFF"),
+    (WRITE, ONE_LONG, b"\x01\0\0\0\0\0\0\0\x04\0\xAA"),
     // Column counts of 2 and 0, and such as spell no number.
-    (Write, ONE_LONG, b"\x01\0\0\0\0\0\0\0\x02\0\x02\xFF"),
-    (Write, ONE_LONG, b"\x01\0\0\0\0\0\0\0\x02\0\0\xFF"),
-    (Write, ONE_LONG, b"\x01\0\0\0\0\0\0\0\x02\0\xFB\xFF"),
-    (Write, ONE_LONG, b"\x01\0\0\0\0\0\0\0\x02\0\xFC\x01"),
-    (Write, ONE_LONG, b"\x01\0\0\0\0\0\0\0\x02\0\xFE\xFF"),
-    (Write, ONE_LONG, b"\x01\0\0\0\0\0\0\0\x02\0\xFF\xFF"),
+    (WRITE, ONE_LONG, b"\x01\0\0\0\0\0\0\0\x02\0\x02\xFF"),
+    (WRITE, ONE_LONG, b"\x01\0\0\0\0\0\0\0\x02\0\0\xFF"),
+    (WRITE, ONE_LONG, b"\x01\0\0\0\0\0\0\0\x02\0\xFB\xFF"),
+    (WRITE, ONE_LONG, b"\x01\0\0\0\0\0\0\0\x02\0\xFC\x01"),
+    (WRITE, ONE_LONG, b"\x01\0\0\0\0\0\0\0\x02\0\xFE\xFF"),
+    (WRITE, ONE_LONG, b"\x01\0\0\0\0\0\0\0\x02\0\xFF\xFF"),
     // No bitmap; no second bitmap; half of one.
-    (Delete, ONE_LONG, b"\x01\0\0\0\0\0\0\0\x02\0\x01"),
-    (Update, ONE_LONG, b"\x01\0\0\0\0\0\0\0\x02\0\x01\xFF"),
-    (Write, NINE_TINIES, b"\x01\0\0\0\0\0\0\0\x02\0\x09\xFF"),
+    (DELETE, ONE_LONG, b"\x01\0\0\0\0\0\0\0\x02\0\x01"),
+    (UPDATE, ONE_LONG, b"\x01\0\0\0\0\0\0\0\x02\0\x01\xFF"),
+    (WRITE, NINE_TINIES, b"\x01\0\0\0\0\0\0\0\x02\0\x09\xFF"),
     // An image cut short; a byte behind the last image; one image, and three, of updates.
     (
-        Write,
+        WRITE,
         ONE_LONG,
         b"\x01\0\0\0\0\0\0\0\x02\0\x01\xFF\xFE\x01\0\0",
     ),
     (
-        Delete,
+        DELETE,
         ONE_LONG,
         b"\x01\0\0\0\0\0\0\0\x02\0\x01\xFF\xFF\xFE",
     ),
     (
-        Update,
+        UPDATE,
         ONE_LONG,
         b"\x01\0\0\0\0\0\0\0\x02\0\x01\xFF\xFF\xFF",
     ),
     (
-        Update,
+        UPDATE,
         ONE_LONG,
         b"\x01\0\0\0\0\0\0\0\x02\0\x01\xFF\xFF\xFF\xFF\xFF",
     ),
 ];
 
 /// Bodies with a column that isn't in the images, whatever follows.
-static PARTIAL: [(RowsKind, &[u8], &[u8]); 5] = [
-    (Write, ONE_LONG, b"\x01\0\0\0\0\0\0\0\x02\0\x01\xFE\xFE"),
+static PARTIAL: [(RowsKind, &[u8], &[u8]); 6] = [
+    (UPDATE_V1, ONE_LONG, b"\x01\0\0\0\0\0\0\0\x01\xFF\xFE"),
+    (WRITE, ONE_LONG, b"\x01\0\0\0\0\0\0\0\x02\0\x01\xFE\xFE"),
     (
-        Update,
+        UPDATE,
         ONE_LONG,
         b"\x01\0\0\0\0\0\0\0\x02\0\x01\xFE\xFF\xFF",
     ),
-    (Update, ONE_LONG, b"\x01\0\0\0\0\0\0\0\x02\0\x01\xFF\xFE"),
-    (Write, NINE_TINIES, b"\x01\0\0\0\0\0\0\0\x02\0\x09\xFF\0"),
-    (Delete, NINE_TINIES, b"\x01\0\0\0\0\0\0\0\x02\0\x09\x7F\x01"),
+    (UPDATE, ONE_LONG, b"\x01\0\0\0\0\0\0\0\x02\0\x01\xFF\xFE"),
+    (WRITE, NINE_TINIES, b"\x01\0\0\0\0\0\0\0\x02\0\x09\xFF\0"),
+    (DELETE, NINE_TINIES, b"\x01\0\0\0\0\0\0\0\x02\0\x09\x7F\x01"),
 ];
 
 #[test]
@@ -296,12 +394,17 @@ fn refuses_partial_images(rt: HostRuntime) {
 }
 
 #[test]
-fn reads_ten_bytes_as_a_head(rt: HostRuntime) {
+fn reads_a_fixed_part_as_a_head(rt: HostRuntime) {
     let body: &[u8] = &[1, 2, 3, 4, 5, 6, 7, 8, 0, 0];
-    let head = RowsHead::read(body).expect(&rt, "a head");
-    assert_eq!(rt; head.table_id(), 0x0605_0403_0201);
-    assert_eq!(rt; head.flags(), 0x0807);
-    assert!(rt; head.ends());
-    assert_eq!(rt; RowsHead::read(&body[..9]), Err(RowFault::BadBody));
-    assert_eq!(rt; RowsHead::read(&[]), Err(RowFault::BadBody));
+    for (version, len) in [(RowsVersion::One, 8), (RowsVersion::Two, 10)] {
+        let head = RowsHead::read(version, &body[..len]).expect(&rt, "a head");
+        assert_eq!(rt; head.table_id(), 0x0605_0403_0201);
+        assert_eq!(rt; head.flags(), 0x0807);
+        assert!(rt; head.ends());
+        assert_eq!(rt;
+            RowsHead::read(version, &body[..len - 1]),
+            Err(RowFault::BadBody)
+        );
+        assert_eq!(rt; RowsHead::read(version, &[]), Err(RowFault::BadBody));
+    }
 }

@@ -8,15 +8,15 @@ use Rattle.std.proofs.lemmas.List.Folds.{list_any-append}
 use Rattle.std.proofs.lemmas.List.Sums.{sum_by-append, sum_by-cons}
 use Rattle.std.proofs.lemmas.Map.Keys.{IsDistinct-head, IsDistinct-tail, any_passes_from_place}
 use Rattle.std.proofs.lemmas.Option.{none-some, same_Some, slice_get-map, slice_get_read}
-use Rattle.blog_row.specs.declared.kind.RowsKind.{RowsKind}
-use Rattle.blog_row.specs.declared.kind.RowsKind.TheVariants.{Write, Update, Delete}
+use Rattle.blog_row.specs.declared.kind.RowsAction.{RowsAction}
+use Rattle.blog_row.specs.declared.kind.RowsAction.TheVariants.{Write, Update, Delete}
 use Rattle.blog_row.specs.Image.{Row}
 use Rattle.blog_row.specs.TableMap.{Table, layout_of}
 use Rattle.blog_trans.specs.declared.counts.Count.{Count}
 use Rattle.blog_trans.specs.declared.counts.Counts.{Counts}
 use Rattle.blog_trans.specs.Acceptance.{is_same_table}
 use Rattle.blog_trans.specs.Groups.{RowsEvent}
-use Rattle.blog_trans.specs.Changes.{Change, Inserted, Deleted, Updated, TableCount, count_of, is_insert_into, is_update_of, is_delete_from, updates, changes_by_kind, changes_of_rows, table_of, row_by, first_tables}
+use Rattle.blog_trans.specs.Changes.{Change, Inserted, Deleted, Updated, TableCount, count_of, is_insert_into, is_update_of, is_delete_from, updates, changes_by_action, changes_of_rows, table_of, row_by, first_tables}
 use Rattle.blog_trans.specs.Counting.{with_images}
 use Rattle.blog_trans.specs.declared.maps.MapSeen.{MapSeen}
 use Rattle.blog_trans.specs.StatementMaps.{used_maps}
@@ -174,8 +174,8 @@ none-of : (p : Change → Bool) (cs ds : List Change) (n : ℕ) → n ≡ count_
 none-of p cs ds n before new = omega (arith, before, new, count-append p cs ds)
 
 -- of the table of a rows event: its rows are counted
-counts-own : (kind : RowsKind) (u : Table) (rows : List Row) (c : Count) (cs : List Change) → counted u (Some c) ≡ count_of cs u
-    → counted u (Some (with_images kind (length rows) c)) ≡ count_of (cs ++ changes_by_kind kind u rows) u
+counts-own : (kind : RowsAction) (u : Table) (rows : List Row) (c : Count) (cs : List Change) → counted u (Some c) ≡ count_of cs u
+    → counted u (Some (with_images kind (length rows) c)) ≡ count_of (cs ++ changes_by_action kind u rows) u
 counts-own Write u rows c cs e =
     same-counts u _ _ _ _ _ _
     (more-of (is_insert_into u) cs (map (Inserted u) rows) c.inserts (length rows) (ap (λ (x : TableCount). x.inserts) e) (count-all (is_insert_into u) (Inserted u) true (λ row. own-table u) rows))
@@ -193,7 +193,7 @@ counts-own Delete u rows c cs e =
     (more-of (is_delete_from u) cs (map (Deleted u) rows) c.deletes (length rows) (ap (λ (x : TableCount). x.deletes) e) (count-all (is_delete_from u) (Deleted u) true (λ row. own-table u) rows))
 
 -- of any other table: its numbers stay
-counts-other : (kind : RowsKind) (t u : Table) (rows : List Row) (cs : List Change) → is_same_table t u ≡ false → count_of cs t ≡ count_of (cs ++ changes_by_kind kind u rows) t
+counts-other : (kind : RowsAction) (t u : Table) (rows : List Row) (cs : List Change) → is_same_table t u ≡ false → count_of cs t ≡ count_of (cs ++ changes_by_action kind u rows) t
 counts-other Write t u rows cs other =
     same-counts t _ _ _ _ _ _
     (none-of (is_insert_into t) cs (map (Inserted u) rows) _ refl (count-all (is_insert_into t) (Inserted u) false (λ row. other) rows))
@@ -230,15 +230,15 @@ counts-filled tables cs ts before after none k nothing unkept rows same few are 
 -- with the rows of one more rows event
 pub counts-more : {A : Type 0} (tables : List Table) (cs : List Change) (ts : List Table) (r : RowsEvent) (i : ℕ) (c : Count) (before after : Counts A)
     → slice_get tables i ≡ Some (table_of r.map) → i < length before.rows.items → slice_get before.rows.items i ≡ Some c
-    → after.rows.items ≡ slice_set before.rows.items i (with_images r.kind (length r.images) c) → after.tables.items ≡ before.tables.items
+    → after.rows.items ≡ slice_set before.rows.items i (with_images r.content.kind.action (length r.content.images) c) → after.tables.items ≡ before.tables.items
     → AreCounts tables cs ts before → AreCounts tables (cs ++ changes_of_rows r) ts after
 counts-more tables cs ts r i c before after of_map within had rows same are = record {
   rows = λ n t at. ap (λ xs. counted t (slice_get xs n)) rows ∙ counted-at n t at (cases_eq n i);
-  others = λ t absent. are.others t absent ∙ counts-other r.kind t table images cs (absent-place tables i t table absent of_map);
+  others = λ t absent. are.others t absent ∙ counts-other r.content.kind.action t table images cs (absent-place tables i t table absent of_map);
   kept = λ n t at. ap (λ xs. is_kept (slice_get xs n)) rows ∙ kept-at n (cases_eq n i) ∙ are.kept n t at;
   known = are.known;
   firsts = ap (map (λ n. slice_get tables n)) same ∙ are.firsts;
-  few = subst (λ xs. length xs ≤ length tables) (sym rows) (omega (arith, length-set before.rows.items i (with_images r.kind (length r.images) c), are.few));
+  few = subst (λ xs. length xs ≤ length tables) (sym rows) (omega (arith, length-set before.rows.items i (with_images r.content.kind.action (length r.content.images) c), are.few));
   distinct = are.distinct;
 }
   where
@@ -246,15 +246,15 @@ counts-more tables cs ts r i c before after of_map within had rows same are = re
     table = table_of r.map
 
     images : List Row
-    images = map (row_by (layout_of r.map)) r.images
+    images = map (row_by (layout_of r.map)) r.content.images
 
     now : Count
-    now = with_images r.kind (length r.images) c
+    now = with_images r.content.kind.action (length r.content.images) c
 
     own : counted table (Some now) ≡ count_of (cs ++ changes_of_rows r) table
     own =
-        ap (λ n. counted table (Some (with_images r.kind n c))) (sym (length-map r.images (row_by (layout_of r.map))))
-        ∙ counts-own r.kind table images c cs (ap (counted table) (sym had) ∙ are.rows i table of_map)
+        ap (λ n. counted table (Some (with_images r.content.kind.action n c))) (sym (length-map r.content.images (row_by (layout_of r.map))))
+        ∙ counts-own r.content.kind.action table images c cs (ap (counted table) (sym had) ∙ are.rows i table of_map)
 
     counted-at : (n : ℕ) (t : Table) → slice_get tables n ≡ Some t → (n ≡ i) ⊎ (n ≢ i) → counted t (slice_get (slice_set before.rows.items i now) n) ≡ count_of (cs ++ changes_of_rows r) t
     counted-at n t at (inl here) =
@@ -265,9 +265,9 @@ counts-more tables cs ts r i c before after of_map within had rows same are = re
     counted-at n t at (inr other) =
         ap (counted t) (slice_get-set_other before.rows.items i n now other)
         ∙ are.rows n t at
-        ∙ counts-other r.kind t table images cs (other-place tables n i t table are.distinct at of_map other)
+        ∙ counts-other r.content.kind.action t table images cs (other-place tables n i t table are.distinct at of_map other)
 
-    stays : (kind : RowsKind) (k : ℕ) → (with_images kind k c).kept ≡ c.kept
+    stays : (kind : RowsAction) (k : ℕ) → (with_images kind k c).kept ≡ c.kept
     stays Write k = refl
     stays Update k = refl
     stays Delete k = refl
@@ -276,7 +276,7 @@ counts-more tables cs ts r i c before after of_map within had rows same are = re
     kept-at n (inl here) =
         ap (λ m. is_kept (slice_get (slice_set before.rows.items i now) m)) here
         ∙ ap is_kept (slice_get-set_same before.rows.items i now within)
-        ∙ stays r.kind (length r.images)
+        ∙ stays r.content.kind.action (length r.content.images)
         ∙ sym (ap is_kept (ap (slice_get before.rows.items) here ∙ had))
     kept-at n (inr other) = ap is_kept (slice_get-set_other before.rows.items i n now other)
 
@@ -414,7 +414,7 @@ few-filled n k [] c few own = few-copies n k c own
 few-filled n k (d ∷ rows) c few own = (few.0, few-filled n k rows c few.1 own)
 
 -- with the rows of one more rows event
-pub with-few : (n k : ℕ) (kind : RowsKind) (c : Count) → (c.inserts ≤ n) × (c.updates ≤ n) × (c.deletes ≤ n)
+pub with-few : (n k : ℕ) (kind : RowsAction) (c : Count) → (c.inserts ≤ n) × (c.updates ≤ n) × (c.deletes ≤ n)
     → ((with_images kind k c).inserts ≤ n + k) × ((with_images kind k c).updates ≤ n + k) × ((with_images kind k c).deletes ≤ n + k)
 with-few n k Write c few = (omega (arith, few.0), omega (arith, few.1), omega (arith, few.2))
 with-few n k Update c few = (omega (arith, few.0), omega (arith, few.1), omega (arith, few.2))

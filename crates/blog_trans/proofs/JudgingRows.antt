@@ -13,6 +13,8 @@ use Rattle.blog_event.specs.File.{Placed}
 use Rattle.blog_row.specs.declared.fault.RowFault.{RowFault}
 use Rattle.blog_row.specs.declared.fault.RowFault.TheVariants as row
 use Rattle.blog_row.specs.declared.kind.RowsKind.{RowsKind}
+use Rattle.blog_row.specs.declared.kind.RowsVersion.{RowsVersion}
+use Rattle.blog_row.specs.declared.kind.RowsVersion.TheVariants.{One, Two}
 use Rattle.blog_row.specs.declared.rows_head.RowsHead.{RowsHead}
 use Rattle.blog_row.specs.Column.{Layout}
 use Rattle.blog_row.specs.Image.{IsSomeImage}
@@ -123,7 +125,7 @@ table-numbered tables v n number at = by v.table number at
 -- one that is read passes, and is kept
 pub rows-kept : (tables : List Table) (sel : Selection) (statement : List Placed) (p : Placed) (rows : RowsKind) (v : MapSeen) (m : Placed) (layout : Layout) (k : KeptRows) (b : RowsBody) → kind_at p ≡ kind.Rows rows
     → IsMapHeld sel statement (table_id p.event.body) v m → option_map (λ (t : SelectedTable). layout_columns t.layout) v.table ≡ Some layout → rows_of rows layout p.event.body ≡ Ok b
-    → IsNumbered tables v → k.map ≡ v.at → option_map (λ (t : SelectedTable). t.number) v.table ≡ Some k.table → k.kind ≡ rows → k.images ≡ length b.images
+    → IsNumbered tables v → k.map ≡ v.at → option_map (λ (t : SelectedTable). t.number) v.table ≡ Some k.table → k.action ≡ rows.action → k.images ≡ length b.images
     → (rows_check sel rows p.event.body (map_in (reverse statement) (table_id p.event.body)) ≡ None) × IsKept tables (Some k) (kept_rows sel (reverse statement) p)
 rows-kept tables sel statement p rows v m layout k b is held some read numbered at number kind_is images =
     let on = selected (is_selected sel m.event.body) (layout_of m.event.body) layout (sym some ∙ held.layout) in
@@ -179,19 +181,20 @@ alone (Some cause) = refl
 -- ---- the body's fixed part
 
 -- a head that was read
-pub head-long : (body : List ℕ) (head : RowsHead) → Ok head ≡ head_of body → nat_le fixed_len (length body) ≡ true
-head-long body head h = by (nat_le fixed_len (length body)) refl
+pub head-long : (version : RowsVersion) (body : List ℕ) (head : RowsHead) → Ok head ≡ head_of version body → nat_le (fixed_len version) (length body) ≡ true
+head-long version body head h = by (nat_le (fixed_len version) (length body)) refl
   where
-    by : (b : Bool) → nat_le fixed_len (length body) ≡ b → nat_le fixed_len (length body) ≡ true
+    by : (b : Bool) → nat_le (fixed_len version) (length body) ≡ b → nat_le (fixed_len version) (length body) ≡ true
     by true e = e
     by false e = let bad : ◌≡◌ {A = Result RowsHead RowFault} (Ok head) (Err row.BadBody) = rw e at h in absurd (cc)
 
 -- is longer than an id
-pub long-id : (body : List ℕ) → nat_le fixed_len (length body) ≡ true → 6 ≤ length body
-long-id body h = let long : 10 ≤ length body = leb-true 10 (length body) h in omega arith
+pub long-id : (version : RowsVersion) (body : List ℕ) → nat_le (fixed_len version) (length body) ≡ true → 6 ≤ length body
+long-id One body h = let long : 8 ≤ length body = leb-true 8 (length body) h in omega arith
+long-id Two body h = let long : 10 ≤ length body = leb-true 10 (length body) h in omega arith
 
 -- what decides of a rows event inside a transaction whose fixed part is there
-pub rows-fault : (sel : Selection) (p : Placed) (earlier : List Placed) (rows : RowsKind) → kind_at p ≡ kind.Rows rows → is_inside (place earlier) ≡ true → nat_le fixed_len (length p.event.body) ≡ true
+pub rows-fault : (sel : Selection) (p : Placed) (earlier : List Placed) (rows : RowsKind) → kind_at p ≡ kind.Rows rows → is_inside (place earlier) ≡ true → nat_le (fixed_len rows.version) (length p.event.body) ≡ true
     → event_fault sel earlier p ≡ first_failing (rows_check sel rows p.event.body (map_in (reverse (since earlier)) (table_id p.event.body)) ∷ [])
 rows-fault sel p earlier rows is inside long = rw (is, inside, long) refl
 

@@ -165,7 +165,7 @@ step-of sel earlier p e = by_kind (kind_at p) refl e
         other (plain kind.Announcement is (λ x. refl) refl refl refl (sym (outside-not-inside (place earlier) (needs-passed (is_outside (place earlier)) OutOfPlace [] h).0)))
     by_kind (kind.Rows rows_kind) is h =
         let check = rows_check sel rows_kind p.event.body (map_in (reverse (since earlier)) (table_id p.event.body)) in
-        let long : Option Cause = needs (nat_le fixed_len (length p.event.body)) BadBody in
+        let long : Option Cause = needs (nat_le (fixed_len rows_kind.version) (length p.event.body)) BadBody in
         let inside = first_inside (long ∷ check ∷ []) h in
         let sized = first-passed long (check ∷ []) inside.1 in
         rows (record { rows = rows_kind; kind_is = is; before = inside.0; checked = rows-checked sel (since earlier) p rows_kind is (first-passed check [] sized.1).0 })

@@ -105,7 +105,7 @@ checks sel earlier p kind.TableMap =
     ∷ needs (not (list_any (clashes_by_id p) (since earlier))) MapClash
     ∷ (if is_selected sel p.event.body then selected_map_checks earlier p else [])
 checks sel earlier p (kind.Rows rows) =
-    needs (is_inside (place earlier)) OutOfPlace ∷ needs (nat_le fixed_len (length p.event.body)) BadBody
+    needs (is_inside (place earlier)) OutOfPlace ∷ needs (nat_le (fixed_len rows.version) (length p.event.body)) BadBody
     ∷ rows_check sel rows p.event.body (map_in (reverse (since earlier)) (table_id p.event.body)) ∷ []
 checks sel earlier p kind.PartialRows = Some PartialImage ∷ []
 checks sel earlier p kind.Skippable = []

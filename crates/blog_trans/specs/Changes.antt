@@ -3,8 +3,8 @@ use Rattle.std.specs.Prelude.{ℕ, Bool, false, if◌then◌else◌, List, [], �
 use Rattle.std.specs.Option.{option_map_or}
 use Rattle.std.specs.List.{flat_map, list_any}
 use Rattle.blog_row.specs.declared.fault.RowFault.{RowFault}
-use Rattle.blog_row.specs.declared.kind.RowsKind.{RowsKind}
-use Rattle.blog_row.specs.declared.kind.RowsKind.TheVariants.{Write, Update, Delete}
+use Rattle.blog_row.specs.declared.kind.RowsAction.{RowsAction}
+use Rattle.blog_row.specs.declared.kind.RowsAction.TheVariants.{Write, Update, Delete}
 use Rattle.blog_row.specs.Column.{Layout}
 use Rattle.blog_row.specs.Image.{Row, row_of}
 use Rattle.blog_row.specs.TableMap.{Table, names_of, layout_of}
@@ -35,13 +35,13 @@ updates t [] = []
 updates t (before ∷ []) = []
 updates t (before ∷ after ∷ rows) = Updated t before after ∷ updates t rows
 
-abbrev pub changes_by_kind : RowsKind → Table → List Row → List Change
-changes_by_kind Write t rows = map (Inserted t) rows
-changes_by_kind Update t rows = updates t rows
-changes_by_kind Delete t rows = map (Deleted t) rows
+abbrev pub changes_by_action : RowsAction → Table → List Row → List Change
+changes_by_action Write t rows = map (Inserted t) rows
+changes_by_action Update t rows = updates t rows
+changes_by_action Delete t rows = map (Deleted t) rows
 
 abbrev pub changes_of_rows : RowsEvent → List Change
-changes_of_rows r = changes_by_kind r.kind (table_of r.map) (map (row_by (layout_of r.map)) r.images)
+changes_of_rows r = changes_by_action r.content.kind.action (table_of r.map) (map (row_by (layout_of r.map)) r.content.images)
 
 abbrev pub changes_of_statement : Statement → List Change
 changes_of_statement s = flat_map changes_of_rows s.rows

@@ -1,13 +1,14 @@
 -- The groups of a log under a selection: transactions of statements of table maps and rows events. First as they stand
 -- in the log, each event with its place; then as values, without what the text of the groups doesn't copy.
-use Rattle.std.specs.Prelude.{ℕ, ◌-◌, ◌%◌, ◌&&◌, not, if◌then◌else◌, List, [], ◌∷◌, map, filter, find, Option, Some, None, Result, Ok, Err, option_and_then, option_map, bytes_eq}
+use Rattle.std.specs.Prelude.{ℕ, ◌&&◌, not, if◌then◌else◌, List, [], ◌∷◌, map, filter, find, Option, Some, None, Result, Ok, Err, option_and_then, option_map, bytes_eq}
 use Rattle.std.specs.List.{list_any, filter_map}
 use Rattle.blog_event.specs.Event.{Event, unplaced}
 use Rattle.blog_event.specs.File.{Placed, placed_from, read}
 use Rattle.blog_event.specs.Format.{front_while}
 use Rattle.blog_row.specs.declared.fault.RowFault.{RowFault}
 use Rattle.blog_row.specs.declared.kind.RowsKind.{RowsKind}
-use Rattle.blog_row.specs.RowsEvent.{RowsBody, table_id, flags_of}
+use Rattle.blog_row.specs.RowsEvent.{RowsBody, table_id}
+use Rattle.blog_row.specs.RowsWriting.{RowsContent, content_of}
 use Rattle.blog_trans.specs.declared.kind.EventKind.{EventKind}
 use Rattle.blog_trans.specs.declared.kind.EventKind.TheVariants as kind
 use Rattle.blog_trans.specs.Selection.{Selection}
@@ -115,12 +116,7 @@ pub record RowsEvent : Type 0 where
   pub server_id : ℕ
   pub header_flags : ℕ
   pub map : List ℕ
-  pub kind : RowsKind
-  pub id : List ℕ
-  pub flags : ℕ
-  pub count : List ℕ
-  pub bitmaps : List (List ℕ)
-  pub images : List (List ℕ)
+  pub content : RowsContent
 
 -- the maps and rows events of a statement
 pub record Statement : Type 0 where
@@ -139,12 +135,7 @@ rows_value r = record {
   server_id = r.event.event.server_id;
   header_flags = r.event.event.flags;
   map = r.map.event.body;
-  kind = r.kind;
-  id = r.body.id;
-  flags = flags_of r.event.event.body - flags_of r.event.event.body % 2;
-  count = r.body.count;
-  bitmaps = r.body.bitmaps;
-  images = r.body.images;
+  content = content_of r.kind r.body;
 }
 
 abbrev pub event_value : Placed → Event

@@ -102,7 +102,7 @@ AreColumns sel earlier p result layouts =
 abbrev pub IsReadBy : RowsKind → Layout → Placed → MapSeen → Result (Option KeptRows) Fault → Type 0
 IsReadBy kind layout p map result =
     MatchResult result (λ kept. (k : KeptRows) × (body : RowsBody) × (kept ≡ Some k) × (rows_of kind layout p.event.body ≡ Ok body)
-    × (k.map ≡ map.at) × (option_map (λ t. t.number) map.table ≡ Some k.table) × (k.kind ≡ kind) × (k.images ≡ length body.images))
+    × (k.map ≡ map.at) × (option_map (λ t. t.number) map.table ≡ Some k.table) × (k.action ≡ kind.action) × (k.images ≡ length body.images))
     (λ fault. (cause : RowFault) × (rows_of kind layout p.event.body ≡ Err cause) × (fault ≡ cause_of_row cause p.pos))
 
 -- ---- all of it

@@ -26,7 +26,7 @@ abbrev pub IsKept : List Table → Option KeptRows → Option PlacedRows → Typ
 IsKept tables None None = ⊤
 IsKept tables None (Some r) = ⊥
 IsKept tables (Some kept) None = ⊥
-IsKept tables (Some kept) (Some r) = (kept.map ≡ r.map.pos) × (slice_get tables kept.table ≡ Some (table_of r.map.event.body)) × (kept.kind ≡ r.kind) × (kept.images ≡ length r.body.images)
+IsKept tables (Some kept) (Some r) = (kept.map ≡ r.map.pos) × (slice_get tables kept.table ≡ Some (table_of r.map.event.body)) × (kept.action ≡ r.kind.action) × (kept.images ≡ length r.body.images)
 
 -- it begins no transaction, ends none, and is no rows event
 abbrev pub is_other_kind : EventKind → Bool

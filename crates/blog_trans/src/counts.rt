@@ -3,7 +3,7 @@
 use crate::maps::Maps;
 use crate::taken::KeptRows;
 use blog_event::Fault;
-use blog_row::RowsKind;
+use blog_row::RowsAction;
 use std::alloc::Allocator;
 
 /// How many rows of a table are inserted, updated and deleted.
@@ -38,23 +38,23 @@ impl Count {
     };
 
     /// These, and the rows of one more rows event, which has so many images.
-    fn with(self, kind: RowsKind, images: usize) -> Count
+    fn with(self, action: RowsAction, images: usize) -> Count
         requires inserts { self.inserts + images < 2 ^ 64 }
         requires updates { self.updates + images < 2 ^ 64 }
         requires deletes { self.deletes + images < 2 ^ 64 }
-        ensures { result ≡ with_images kind images self }
+        ensures { result ≡ with_images action images self }
     {
         let images = images as u64;
-        match kind {
-            RowsKind::Write => Count {
+        match action {
+            RowsAction::Write => Count {
                 inserts: self.inserts + images,
                 ..self
             },
-            RowsKind::Update => Count {
+            RowsAction::Update => Count {
                 updates: self.updates + images / 2,
                 ..self
             },
-            RowsKind::Delete => Count {
+            RowsAction::Delete => Count {
                 deletes: self.deletes + images,
                 ..self
             },
@@ -108,7 +108,7 @@ impl<A: Allocator + Copy> Counts<A> {
         requires few { AreFew 4294967295 self.old }
         requires images { kept.now.images ≤ 4294967295 }
         ensures counts { (tables : List Table) (cs : List Change) (ts : List Table) (r : RowsEvent) → AreCounts tables cs ts self.old →
-            r.kind ≡ kept.now.kind → slice_get tables kept.now.table ≡ Some (table_of r.map) → length r.images ≡ kept.now.images →
+            r.content.kind.action ≡ kept.now.action → slice_get tables kept.now.table ≡ Some (table_of r.map) → length r.content.images ≡ kept.now.images →
             OnOk result (AreCounts tables (cs ++ changes_of_rows r) ts self.new) }
         ensures few { (n : ℕ) → AreFew n self.old → OnOk result (AreFew (n + kept.now.images) self.new) }
         ensures refused { IfErr result (λ fault. fault ≡ OutOfMemory) }
@@ -118,7 +118,7 @@ impl<A: Allocator + Copy> Counts<A> {
     {
         self.reach(kept.table)?;
         let before = self.rows[kept.table as usize];
-        self.rows[kept.table as usize] = before.with(kept.kind, kept.images);
+        self.rows[kept.table as usize] = before.with(kept.action, kept.images);
         Ok(())
     }
 

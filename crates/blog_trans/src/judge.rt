@@ -74,7 +74,7 @@ fn kept_rows<'a>(
     Ok(Some(KeptRows {
         map: map.at,
         table: table.number,
-        kind,
+        action: kind.action,
         images: read.1,
     }))
 }
@@ -257,7 +257,7 @@ impl<'a, A: Allocator + Copy> Judge<'a, A> {
         if !self.place.is_inside() {
             return Err(Fault::OutOfPlace { pos });
         }
-        let head = match RowsHead::read(event.body) {
+        let head = match RowsHead::read(kind.version, event.body) {
             Ok(head) => head,
             Err(fault) => return Err(body_fault(fault, pos)),
         };

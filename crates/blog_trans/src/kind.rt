@@ -225,15 +225,21 @@ mod tests {
             (26, 0x80, EventKind::Unknown),
             (28, 0x80, EventKind::Skippable),
             (28, 0x08, EventKind::Unknown),
-            (30, 0, EventKind::Rows(RowsKind::Write)),
-            (31, 0, EventKind::Rows(RowsKind::Update)),
-            (32, 0, EventKind::Rows(RowsKind::Delete)),
+            (20, 0x80, EventKind::Unknown),
+            (22, 0, EventKind::Unknown),
             (34, 0, EventKind::Announcement),
             (39, 0, EventKind::PartialRows),
             (159, 0x80, EventKind::Skippable),
             (160, 0x80, EventKind::Unknown),
         ] {
             assert_eq!(rt; event_kind(&event_of(number, flags, &[])), kind);
+        }
+        for number in [23, 24, 25, 30, 31, 32] {
+            let rows = RowsKind::of_type(number).expect(&rt, "a kind");
+            assert_eq!(rt;
+                event_kind(&event_of(number, 0, &[])),
+                EventKind::Rows(rows)
+            );
         }
     }
 }

@@ -1,6 +1,6 @@
 //! What the groups take of an event.
 
-use blog_row::RowsKind;
+use blog_row::RowsAction;
 
 /// A rows event of a selected table.
 #[derive(Clone, Copy, Debug)]
@@ -10,7 +10,7 @@ pub(crate) struct KeptRows {
     /// The number of its table.
     pub(crate) table: u32,
     /// What is done to the rows.
-    pub(crate) kind: RowsKind,
+    pub(crate) action: RowsAction,
     /// How many images it has.
     pub(crate) images: usize,
 }

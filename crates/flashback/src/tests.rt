@@ -6,6 +6,7 @@ mod logs;
 mod refused_memory;
 mod result_files;
 mod selections;
+mod versions;
 mod writers;
 mod wrong_words;
 

@@ -45,6 +45,25 @@ pub static NEWER_FRONT: [u8; 126] = [
     0x00, 0x00, 0x00, 0x00, 0x00,
 ];
 
+/// The same of a server of version `5.5.62`, which writes rows events of version 1: 27 types of events, and neither a
+/// checksum algorithm nor a checksum.
+#[rattlefmt::skip]
+pub static OLD_FRONT: [u8; 107] = [
+    // 0: the magic
+    0xFE, 0x62, 0x69, 0x6E,
+    // 4: header
+    0x00, 0x00, 0x00, 0x00, 0x0F, 0x01, 0x00, 0x00, 0x00, 0x67, 0x00, 0x00, 0x00, 0x6B, 0x00, 0x00,
+    0x00, 0x00, 0x00,
+    // 23: binlog version, server version, creation time, header length
+    0x04, 0x00, 0x35, 0x2E, 0x35, 0x2E, 0x36, 0x32, 0x00, 0x00, 0x00, 0x00, 0x00, 0x00, 0x00, 0x00,
+    0x00, 0x00, 0x00, 0x00, 0x00, 0x00, 0x00, 0x00, 0x00, 0x00, 0x00, 0x00, 0x00, 0x00, 0x00, 0x00,
+    0x00, 0x00, 0x00, 0x00, 0x00, 0x00, 0x00, 0x00, 0x00, 0x00, 0x00, 0x00, 0x00, 0x00, 0x00, 0x00,
+    0x00, 0x00, 0x00, 0x00, 0x00, 0x00, 0x00, 0x00, 0x13,
+    // 80: post-header lengths, from type 1 on
+    0x38, 0x0D, 0x00, 0x08, 0x00, 0x12, 0x00, 0x04, 0x04, 0x04, 0x04, 0x12, 0x00, 0x00, 0x5C, 0x00,
+    0x04, 0x1A, 0x08, 0x00, 0x00, 0x00, 0x08, 0x08, 0x08, 0x02, 0x00,
+];
+
 /// The length of an event's header.
 const HEADER_LEN: usize = 19;
 
@@ -98,7 +117,7 @@ pub enum Part<'p> {
     },
     /// A table map.
     Map(Table<'p>),
-    /// A rows event of version 2.
+    /// A rows event, of version 2 unless it is made one of version 1.
     Rows(Rows<'p>),
     /// An event of any type, with its header's flags and its body.
     Other {
@@ -201,6 +220,17 @@ impl<'p> Part<'p> {
         }
     }
 
+    /// The same rows event, of version 1.
+    pub fn old(self) -> Part<'p> {
+        match self {
+            Part::Rows(rows) => Part::Rows(Rows {
+                kind: rows.kind.wrapping_sub(7),
+                ..rows
+            }),
+            other => other,
+        }
+    }
+
     /// The same rows event with these extra bytes.
     pub fn with_extra(self, extra: &'p [u8]) -> Part<'p> {
         match self {
@@ -288,10 +318,12 @@ fn put_rows_with(log: &mut Vec<u8>, rows: &Rows<'_>, images: &[u8]) -> Result<()
     let [low, high] = rows.flags.to_le_bytes();
     let extra_len = low_byte(rows.extra).wrapping_add(2);
     let numbers = [0, 0, low, high, extra_len, 0];
+    // Version 1 has no extra length.
+    let fixed = if rows.kind < 30 { 4 } else { 6 };
     let count = [rows.count];
     let body = [
         &id,
-        numbers.as_slice(),
+        &numbers[..fixed],
         rows.extra,
         &count,
         rows.bitmaps,

@@ -4,7 +4,7 @@ ghost use Rattle.std.specs.Prelude.{IsSome};
 ghost use Rattle.blog_trans.specs.IndexView.{index_groups, statement_at};
 
 use blog_event::{Fault, Log};
-use blog_row::RowsKind;
+use blog_row::RowsAction;
 use blog_trans::{Index, Selection, TableCount, index};
 use std::alloc::Global;
 
@@ -15,8 +15,8 @@ pub enum Shown {
     Statement,
     /// A table map, with its table id.
     Map(u32, u64),
-    /// A rows event, with the table id of its map, its kind and how many rows it has.
-    Rows(u32, u64, RowsKind, usize),
+    /// A rows event, with the table id of its map, what it does and how many rows it has.
+    Rows(u32, u64, RowsAction, usize),
     End(u32),
 }
 
@@ -55,7 +55,7 @@ fn show_statement(
     for r in 0..index.rows(t, s) {
         let (event, map, rows) = index.rows_event(t, s, r);
         let count = rows.rows().count();
-        groups.push(Shown::Rows(event.pos, map.id(), rows.kind(), count))?;
+        groups.push(Shown::Rows(event.pos, map.id(), rows.kind().action, count))?;
     }
     Ok(())
 }

@@ -57,16 +57,28 @@ pub fn with_bytes(at: usize, bytes: &[u8]) -> [u8; 259] {
     log
 }
 
-/// A log of a format description with this version text, cut after 50 bytes, and with these post-header lengths, from type 1 on.
-pub fn log_of(alloc: Global, version: &[u8], lengths: &[u8]) -> Result<Vec<u8>, AllocError> {
+/// A log of a format description with this version text, cut after 50 bytes, these post-header lengths, from type 1 on, and
+/// the bytes behind them.
+pub fn log_with(
+    alloc: Global,
+    version: &[u8],
+    lengths: &[u8],
+    behind: &[u8],
+) -> Result<Vec<u8>, AllocError> {
     let mut log = Vec::new(alloc);
-    let size = lengths.len().saturating_add(81).min(255) as u8;
+    let rest = lengths.len().saturating_add(behind.len());
+    let size = rest.saturating_add(76).min(255) as u8;
     log.extend_from_slice(&LOG[..13])?;
     log.extend_from_slice(&[size, 0, 0, 0, 0, 0, 0, 0, 0, 0, 4, 0])?;
     log.extend_from_slice(version)?;
     log.resize(75, 0)?;
     log.extend_from_slice(&[0, 0, 0, 0, 19])?;
     log.extend_from_slice(lengths)?;
-    log.extend_from_slice(&[0, 0, 0, 0, 0])?;
+    log.extend_from_slice(behind)?;
     Ok(log)
+}
+
+/// The same with no checksum algorithm and a checksum behind the lengths, as servers from 5.6.1 on write it.
+pub fn log_of(alloc: Global, version: &[u8], lengths: &[u8]) -> Result<Vec<u8>, AllocError> {
+    log_with(alloc, version, lengths, &[0, 0, 0, 0, 0])
 }

@@ -1,6 +1,6 @@
 //! Which bytes are opened as a log, and why others are not.
 
-use super::logs::{LOG, log_of, with_bytes};
+use super::logs::{LOG, log_of, log_with, with_bytes};
 use crate::{Fault, Log};
 use std::test::Fail;
 
@@ -54,8 +54,6 @@ fn counts_the_post_header_lengths(rt: HostRuntime) -> Result<(), Fail> {
         let few = log_of(rt.alloc(), b"5.6.51", &lengths[..count])?;
         assert_eq!(rt; Log::open(&few).err(), Some(BAD_FORMAT), "of {count}");
     }
-    let older = log_of(rt.alloc(), b"5.5.62", &[])?;
-    assert_eq!(rt; Log::open(&older).err(), Some(OLD_SERVER));
     Ok(())
 }
 
@@ -113,8 +111,8 @@ fn refuses_the_front_of_a_log(rt: HostRuntime) {
 }
 
 #[test]
-fn serves_from_5_6_1_on(rt: HostRuntime) -> Result<(), Fail> {
-    for (version, served) in [
+fn versions_are_three_numbers(rt: HostRuntime) -> Result<(), Fail> {
+    for (version, readable) in [
         (b"5.6.1".as_slice(), true),
         (b"5.6.51".as_slice(), true),
         (b"5.7.44-log".as_slice(), true),
@@ -124,9 +122,10 @@ fn serves_from_5_6_1_on(rt: HostRuntime) -> Result<(), Fail> {
             b"5.6.51-a-text-that-has-no-zero-byte-in-its-field..".as_slice(),
             true,
         ),
-        (b"5.6.0".as_slice(), false),
-        (b"5.5.62".as_slice(), false),
-        (b"4.9.9".as_slice(), false),
+        (b"5.6.0".as_slice(), true),
+        (b"5.5.62".as_slice(), true),
+        (b"4.9.9".as_slice(), true),
+        (b"0.0.0".as_slice(), true),
         (b"5.6.1000".as_slice(), false),
         (b"abc".as_slice(), false),
         (b"565".as_slice(), false),
@@ -136,8 +135,52 @@ fn serves_from_5_6_1_on(rt: HostRuntime) -> Result<(), Fail> {
         (b"".as_slice(), false),
     ] {
         let log = log_of(rt.alloc(), version, &LOG[80..115])?;
-        let fault = if served { None } else { Some(OLD_SERVER) };
+        let fault = if readable { None } else { Some(OLD_SERVER) };
         assert_eq!(rt; Log::open(&log).err(), fault, "of {version:?}");
+    }
+    Ok(())
+}
+
+#[test]
+fn old_servers_have_no_algorithm(rt: HostRuntime) -> Result<(), Fail> {
+    // Whatever stands behind the 25th length, nothing included, is unread.
+    for behind in [[].as_slice(), &[1], &LOG[105..107], &[1; 40]] {
+        for version in [b"5.6.0".as_slice(), b"5.5.62", b"5.1.73-log"] {
+            let log = log_with(rt.alloc(), version, &LOG[80..105], behind)?;
+            let opened = Log::open(&log)?;
+            assert_eq!(rt;
+                opened.first() as usize,
+                105 + behind.len(),
+                "of {version:?}"
+            );
+        }
+        let newer = log_with(rt.alloc(), b"5.6.1", &LOG[80..105], behind)?;
+        assert_eq!(rt; Log::open(&newer).err(), Some(BAD_FORMAT));
+    }
+    Ok(())
+}
+
+#[test]
+fn old_servers_have_25_lengths(rt: HostRuntime) -> Result<(), Fail> {
+    for count in [0, 1, 19, 24] {
+        let few = log_with(rt.alloc(), b"5.5.62", &LOG[80..80 + count], &[])?;
+        assert_eq!(rt; Log::open(&few).err(), Some(BAD_FORMAT), "of {count}");
+        let unreadable = log_with(rt.alloc(), b"abc", &LOG[80..80 + count], &[])?;
+        assert_eq!(rt;
+            Log::open(&unreadable).err(),
+            Some(OLD_SERVER),
+            "of {count}"
+        );
+    }
+    // The lengths of the types 2, 19, 23, 24 and 25 are checked, and no others.
+    for kind in 1..=25 {
+        let mut lengths = [0; 25];
+        lengths.copy_from_slice(&LOG[80..105]);
+        lengths[kind - 1] = 10;
+        let log = log_with(rt.alloc(), b"5.5.62", &lengths, &[])?;
+        let checked = [2, 19, 23, 24, 25].contains(&kind);
+        let fault = if checked { Some(BAD_FORMAT) } else { None };
+        assert_eq!(rt; Log::open(&log).err(), fault, "of type {kind}");
     }
     Ok(())
 }

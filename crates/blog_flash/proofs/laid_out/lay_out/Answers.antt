@@ -4,7 +4,7 @@ use Rattle.blog_event.specs.Event.{event_of, event_size, event_text}
 use Rattle.blog_event.specs.File.{magic, end_of}
 use Rattle.blog_trans.specs.Groups.{placed_groups}
 use Rattle.blog_trans.specs.IndexView.{index_bytes, index_selection}
-use Rattle.blog_flash.specs.declared.order.Order.TheVariants.{Forward}
+use Rattle.blog_row.specs.declared.order.Order.TheVariants.{Forward}
 use Rattle.blog_flash.specs.LaidOut.{transactions_of}
 use Rattle.blog_flash.specs.Texts.{group_events}
 use Rattle.blog_flash.proofs.Placing.{end-above}

@@ -1,7 +1,7 @@
 use Rattle.std.proofs.Common.{arith}
 use Rattle.blog_trans.specs.Groups.{PlacedStatement, event_value}
 use Rattle.blog_trans.specs.IndexView.{index_groups, statement_at, placed}
-use Rattle.blog_flash.specs.declared.order.Order.TheVariants.{Forward}
+use Rattle.blog_row.specs.declared.order.Order.TheVariants.{Forward}
 use Rattle.blog_flash.proofs.Numbered.{some-over, next-over, done-over}
 use Rattle.blog_flash.proofs.Placing.{one-splits, put-none, put-room, put-next, put-all}
 use Rattle.blog_flash.proofs.laid_out.put_maps.Goals as goal

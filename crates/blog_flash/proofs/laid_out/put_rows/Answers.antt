@@ -1,10 +1,10 @@
 use Rattle.std.proofs.Common.{sym, ap, arith}
 use Rattle.blog_trans.specs.Groups.{PlacedStatement}
-use Rattle.blog_trans.specs.IndexView.{index_bytes, index_selection, index_groups, statement_at, rows_at}
+use Rattle.blog_trans.specs.IndexView.{index_groups, statement_at, rows_at}
 use Rattle.blog_flash.specs.LaidOut.{number_in}
 use Rattle.blog_flash.proofs.Numbered.{some-over, number-within, done-rows}
 use Rattle.blog_flash.proofs.Placing.{one-splits, put-none, put-room, put-next, put-all}
-use Rattle.blog_flash.proofs.ReadRows.{rows-at-read, next-seen, seen-text}
+use Rattle.blog_flash.proofs.ReadRows.{next-seen}
 use Rattle.blog_flash.proofs.laid_out.put_rows.Goals as goal
 
 pub loop-i-init : goal.loop-i-init
@@ -15,19 +15,12 @@ rows_event-requires g c =
     let within = number-within c.args.order c.rows-len.result c.loop-i.i c.loop-i-test.true in
     rw c.number.ensures (some-over (λ (x : PlacedStatement). x.rows) (statement_at (index_groups c.args.index.now) c.args.t c.args.s) c.rows-len.result (number_in c.args.order c.rows-len.result c.loop-i.i) c.rows-len.ensures within)
 
-pub put_rows_event-requires-clause-body : goal.put_rows_event-requires-clause-body
-put_rows_event-requires-clause-body g c =
-    let p = rows_at (index_groups c.args.index.now) c.args.t c.args.s c.number.result in
-    seen-text p c.rows_event.result.0 c.rows_event.result.2 c.rows_event.ensures.event c.rows_event.ensures.read
-    (rows-at-read (index_bytes c.args.index.now) (index_selection c.args.index.now) c.args.t c.args.s c.number.result)
-
 pub put_rows_event-requires-clause-room : goal.put_rows_event-requires-clause-room
 put_rows_event-requires-clause-room g c =
     let o = statement_at (index_groups c.args.index.now) c.args.t c.args.s in
     let p = rows_at (index_groups c.args.index.now) c.args.t c.args.s c.number.result in
     let next = one-splits _ _ _ (next-seen c.args.order o c.rows-len.result c.loop-i.i p c.rows_event.result.0 c.rows_event.result.2 c.rows-len.ensures c.loop-i-test.true
-    (ap (rows_at (index_groups c.args.index.now) c.args.t c.args.s) (sym c.number.ensures)) c.rows_event.ensures.event c.rows_event.ensures.kind c.rows_event.ensures.read
-    (rows-at-read (index_bytes c.args.index.now) (index_selection c.args.index.now) c.args.t c.args.s c.number.result)) in
+    (ap (rows_at (index_groups c.args.index.now) c.args.t c.args.s) (sym c.number.ensures)) c.rows_event.ensures.event c.rows_event.ensures.kind c.rows_event.ensures.read) in
     let kept = c.loop-i.invariant.capacity in
     let room = c.requires.room in
     put-room _ _ _ _ _ _ _ _ _ c.loop-i.invariant.put next (omega arith)
@@ -37,8 +30,7 @@ put_rows_event-requires-clause-short g c =
     let o = statement_at (index_groups c.args.index.now) c.args.t c.args.s in
     let p = rows_at (index_groups c.args.index.now) c.args.t c.args.s c.number.result in
     let next = one-splits _ _ _ (next-seen c.args.order o c.rows-len.result c.loop-i.i p c.rows_event.result.0 c.rows_event.result.2 c.rows-len.ensures c.loop-i-test.true
-    (ap (rows_at (index_groups c.args.index.now) c.args.t c.args.s) (sym c.number.ensures)) c.rows_event.ensures.event c.rows_event.ensures.kind c.rows_event.ensures.read
-    (rows-at-read (index_bytes c.args.index.now) (index_selection c.args.index.now) c.args.t c.args.s c.number.result)) in
+    (ap (rows_at (index_groups c.args.index.now) c.args.t c.args.s) (sym c.number.ensures)) c.rows_event.ensures.event c.rows_event.ensures.kind c.rows_event.ensures.read) in
     put-room _ _ _ _ _ _ _ _ _ c.loop-i.invariant.put next c.requires.short
 
 pub loop-i-preserved : goal.loop-i-preserved
@@ -46,8 +38,7 @@ loop-i-preserved g c =
     let o = statement_at (index_groups c.args.index.now) c.args.t c.args.s in
     let p = rows_at (index_groups c.args.index.now) c.args.t c.args.s c.number.result in
     let next = one-splits _ _ _ (next-seen c.args.order o c.rows-len.result c.loop-i.i p c.rows_event.result.0 c.rows_event.result.2 c.rows-len.ensures c.loop-i-test.true
-    (ap (rows_at (index_groups c.args.index.now) c.args.t c.args.s) (sym c.number.ensures)) c.rows_event.ensures.event c.rows_event.ensures.kind c.rows_event.ensures.read
-    (rows-at-read (index_bytes c.args.index.now) (index_selection c.args.index.now) c.args.t c.args.s c.number.result)) in
+    (ap (rows_at (index_groups c.args.index.now) c.args.t c.args.s) (sym c.number.ensures)) c.rows_event.ensures.event c.rows_event.ensures.kind c.rows_event.ensures.read) in
     let kept = c.loop-i.invariant.capacity in
     let more = c.put_rows_event.ensures.capacity in
     record {

@@ -2,7 +2,7 @@ use Rattle.std.proofs.Common.{refl, ap, sym, ◌∙◌, arith}
 use Rattle.blog_event.specs.File.{end_of}
 use Rattle.blog_trans.specs.Groups.{event_value, PlacedStatement}
 use Rattle.blog_trans.specs.IndexView.{index_groups, statement_at, placed}
-use Rattle.blog_flash.specs.declared.order.Order.TheVariants.{Forward}
+use Rattle.blog_row.specs.declared.order.Order.TheVariants.{Forward}
 use Rattle.blog_flash.proofs.Numbered.{some-over, next-over, done-over}
 use Rattle.blog_flash.proofs.Placing.{one-splits, first-within, rest-ends}
 use Rattle.blog_flash.proofs.lengths.maps_end.Goals as goal

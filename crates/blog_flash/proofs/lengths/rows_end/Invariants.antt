@@ -3,7 +3,7 @@ use Rattle.blog_event.specs.File.{end_of}
 use Rattle.blog_trans.specs.IndexView.{index_groups}
 use Rattle.blog_flash.specs.LaidOut.{rows_of}
 use Rattle.blog_flash.specs.Texts.{rows_events}
-use Rattle.blog_flash.specs.declared.order.Order.TheVariants.{Forward}
+use Rattle.blog_row.specs.declared.order.Order.TheVariants.{Forward}
 use Rattle.blog_flash.proofs.lengths.rows_end.Given as goal
 
 -- where the rows events end that are left

@@ -1,6 +1,6 @@
 use Rattle.std.proofs.Common.{◌∙◌, arith}
 use Rattle.blog_trans.specs.IndexView.{index_groups, statement_at}
-use Rattle.blog_flash.specs.declared.order.Order.TheVariants.{Forward}
+use Rattle.blog_row.specs.declared.order.Order.TheVariants.{Forward}
 use Rattle.blog_flash.proofs.GroupParts.{statement-parts}
 use Rattle.blog_flash.proofs.Placing.{first-within, rest-ends}
 use Rattle.blog_flash.proofs.lengths.statement_end.Goals as goal

@@ -3,7 +3,7 @@ use Rattle.std.specs.Prelude.{slice_get}
 use Rattle.blog_event.specs.File.{end_of}
 use Rattle.blog_trans.specs.Groups.{PlacedTransaction}
 use Rattle.blog_trans.specs.IndexView.{index_groups}
-use Rattle.blog_flash.specs.declared.order.Order.TheVariants.{Forward}
+use Rattle.blog_row.specs.declared.order.Order.TheVariants.{Forward}
 use Rattle.blog_flash.proofs.Numbered.{some-over}
 use Rattle.blog_flash.proofs.GroupParts.{next-statements, done-statements}
 use Rattle.blog_flash.proofs.Placing.{first-within, rest-ends}

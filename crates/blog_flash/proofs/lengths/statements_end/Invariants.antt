@@ -4,7 +4,7 @@ use Rattle.blog_event.specs.File.{end_of}
 use Rattle.blog_trans.specs.IndexView.{index_groups}
 use Rattle.blog_flash.specs.LaidOut.{statements_of}
 use Rattle.blog_flash.specs.Texts.{statement_events}
-use Rattle.blog_flash.specs.declared.order.Order.TheVariants.{Forward}
+use Rattle.blog_row.specs.declared.order.Order.TheVariants.{Forward}
 use Rattle.blog_flash.proofs.lengths.statements_end.Given as goal
 
 -- where the statements end that are left

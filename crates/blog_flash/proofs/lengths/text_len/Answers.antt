@@ -1,6 +1,6 @@
 use Rattle.std.proofs.Common.{sym, ◌∙◌, arith}
 use Rattle.blog_trans.specs.IndexView.{index_bytes, index_selection}
-use Rattle.blog_flash.specs.declared.order.Order.TheVariants.{Forward}
+use Rattle.blog_row.specs.declared.order.Order.TheVariants.{Forward}
 use Rattle.blog_flash.proofs.GroupParts.{log-end}
 use Rattle.blog_flash.proofs.lengths.text_len.Goals as goal
 

@@ -5,7 +5,7 @@ use Rattle.blog_trans.specs.Groups.{event_value}
 use Rattle.blog_trans.specs.IndexView.{index_groups, placed}
 use Rattle.blog_flash.specs.LaidOut.{statements_of}
 use Rattle.blog_flash.specs.Texts.{statement_events}
-use Rattle.blog_flash.specs.declared.order.Order.TheVariants.{Forward}
+use Rattle.blog_row.specs.declared.order.Order.TheVariants.{Forward}
 use Rattle.blog_flash.proofs.GroupParts.{transaction-parts}
 use Rattle.blog_flash.proofs.Placing.{append-splits, first-within, rest-ends}
 use Rattle.blog_flash.proofs.lengths.transaction_end.Goals as goal

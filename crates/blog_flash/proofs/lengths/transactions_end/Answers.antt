@@ -1,7 +1,7 @@
 use Rattle.std.proofs.Common.{refl, ap, sym, ◌∙◌, arith}
 use Rattle.blog_event.specs.File.{end_of}
 use Rattle.blog_trans.specs.IndexView.{index_groups}
-use Rattle.blog_flash.specs.declared.order.Order.TheVariants.{Forward}
+use Rattle.blog_row.specs.declared.order.Order.TheVariants.{Forward}
 use Rattle.blog_flash.proofs.GroupParts.{next-transactions, done-transactions}
 use Rattle.blog_flash.proofs.Placing.{first-within, rest-ends}
 use Rattle.blog_flash.proofs.lengths.transactions_end.Goals as goal

@@ -3,7 +3,7 @@ use Rattle.blog_event.specs.File.{end_of}
 use Rattle.blog_trans.specs.IndexView.{index_groups}
 use Rattle.blog_flash.specs.LaidOut.{transactions_of}
 use Rattle.blog_flash.specs.Texts.{group_events}
-use Rattle.blog_flash.specs.declared.order.Order.TheVariants.{Forward}
+use Rattle.blog_row.specs.declared.order.Order.TheVariants.{Forward}
 use Rattle.blog_flash.proofs.lengths.transactions_end.Given as goal
 
 -- where the transactions end that are left

@@ -13,6 +13,6 @@ invariant-loop-row g l = record {
   next : (goal.iterator-loop-row g).can_next l.row-iterator;
   finite : (goal.iterator-loop-row g).is_finite l.row-iterator;
   text : l.out.items ++ images_lines (map_names l.map).table (layout_columns l.rows.layout) (rows_left l.row-iterator)
-      ≡ l.fn.out.items ++ images_lines (map_names l.map).table (layout_columns l.rows.layout) (rows_by l.rows.kind (rows_body l.rows).images);
+      ≡ l.fn.out.items ++ images_lines (map_names l.map).table (layout_columns l.rows.layout) (rows_by l.rows.kind.action (rows_body l.rows).images);
   capacity : vec_capacity l.fn.out ≤ vec_capacity l.out;
 }

@@ -2,7 +2,7 @@ use Rattle.std.proofs.Common.{◌≡◌, ◌≤◌, ◌++◌, drop, vec_capacity
 use Rattle.std.specs.List.{flat_map}
 use Rattle.blog_trans.specs.Changes.{changes_of_rows}
 use Rattle.blog_trans.specs.IndexView.{index_groups}
-use Rattle.blog_flash.specs.declared.order.Order.TheVariants.{Forward}
+use Rattle.blog_row.specs.declared.order.Order.TheVariants.{Forward}
 use Rattle.blog_flash.specs.LaidOut.{rows_of}
 use Rattle.blog_flash.specs.Printed.{change_lines}
 use Rattle.blog_flash.specs.PrintedRows.{rows_lines_at}

@@ -4,7 +4,7 @@ use Rattle.blog_trans.specs.Changes.{changes_of_statement}
 use Rattle.std.specs.Prelude.{slice_get}
 use Rattle.blog_trans.specs.Groups.{PlacedTransaction}
 use Rattle.blog_trans.specs.IndexView.{index_groups}
-use Rattle.blog_flash.specs.declared.order.Order.TheVariants.{Forward}
+use Rattle.blog_row.specs.declared.order.Order.TheVariants.{Forward}
 use Rattle.blog_flash.specs.LaidOut.{statements_of}
 use Rattle.blog_flash.specs.Printed.{change_lines}
 use Rattle.blog_flash.specs.PrintedRows.{rows_lines_at}

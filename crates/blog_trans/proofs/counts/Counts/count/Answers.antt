@@ -40,4 +40,4 @@ returns-clause-few g c = λ n few.
     let reached = c.in_ok-reach.ensures.few n few in
     let before = few-read n rows.items rows.len i c.index-before.result.now reached rows.ok.0 c.in_ok-reach.ensures.reached c.index-before.ensures in
     few-set (n + images) rows.items i c.with.result (few-more n images rows.items reached)
-    (subst (IsFew (n + images)) (sym c.with.ensures) (with-few n images c.args.kept.now.kind c.index-before.result.now before))
+    (subst (IsFew (n + images)) (sym c.with.ensures) (with-few n images c.args.kept.now.action c.index-before.result.now before))

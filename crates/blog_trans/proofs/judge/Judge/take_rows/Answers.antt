@@ -22,9 +22,9 @@ returns-in_default-clause-judged g c = λ sel earlier h.
     let p : Placed = record { pos = c.args.event.now.pos; event = e } in
     let now : is_inside c.args.self.now.place ≡ true = search rules in
     let inside : is_inside (place earlier) ≡ true = ap is_inside (sym h.place_is) ∙ now in
-    let long = head-long e.body c.in-Ok.head c.in-Ok.ensures in
-    let id = body-id e.body (long-id e.body long) c.are_bytes.ensures in
-    let number = c.table_id.ensures.body e.body (sym c.in-Ok.ensures) in
+    let long = head-long c.args.kind.version e.body c.in-Ok.head c.in-Ok.ensures in
+    let id = body-id e.body (long-id c.args.kind.version e.body long) c.are_bytes.ensures in
+    let number = c.table_id.ensures.body c.args.kind.version e.body (sym c.in-Ok.ensures) in
     let none : get nat_eq c.args.self.now.maps c.table_id.result ≡ None = sym c.in_default.ensures.value in
     let first = held-none sel (since earlier) (table_id e.body) c.table_id.result c.args.self.now.maps.entries id number h.passed h.maps_are none in
     let check : event_fault sel earlier p ≡ Some NoMap = rows-fault sel p earlier c.args.kind c.requires inside long ∙ rw first refl in
@@ -36,9 +36,9 @@ returns-in_err-kept-clause-judged g c = λ sel earlier h.
     let p : Placed = record { pos = c.args.event.now.pos; event = e } in
     let now : is_inside c.args.self.now.place ≡ true = search rules in
     let inside : is_inside (place earlier) ≡ true = ap is_inside (sym h.place_is) ∙ now in
-    let long = head-long e.body c.in-Ok.head c.in-Ok.ensures in
-    let id = body-id e.body (long-id e.body long) c.are_bytes.ensures in
-    let number = c.table_id.ensures.body e.body (sym c.in-Ok.ensures) in
+    let long = head-long c.args.kind.version e.body c.in-Ok.head c.in-Ok.ensures in
+    let id = body-id e.body (long-id c.args.kind.version e.body long) c.are_bytes.ensures in
+    let number = c.table_id.ensures.body c.args.kind.version e.body (sym c.in-Ok.ensures) in
     let found : get nat_eq c.args.self.now.maps c.table_id.result ≡ Some c.in-Some.map.now = sym c.in-Some.ensures.value in
     let held = map-held sel (since earlier) (table_id e.body) c.table_id.result c.in-Some.map.now c.args.self.now.maps.entries id number h.passed h.maps_are found in
     let failed = rows-failed sel (since earlier) p c.args.kind c.in-Some.map.now held.0 c.in_err-kept.field-0.0 held.1 c.in_err-kept.ensures.unselected c.in_err-kept.ensures.read in
@@ -52,9 +52,9 @@ returns-clause-judged g c = λ sel earlier h.
     let p : Placed = record { pos = c.args.event.now.pos; event = e } in
     let now : is_inside c.args.self.now.place ≡ true = search rules in
     let inside : is_inside (place earlier) ≡ true = ap is_inside (sym h.place_is) ∙ now in
-    let long = head-long e.body c.in-Ok.head c.in-Ok.ensures in
-    let id = body-id e.body (long-id e.body long) c.are_bytes.ensures in
-    let number = c.table_id.ensures.body e.body (sym c.in-Ok.ensures) in
+    let long = head-long c.args.kind.version e.body c.in-Ok.head c.in-Ok.ensures in
+    let id = body-id e.body (long-id c.args.kind.version e.body long) c.are_bytes.ensures in
+    let number = c.table_id.ensures.body c.args.kind.version e.body (sym c.in-Ok.ensures) in
     let v : MapSeen = c.in-Some.map.now in
     let found : get nat_eq c.args.self.now.maps c.table_id.result ≡ Some v = sym c.in-Some.ensures.value in
     let held = map-held sel (since earlier) (table_id e.body) c.table_id.result v c.args.self.now.maps.entries id number h.passed h.maps_are found in
@@ -65,6 +65,6 @@ returns-clause-judged g c = λ sel earlier h.
     let w : MapSeen = record v { used = c.is_some-map.result } in
     let w_is : w ≡ record v { used = is_some v.table } = ap (λ (u : Bool). record v { used = u }) (c.is_some-map.ensures ∙ c.in_ok-kept.ensures.selected) in (
       check ∙ passed.0,
-      (c.args.kind, c.requires, sym (c.ends.ensures.body e.body (sym c.in-Ok.ensures)), passed.1),
+      (c.args.kind, c.requires, sym (c.ends.ensures.body c.args.kind.version e.body (sym c.in-Ok.ensures)), passed.1),
       knows-rows sel p earlier c.args.self.now _ c.args.kind c.table_id.result v w held.0 c.requires id number held.1 c.get_mut.ensures.unique found w_is refl refl (c.get_mut.follows.holds w).0 refl h,
     )

@@ -1,8 +1,0 @@
-use Rattle.std.proofs.Common.{drop}
-use Rattle.blog_event.specs.Writing.{joined}
-use Rattle.blog_flash.proofs.Overwriting.{IsOver}
-use Rattle.blog_flash.proofs.laid_out.write_over.Given as goal
-
--- what is written, and what is left
-abbrev pub invariant-loop-part : goal.invariant-loop-part
-invariant-loop-part l = IsOver (joined l.parts) (joined (drop l.part-index l.parts)) l.at l.fn.to l.to

@@ -1,0 +1,126 @@
+-- The body that is written for a rows event: its parts, and how long it is.
+use Rattle.std.proofs.Common.{◌≡◌, ◌+◌, ◌≤◌, ◌-◌, ℕ, Bool, true, List, [], ◌∷◌, ◌++◌, length, take, drop, refl, sym, ap, ◌∙◌, arith, length-append, length-drop, append_assoc, append-nil, take_at}
+use Rattle.std.specs.List.{concat}
+use Rattle.byteorder.specs.Endian.{little_bytes}
+use Rattle.blog_row.specs.declared.kind.RowsKind.{RowsKind}
+use Rattle.blog_row.specs.declared.kind.RowsVersion.{RowsVersion}
+use Rattle.blog_row.specs.declared.kind.RowsVersion.TheVariants.{One, Two}
+use Rattle.blog_row.specs.declared.order.Order.{Order}
+use Rattle.blog_row.specs.declared.order.Order.TheVariants.{Forward, Backward}
+use Rattle.blog_row.specs.Column.{Layout}
+use Rattle.blog_row.specs.RowsEvent.{RowsBody, HasExtra, IsRowsBody}
+use Rattle.blog_row.specs.RowsEventView.{written_front}
+use Rattle.blog_row.specs.RowsWriting.{RowsContent, content_of, content_in, reversed_content, no_extra, written_flags, written_body}
+use Rattle.blog_row.proofs.ReversedRows.{images-as-long, joined-exchanged}
+use Rattle.blog_row.proofs.RowsCode.{extra-long}
+
+written-len : (last : Bool) (c : RowsContent) → length (written_body last c) ≡ length c.id + 2 + length (no_extra c.kind.version) + length c.count + length (concat c.bitmaps) + length (concat c.images)
+unfolding written_body
+written-len last c =
+    let pictures = concat c.images in
+    let bits = concat c.bitmaps ++ pictures in
+    let counted = c.count ++ bits in
+    let extra = no_extra c.kind.version ++ counted in
+    let flags = little_bytes 2 (written_flags last c.flags) ++ extra in
+    omega (
+      arith,
+      length-append c.id flags,
+      length-append (little_bytes 2 (written_flags last c.flags)) extra,
+      length-append (no_extra c.kind.version) counted,
+      length-append c.count bits,
+      length-append (concat c.bitmaps) pictures,
+    )
+
+pub body-len : (order : Order) (last : Bool) (c : RowsContent)
+    → length (written_body last (content_in order c)) ≡ length c.id + 2 + length (no_extra c.kind.version) + length c.count + length (concat c.bitmaps) + length (concat c.images)
+body-len Forward last c = written-len last c
+body-len Backward last c = written-len last (reversed_content c) ∙ omega (arith, joined-exchanged c.bitmaps, images-as-long c.kind.action c.images)
+
+-- the body is its front and its images
+pub body-parts : (last : Bool) (c : RowsContent) → written_body last c ≡ written_front last c ++ concat c.images
+unfolding written_body written_front
+body-parts last c =
+    let bits = concat c.bitmaps in
+    let extra = no_extra c.kind.version in
+    let flags = little_bytes 2 (written_flags last c.flags) in
+    let pictures = concat c.images in
+    sym (append_assoc c.id (flags ++ (extra ++ (c.count ++ bits))) pictures
+    ∙ ap (λ (t : List ℕ). c.id ++ t) (append_assoc flags (extra ++ (c.count ++ bits)) pictures
+    ∙ ap (λ (t : List ℕ). flags ++ t) (append_assoc extra (c.count ++ bits) pictures
+    ∙ ap (λ (t : List ℕ). extra ++ t) (append_assoc c.count bits pictures))))
+
+-- as many images in either order
+pub images-len : (order : Order) (c : RowsContent) → length (concat (content_in order c).images) ≡ length (concat c.images)
+images-len Forward c = refl
+images-len Backward c = images-as-long c.kind.action c.images
+
+-- the slices that are written one after the other are the front
+pub front-parts : (last : Bool) (c : RowsContent) (id flags extra count first second : List ℕ) → id ≡ c.id → flags ≡ little_bytes 2 (written_flags last c.flags) → extra ≡ no_extra c.kind.version → count ≡ c.count
+    → first ++ second ≡ concat c.bitmaps → id ++ (flags ++ (extra ++ (count ++ (first ++ (second ++ []))))) ≡ written_front last c
+unfolding written_front
+front-parts last c id flags extra count first second is_id is_flags is_extra is_count is_bitmaps =
+    ap (λ (t : List ℕ). id ++ (flags ++ (extra ++ (count ++ (first ++ t))))) (append-nil second) ∙ rw (is_id, is_flags, is_extra, is_count, is_bitmaps) refl
+
+-- the front and then the images
+pub body-is-written : (order : Order) (last : Bool) (c : RowsContent) (old new to : List ℕ) (n : ℕ) → length old ≡ length (written_body last (content_in order c)) → n ≡ length (concat c.images)
+    → new ≡ written_front last (content_in order c) ++ drop (length (written_front last (content_in order c))) old
+    → to ≡ take (length new - n) new ++ concat (content_in order c).images → to ≡ written_body last (content_in order c)
+body-is-written order last c old new to n room images front whole =
+    let d = content_in order c in
+    let text = written_front last d in
+    let parts = ap length (body-parts last d) ∙ length-append text (concat d.images) in
+    let same = images-len order c in
+    let sizes = ap length front ∙ length-append text (drop (length text) old) in
+    let left = length-drop (length text) old in
+    let at : length new - n ≡ length text = omega (arith, room, parts, same, images, sizes, left) in
+    whole
+    ∙ ap (λ (k : ℕ). take k new ++ concat d.images) at
+    ∙ ap (λ (t : List ℕ). take (length text) t ++ concat d.images) front
+    ∙ ap (λ (t : List ℕ). t ++ concat d.images) (take_at text (drop (length text) old) (length text) refl)
+    ∙ sym (body-parts last d)
+
+-- what both orders have in common
+pub record Kept (c d : RowsContent) : Type 0 where
+  pub id : d.id ≡ c.id
+  pub flags : d.flags ≡ c.flags
+  pub version : d.kind.version ≡ c.kind.version
+  pub count : d.count ≡ c.count
+
+pub kept : (order : Order) (c : RowsContent) → Kept c (content_in order c)
+kept Forward c = record { id = refl; flags = refl; version = refl; count = refl }
+kept Backward c = record { id = refl; flags = refl; version = refl; count = refl }
+
+-- the extra length that is written, a front of its two bytes
+pub extra-front : (version : RowsVersion) (n : ℕ) → n ≡ length (no_extra version) → take n (2 ∷ 0 ∷ []) ≡ no_extra version
+extra-front One n e = rw e refl
+extra-front Two n e = rw e refl
+
+-- the room has a front and the images
+pub room-parts : (order : Order) (last : Bool) (c : RowsContent) → length (written_body last (content_in order c)) ≡ length (written_front last (content_in order c)) + length (concat c.images)
+room-parts order last c =
+    let d = content_in order c in
+    let parts = ap length (body-parts last d) ∙ length-append (written_front last d) (concat d.images) in
+    omega (arith, parts, images-len order c)
+
+-- the body that is written is no longer than the one that was read
+pub written-fits : (kind : RowsKind) (layout : Layout) (body : List ℕ) (b : RowsBody) → IsRowsBody kind layout body b → length (written_body true (content_of kind b)) ≤ length body
+written-fits kind layout body b h =
+    let pictures = concat b.images in
+    let bits = concat b.bitmaps ++ pictures in
+    let counted = b.count ++ bits in
+    let extra = b.extra ++ counted in
+    let extra_len = b.extra_len ++ extra in
+    let flags = b.flags ++ extra_len in
+    omega (
+      arith,
+      body-len Forward true (content_of kind b),
+      ap length h.text,
+      h.flags_len,
+      extra-long kind.version b.extra_len b.extra h.extra_counted,
+      length-append b.id flags,
+      length-append b.flags extra_len,
+      length-append b.extra_len extra,
+      length-append b.extra counted,
+      length-append b.count bits,
+      length-append (concat b.bitmaps) pictures,
+    )

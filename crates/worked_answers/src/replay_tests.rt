@@ -1,0 +1,155 @@
+//! Applying a log's changes, and then those of the log that undoes them.
+
+use blog_event::Log;
+use blog_trans::{Selection, index};
+use std::alloc::Global;
+use std::process::Abort;
+use std::test::Fail;
+use worked_logs::calls::{flashback, forward};
+use worked_logs::logs::{two_statements, two_tables, two_transactions, two_updates};
+use worked_logs::replay::{ReplayFault, Tables, changes_of};
+use worked_logs::samples::{ALTER_BETWEEN, INSERT, MULTI_TABLE, SAVEPOINT_KEPT, UPDATE};
+use worked_logs::selections::{BEFORE, BEHIND};
+
+/// Where the fronts of a written log end: behind its format description, and behind each of its transactions.
+fn front_ends(alloc: Global, written: &[u8]) -> Result<Vec<usize>, Fail> {
+    let log = Log::open(written)?;
+    let index = index(alloc, &log, &Selection::all())?;
+    let mut ends = vec![in alloc; log.first() as usize]?;
+    for t in 0..index.transactions() {
+        let end = index.end(t);
+        ends.push(end.pos.wrapping_add(end.header.size) as usize)?;
+    }
+    Ok(ends)
+}
+
+/// A front of a written log is a log of its own with so many transactions, in normal form. Behind its changes the
+/// tables are as they were before as many of the selected last ones.
+fn check_front<'b, R: AllocGlobal + Abort>(
+    rt: &R,
+    log: &'b [u8],
+    sel: &Selection<'_>,
+    front: &'b [u8],
+    count: usize,
+) -> Result<(), Fail> {
+    let all = Selection::all();
+    let normal = forward(rt.alloc(), front, &all)?;
+    assert_eq!(rt; normal.as_slice(), front);
+    let source = changes_of(rt.alloc(), log, sel)?;
+    let undoing = changes_of(rt.alloc(), front, &all)?;
+    assert_eq!(rt; undoing.len(), count);
+    let mut tables = Tables::least(rt.alloc(), &source)?;
+    tables.apply(&source)?;
+    tables.apply(&undoing)?;
+    let kept = source.len().checked_sub(count).ok_or("too many")?;
+    let mut earlier = Tables::least(rt.alloc(), &source)?;
+    earlier.apply(&source[..kept])?;
+    assert!(rt; tables == earlier, "behind {count}");
+    Ok(())
+}
+
+/// So it is with each front of a written log, from its format description alone to the whole of it.
+fn check_stops<'b, R: AllocGlobal + Abort>(
+    rt: &R,
+    log: &'b [u8],
+    sel: &Selection<'_>,
+    written: &'b [u8],
+) -> Result<(), Fail> {
+    let source = changes_of(rt.alloc(), log, sel)?;
+    let ends = front_ends(rt.alloc(), written)?;
+    assert_eq!(rt; ends.len(), source.len() + 1);
+    assert_eq!(rt; ends.last(), Some(&written.len()));
+    for (count, end) in ends.iter().enumerate() {
+        let front = written.get(..*end).ok_or("too short")?;
+        check_front(rt, log, sel, front, count)?;
+    }
+    Ok(())
+}
+
+#[test]
+fn after_each_written_transaction_as_many_are_undone(rt: HostRuntime) -> Result<(), Fail> {
+    let all = Selection::all();
+    for log in [
+        two_updates(&rt)?,
+        two_transactions(&rt)?,
+        two_tables(&rt)?,
+        two_statements(&rt)?,
+    ] {
+        let written = flashback(rt.alloc(), &log, &all)?;
+        check_stops(&rt, &log, &all, &written)?;
+    }
+    Ok(())
+}
+
+/// Undoing gives the tables back that were there before the selected changes, and these changes made a difference.
+fn check_undone<'b, R: AllocGlobal + Abort>(
+    rt: &R,
+    log: &'b [u8],
+    sel: &Selection<'_>,
+) -> Result<(), Fail> {
+    let changes = changes_of(rt.alloc(), log, sel)?;
+    let before = Tables::least(rt.alloc(), &changes)?;
+    let mut behind = Tables::least(rt.alloc(), &changes)?;
+    behind.apply(&changes)?;
+    let same = behind == before;
+    assert!(rt; !same, "no change");
+    let written = flashback(rt.alloc(), log, sel)?;
+    check_stops(rt, log, sel, &written)
+}
+
+#[test]
+fn logs_of_a_server_are_undone(rt: HostRuntime) -> Result<(), Fail> {
+    let all = Selection::all();
+    for (log, sel) in [
+        (INSERT.as_slice(), all),
+        (&UPDATE, all),
+        (&MULTI_TABLE, all),
+        (&SAVEPOINT_KEPT, all),
+        (&ALTER_BETWEEN, BEFORE),
+        (&ALTER_BETWEEN, BEHIND),
+    ] {
+        check_undone(&rt, log, &sel)?;
+    }
+    Ok(())
+}
+
+/// The rows of two transactions, and of what undoes them, one after the other.
+fn check_in_turn<'b, R: AllocGlobal + Abort>(
+    rt: &R,
+    log: &'b [u8],
+    written: &'b [u8],
+) -> Result<(), Fail> {
+    let source = changes_of(rt.alloc(), log, &Selection::all())?;
+    let undoing = changes_of(rt.alloc(), written, &Selection::all())?;
+    assert_eq!(rt; undoing.len(), 2);
+    let ends = front_ends(rt.alloc(), written)?;
+    assert_eq!(rt; ends.as_slice(), [120, 259, 411].as_slice());
+    let mut tables = Tables::least(rt.alloc(), &source)?;
+    assert_eq!(rt; tables.counts(rt.alloc())?.as_slice(), [(8, 1)].as_slice());
+    tables.apply(&source)?;
+    assert_eq!(rt; tables.counts(rt.alloc())?.as_slice(), [(7, 1)].as_slice());
+    tables.apply(&undoing[..1])?;
+    assert_eq!(rt;
+        tables.counts(rt.alloc())?.as_slice(),
+        [(7, 1), (8, 1)].as_slice()
+    );
+    tables.apply(&undoing[1..])?;
+    assert_eq!(rt; tables.counts(rt.alloc())?.as_slice(), [(8, 1)].as_slice());
+    Ok(())
+}
+
+#[test]
+fn two_transactions_are_undone_in_turn(rt: HostRuntime) -> Result<(), Fail> {
+    let log = two_transactions(&rt)?;
+    let written = flashback(rt.alloc(), &log, &Selection::all())?;
+    check_in_turn(&rt, &log, &written)
+}
+
+#[test]
+fn a_delete_of_a_row_that_is_not_there_fails(rt: HostRuntime) -> Result<(), Fail> {
+    let log = two_transactions(&rt)?;
+    let changes = changes_of(rt.alloc(), &log, &Selection::all())?;
+    let applied = Tables::new(rt.alloc()).apply(&changes);
+    assert_eq!(rt; applied, Err(ReplayFault::MissingRow));
+    Ok(())
+}
