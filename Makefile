@@ -4,9 +4,11 @@ RT = rt
 PREFIX = /usr/local
 DESTDIR =
 PROGRAM = bin/flashback
+BINLOG = bin/binlog
 LAYERS = bin/bench_layers
 LOG = examples/mysql/multi_table.binlog
 UNDO = bin/multi_table.undo
+SUMMED = examples/mysql/crc32_closed.binlog
 # shapes and sizes in MB of the logs to measure with; bench/README.md has the shapes
 BENCH =
 
@@ -16,18 +18,18 @@ SOURCES := $(shell find crates -path '*/out' -prune -o -type f \
 
 .PHONY: all demo test bench bench_layers install clean
 
-all: $(PROGRAM)
+all: $(PROGRAM) $(BINLOG)
 
-# rt proves the program before it builds it, and then runs it: here for its help
-$(PROGRAM): $(SOURCES)
+# rt proves a program before it builds it, and then runs it: here for its help
+$(PROGRAM) $(BINLOG): $(SOURCES)
 	@mkdir -p $(@D)
-	@echo "Proving and building $@, some minutes the first time; the lines of rt go to $(@D)/build.txt"
-	@cd crates/flashback && $(RT) run -- --help > ../../$(@D)/build.txt 2>&1 \
-		|| { tail -n 20 ../../$(@D)/build.txt; exit 1; }
-	@cp crates/flashback/out/flashback $@
+	@echo "Proving and building $@, some minutes the first time; the lines of rt go to $@.txt"
+	@cd crates/$(@F) && $(RT) run -- --help > ../../$@.txt 2>&1 \
+		|| { tail -n 20 ../../$@.txt; exit 1; }
+	@cp crates/$(@F)/out/$(@F) $@
 
-demo: $(PROGRAM)
-	@sh examples/demo.sh $(PROGRAM) $(LOG) $(UNDO)
+demo: $(PROGRAM) $(BINLOG)
+	@sh examples/demo.sh $(PROGRAM) $(LOG) $(UNDO) $(BINLOG) $(SUMMED)
 
 # a lane for each processor: by itself rt holds lanes back for more memory than these checks take
 test:
@@ -44,14 +46,16 @@ $(LAYERS): $(SOURCES)
 # measures each program that is there; with words in BENCH the first alone
 bench:
 	@FLASHBACK=$(PROGRAM) sh bench/run.sh $(BENCH)
+	@[ -n "$(BENCH)" ] || BINLOG=$(BINLOG) FLASHBACK=$(PROGRAM) sh bench/sums.sh
 	@[ -n "$(BENCH)" ] || LAYERS=$(LAYERS) sh bench/layers.sh
 
 bench_layers: $(LAYERS)
 	@LAYERS=$(LAYERS) sh bench/layers.sh
 
-install: $(PROGRAM)
+install: $(PROGRAM) $(BINLOG)
 	install -d $(DESTDIR)$(PREFIX)/bin
 	install -m 755 $(PROGRAM) $(DESTDIR)$(PREFIX)/bin/flashback
+	install -m 755 $(BINLOG) $(DESTDIR)$(PREFIX)/bin/binlog
 
 clean:
 	rm -rf bin bench/out bench/plain/target

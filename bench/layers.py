@@ -13,6 +13,7 @@ import re
 import sys
 
 from measure import Best, run
+from sums import zlib_of
 
 MAPS, TABLES, MANY = (10_000, 40_000, 160_000), (25_000, 100_000, 400_000), (250_000, 1_000_000, 4_000_000)
 CASES = {"maps": MAPS, "tables": TABLES, "transactions": MANY, "statements": MANY,
@@ -103,6 +104,14 @@ def print_index(program, settings):
           f"| cat | {mb / of.cat.wall:,.0f} | {mb / of.cat.processor:,.0f} | {of.cat.peak / 1e6:,.0f} | - |")
 
 
+def print_sums(program, settings):
+    of, log = Measured(program, "sums", "mixed", 1000, settings), os.path.join(settings[3], "mixed-1000.binlog")
+    number, seconds = zlib_of(log, settings[0])
+    of.expect("sum", of.numbers["sum"][0], number)
+    theirs, ours = of.length / 1e6 / seconds, of.length / 1e6 / of.seconds["summing"][0]
+    print(f"\nCRC-32 of {of.length / 1e6:,.0f} MB: {ours:,.0f} MB/s, {ours / theirs:.2f} of zlib's {theirs:,.0f}")
+
+
 def print_growth(program, settings):
     print("\nGrowth of the index, milliseconds by the clock and on the processor:\n\n"
           "| Case | n | at n | at 4n | times | at n, on the processor | at 4n | times |\n|---|---|---|---|---|---|---|---|")
@@ -115,7 +124,7 @@ def print_growth(program, settings):
 
 def main(program, runs, times, limit, out):
     settings = int(runs), int(times), float(limit), out
-    for part in (print_events, print_rows, print_index, print_growth):
+    for part in (print_events, print_rows, print_sums, print_index, print_growth):
         if part is print_index:
             os.environ["GLIBC_TUNABLES"] = FRESH_MEMORY
         part(program, settings)

@@ -1,11 +1,11 @@
 # For the scripts beside this file: makes logs, each once.
 
-# make_log SHAPE SIZE: makes the log if it isn't there or is older than the generator, and leaves its path in log
+# make_log SHAPE SIZE [--sums]: makes the log if it isn't there or is older than the generator, and leaves its path in log
 make_log() {
-    log=$OUT/$1-$2.binlog
+    log=$OUT/$1-$2${3+-sums}.binlog
     if [ ! -s "$log.counts" ] || [ bench/make_log.py -nt "$log.counts" ]; then
         echo "making $log" >&2
-        python3 bench/make_log.py "$1" "$2" "$log" > "$OUT/counts"
+        python3 bench/make_log.py ${3+"$3"} "$1" "$2" "$log" > "$OUT/counts"
         mv "$OUT/counts" "$log.counts"
     fi
 }

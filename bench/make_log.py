@@ -1,8 +1,10 @@
 #!/usr/bin/env python3
-"""Writes a binary log of version 4 (rows events of version 2, or 1 in one shape, no checksum, server 5.6.51) to measure with.
+"""Writes a binary log of version 4 (rows events of version 2, or 1 in one shape, server 5.6.51) to measure with.
 
-    make_log.py SHAPE MB FILE
-    make_log.py SHAPE COUNT FILE
+    make_log.py [--sums] SHAPE MB FILE
+    make_log.py [--sums] SHAPE COUNT FILE
+
+With --sums each event ends in its CRC-32, and MB doesn't count these. Without, the log has no checksums.
 
 The file has at least MB megabytes (10^6 bytes) and ends behind a whole transaction. A shape that is named after what
 it has many of takes their number instead, a multiple of 1,000. The same words give the same bytes. Some transactions
@@ -13,6 +15,7 @@ change. On success one line is printed: the file's bytes, its events and its row
 import random
 import struct
 import sys
+import zlib
 from functools import partial
 
 ROTATING = 8 << 20  # bytes of the part that is repeated, at most; a cache of the processor holds less
@@ -301,27 +304,46 @@ ONE_TRANSACTION = ("many_statements", "statements")  # of all copies
 class File:
     """Parts written one after the other, with positions from the file's start."""
 
-    def __init__(self, out):
-        self.out, self.length, self.events, self.rows = out, 0, 0, 0
+    def __init__(self, out, sums):
+        self.out, self.sums, self.length, self.events, self.rows = out, sums, 0, 0, 0
         self.out.write(b"\xfebin")
         self.length = 4
 
     def put(self, part):
-        if self.length + len(part.bytes) > 0xFFFFFFFF:
+        size = len(part.bytes) + (4 * len(part.ends) if self.sums else 0)
+        if self.length + size > 0xFFFFFFFF:
             sys.exit("make_log.py: a binary log has no more than 4,294,967,295 bytes")
-        pack_into, base = struct.Struct("<I").pack_into, self.length
-        for place, end in part.ends:
-            pack_into(part.bytes, place, base + end)
-        self.out.write(part.bytes)
-        self.length += len(part.bytes)
+        if self.sums:
+            self.out.write(self.summed(part))
+        else:
+            pack_into, base = struct.Struct("<I").pack_into, self.length
+            for place, end in part.ends:
+                pack_into(part.bytes, place, base + end)
+            self.out.write(part.bytes)
+        self.length += size
         self.events += len(part.ends)
         self.rows += part.rows
 
 
-def format_description():
+    def summed(self, part):
+        """The part's events, each longer by its sum."""
+        out, start, length = bytearray(), 0, self.length
+        for _, end in part.ends:
+            event = part.bytes[start:end]
+            length += len(event) + 4
+            struct.pack_into("<II", event, 9, len(event) + 4, length)
+            out += event
+            out += struct.pack("<I", zlib.crc32(event))
+            start = end
+        return out
+
+
+def format_description(sums):
+    """Its algorithm is 1 with sums, which put its own behind it, and else 0 with four bytes of zeros there."""
     part = Events()
     version = b"5.6.51".ljust(50, b"\0")
-    body = struct.pack("<H", 4) + version + struct.pack("<IB", part.time, 19) + POST_HEADER + b"\0" + bytes(4)
+    body = struct.pack("<H", 4) + version + struct.pack("<IB", part.time, 19) + POST_HEADER
+    body += b"\1" if sums else b"\0" + bytes(4)
     part.put(FORMAT, body)
     return part
 
@@ -347,12 +369,14 @@ def put_all(file, shape, size):
 
 
 def main(words):
+    sums = words[:1] == ["--sums"]
+    words = words[1:] if sums else words
     if len(words) != 3 or words[0] not in SHAPES or not words[1].isdigit():
-        sys.exit("make_log.py SHAPE MB FILE, the shape one of " + ", ".join(REPEATED | WHOLE)
+        sys.exit("make_log.py [--sums] SHAPE MB FILE, the shape one of " + ", ".join(REPEATED | WHOLE)
                  + "; or with a number in the place of MB " + ", ".join(COUNTED_REPEATED | COUNTED_WHOLE))
     with open(words[2], "wb", buffering=0) as out:
-        file, begin, end = File(out), Events(), Events()
-        file.put(format_description())
+        file, begin, end = File(out, sums), Events(), Events()
+        file.put(format_description(sums))
         if words[0] in ONE_TRANSACTION:
             begin.query(b"shop", b"BEGIN")
             end.xid(1)

@@ -1,9 +1,10 @@
 #!/bin/sh
 # Undoes a log that a MySQL server wrote, shows its events before and after, and undoes the undoing.
 # Then tries to undo the log without its last byte, which is refused.
-# Words: the program, the log, and the file for the new log.
+# Then undoes a log with checksums, by way of the same log without.
+# Words: the program, the log, the file for the new log, the program for logs with checksums, and such a log.
 set -eu
-program=$1 log=$2 undo=$3
+program=$1 log=$2 undo=$3 binlog=$4 summed=$5
 here=$(dirname "$0")
 
 events() {
@@ -50,3 +51,29 @@ if [ "$status" -ne 1 ] || [ -s "$cut.output" ] || [ "$(wc -l < "$cut.errors")" -
 fi
 echo "Nothing is written, and the exit status is 1."
 rm -f "$cut" "$cut.output" "$cut.errors"
+
+plain=$undo.plain
+rm -f "$plain"
+status=0
+echo
+echo "A server at its defaults wrote $summed, with checksums:"
+echo "\$ $program -B $summed"
+"$program" -B "$summed" > "$undo.none" 2> "$undo.errors" || status=$?
+cat "$undo.errors"
+if [ "$status" -ne 1 ] || [ -s "$undo.none" ] || [ "$(cat "$undo.errors")" != "flashback: Checksums at 4" ]; then
+    echo "The demo failed: a log with checksums should be refused." >&2
+    exit 1
+fi
+echo "\$ $binlog plain $summed -r $plain"
+"$binlog" plain "$summed" -r "$plain"
+echo "\$ $program --summary $plain"
+"$program" --summary "$plain"
+"$program" -B -r "$undo.summed" "$plain"
+"$program" -B -r "$undo.twice" "$undo.summed"
+"$program" --forward -r "$undo.normal" "$plain"
+if ! cmp "$undo.twice" "$undo.normal"; then
+    echo "The demo failed: undoing the plain log twice should give its normal form." >&2
+    exit 1
+fi
+echo "Undone, and undone again: the same as its changes in normal form, byte for byte."
+rm -f "$plain" "$undo.none" "$undo.errors" "$undo.summed" "$undo.twice" "$undo.normal"

@@ -6,6 +6,7 @@ mod failure;
 mod index_layer;
 mod row_layer;
 mod stopwatch;
+mod sum_layer;
 mod words;
 
 use blog_event::Log;
@@ -17,6 +18,7 @@ use std::process::ExitCode;
 use std::rt::Runtime;
 use std::time::CpuClock;
 use std::{env, fs};
+use sum_layer::measure_sums;
 use words::read_words;
 
 fn main(rt: HostRuntime) -> ExitCode {
@@ -43,6 +45,9 @@ fn measure<R: Runtime + CpuClock + AllocGlobal>(rt: &R) -> Result<(), Failure> {
     }
     if task.layer.has_index() {
         measure_index(rt, &log, task.times)?;
+    }
+    if task.layer.has_sums() {
+        measure_sums(rt, bytes.as_slice(), task.times)?;
     }
     Ok(())
 }

@@ -9,6 +9,8 @@ pub enum Layer {
     Rows,
     /// The index of a whole log.
     Index,
+    /// The CRC-32 of the whole log.
+    Sums,
     /// All of these, one after the other.
     All,
 }
@@ -20,6 +22,7 @@ impl Layer {
             "events" => Some(Layer::Events),
             "rows" => Some(Layer::Rows),
             "index" => Some(Layer::Index),
+            "sums" => Some(Layer::Sums),
             "all" => Some(Layer::All),
             _ => None,
         }
@@ -38,6 +41,11 @@ impl Layer {
     /// Whether the index is measured.
     pub fn has_index(self) -> bool {
         matches!(self, Layer::Index | Layer::All)
+    }
+
+    /// Whether sums are measured.
+    pub fn has_sums(self) -> bool {
+        matches!(self, Layer::Sums | Layer::All)
     }
 }
 

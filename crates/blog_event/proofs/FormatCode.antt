@@ -7,10 +7,12 @@ use Rattle.std.proofs.lemmas.Bool.{cases_lt}
 use Rattle.std.proofs.lemmas.Bool.Decides.{nat_tests}
 use Rattle.std.proofs.lemmas.List.{take_all}
 use Rattle.std.proofs.Math.Numerals.{one-add}
-use Rattle.blog_event.specs.declared.fault.Fault.TheVariants.{BadFormat, OldServer, Checksums}
-use Rattle.blog_event.specs.Fault.{Cause, needs, first_failing}
+use Rattle.std.proofs.lemmas.Option.{none-some}
+use Rattle.blog_event.specs.declared.fault.Fault.{Fault}
+use Rattle.blog_event.specs.declared.fault.Fault.TheVariants.{BadFormat, Checksums}
+use Rattle.blog_event.specs.Fault.{Cause, needs, first_failing, fault_at}
 use Rattle.blog_event.specs.Event.{Event}
-use Rattle.blog_event.specs.Format.{Version, front_while, number_front, after_point, ◌>>=◌, version_of, version_text, binlog_version, header_length, has_lengths, checksum_algorithm, is_old, old_lengths, checked_lengths, server_checks, format_fault}
+use Rattle.blog_event.specs.Format.{Version, front_while, number_front, after_point, ◌>>=◌, version_of, version_text, binlog_version, header_length, algorithm, server_checks, description_fault, format_fault}
 
 -- ---- the front of a list
 
@@ -124,11 +126,31 @@ three-checks true false c cause checks = refl
 three-checks false b c cause checks = refl
 
 -- the checks, by what the first three say together
-pub format-fault-is : (e : Event) (fixed : Bool)
+pub description-fault-is : (e : Event) (fixed : Bool)
     → fixed ≡ (e.kind == 15 && (nat_le 57 (length e.body) && (binlog_version e.body == 4 && header_length e.body == 19)))
-    → format_fault e ≡ first_failing (needs fixed BadFormat ∷ server_checks (version_of (version_text e.body)) e.body)
-unfolding format_fault
-format-fault-is e fixed one =
+    → description_fault e ≡ first_failing (needs fixed BadFormat ∷ server_checks (version_of (version_text e.body)) e.body)
+unfolding description_fault
+description-fault-is e fixed one =
     three-checks (e.kind == 15) (nat_le 57 (length e.body)) (binlog_version e.body == 4 && header_length e.body == 19) BadFormat
     (server_checks (version_of (version_text e.body)) e.body)
     ∙ rw (one) refl
+
+-- of two checks the first decides if it fails, and else the second
+first-decides : (first second : Option Cause) (fault : Fault) → fault_at 4 first ≡ Some fault → fault_at 4 (first_failing (first ∷ second ∷ [])) ≡ Some fault
+first-decides None second fault fails = absurd (none-some fault fails)
+first-decides (Some cause) second fault fails = fails
+
+second-decides : (first second : Option Cause) → fault_at 4 first ≡ None → first_failing (first ∷ second ∷ []) ≡ second
+second-decides None None holds = refl
+second-decides None (Some cause) holds = refl
+second-decides (Some cause) second holds = absurd (none-some (cause 4) (sym holds))
+
+-- a description that is refused
+pub format-refused : (e : Event) (fault : Fault) → fault_at 4 (description_fault e) ≡ Some fault → fault_at 4 (format_fault e) ≡ Some fault
+unfolding format_fault
+format-refused e fault fails = first-decides (description_fault e) (needs (algorithm e.body == 0) Checksums) fault fails
+
+-- of one that isn't, the algorithm
+pub format-by-algorithm : (e : Event) → fault_at 4 (description_fault e) ≡ None → format_fault e ≡ needs (algorithm e.body == 0) Checksums
+unfolding format_fault
+format-by-algorithm e holds = second-decides (description_fault e) (needs (algorithm e.body == 0) Checksums) holds

@@ -37,24 +37,29 @@ same-events (suc n) zero pos (b ∷ bytes) hn hm = absurd (omega arith)
 same-events (suc n) (suc m) pos bytes hn hm =
     same-step n m pos bytes (λ e. same-events n m (pos + event_size e) (drop (event_size e) bytes) (omega (arith, length-drop (event_size e) bytes)) (omega (arith, length-drop (event_size e) bytes))) (event_at bytes) refl
 
--- where an event stands, it is the first item
-pub items-more : (bytes : List ℕ) (at : ℕ) (e : Event) → event_at (drop at bytes) ≡ Some e
-    → items_from bytes at ≡ Ok (record { pos = at; event = e }) ∷ items_from bytes (at + event_size e)
-unfolding items_from
-items-more bytes at e found =
+-- where an event stands, it is the first that is left
+pub events-left-more : (bytes : List ℕ) (at : ℕ) (e : Event) → event_at (drop at bytes) ≡ Some e
+    → events_from (length bytes) None at (drop at bytes) ≡ e ∷ events_from (length bytes) None (at + event_size e) (drop (at + event_size e) bytes)
+events-left-more bytes at e found =
     let fits : length (drop at bytes) ≤ length bytes = omega (arith, length-drop at bytes) in
     let behind : drop (event_size e) (drop at bytes) ≡ drop (at + event_size e) bytes = drop-drop (event_size e) at bytes in
-    ap (items_of at (length bytes)) (
     same-events (length bytes) (suc (length bytes)) at (drop at bytes) fits (omega arith)
     ∙ events-from-more (length bytes) None at (drop at bytes) e refl found
     ∙ ap (λ (rest : List ℕ). e ∷ events_from (length bytes) None (at + event_size e) rest) behind
-    )
 
--- where none stands, there is no more than a fault
+pub items-more : (bytes : List ℕ) (at : ℕ) (e : Event) → event_at (drop at bytes) ≡ Some e
+    → items_from bytes at ≡ Ok (record { pos = at; event = e }) ∷ items_from bytes (at + event_size e)
+unfolding items_from
+items-more bytes at e found = ap (items_of at (length bytes)) (events-left-more bytes at e found)
+
+-- where none stands, none is left, and there is no more than a fault
+pub events-left-none : (bytes : List ℕ) (at : ℕ) → event_at (drop at bytes) ≡ None → events_from (length bytes) None at (drop at bytes) ≡ []
+events-left-none bytes at none = events-from-none (length bytes) at (drop at bytes) none
+
 pub items-last : (bytes : List ℕ) (at : ℕ) → event_at (drop at bytes) ≡ None
     → items_from bytes at ≡ (if at == length bytes then [] else Err (CutEvent at) ∷ [])
 unfolding items_from
-items-last bytes at none = ap (items_of at (length bytes)) (events-from-none (length bytes) at (drop at bytes) none)
+items-last bytes at none = ap (items_of at (length bytes)) (events-left-none bytes at none)
 
 -- nothing is left at the end
 pub items-end : (bytes : List ℕ) (at : ℕ) → at ≡ length bytes → items_from bytes at ≡ []

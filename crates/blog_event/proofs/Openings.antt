@@ -11,36 +11,77 @@ use Rattle.blog_event.specs.declared.fault.Fault.TheVariants.{NotABinlog, CutEve
 use Rattle.blog_event.specs.Event.{Event, event_at}
 use Rattle.blog_event.specs.Fault.{Cause, needs, first_failing, fault_at}
 use Rattle.blog_event.specs.File.{magic}
-use Rattle.blog_event.specs.Format.{format_fault}
-use Rattle.blog_event.specs.Opening.{opening_fault, IsLog, OpensLogs}
+use Rattle.blog_event.specs.Format.{description_fault, format_fault}
+use Rattle.blog_event.specs.Opening.{opening_by, unchecked, opening_fault, front_fault, IsLog, OpensLogs}
+
+-- ---- as far as the event behind the magic number, with any check of it
 
 -- more bytes than a position reaches
-pub opening-long : (bytes : List ℕ) → 2 ^ 32 ≤ length bytes → opening_fault bytes ≡ Some (TooLong 0)
-unfolding opening_fault
-opening-long bytes long = let short : nat_lt (length bytes) (2 ^ 32) ≡ false = le-ltb (length bytes) (2 ^ 32) long in rw short refl
+pub opening-long : (check : Event → Option Cause) (bytes : List ℕ) → 2 ^ 32 ≤ length bytes → opening_by check bytes ≡ Some (TooLong 0)
+opening-long check bytes long = let short : nat_lt (length bytes) (2 ^ 32) ≡ false = le-ltb (length bytes) (2 ^ 32) long in rw short refl
 
 -- bytes that don't begin with the magic number
-pub opening-unmarked : (bytes : List ℕ) → length bytes < 2 ^ 32 → bytes_eq (take 4 bytes) magic ≡ false → opening_fault bytes ≡ Some (NotABinlog 0)
-unfolding opening_fault
-opening-unmarked bytes few mark = let short : nat_lt (length bytes) (2 ^ 32) ≡ true = lt-ltb (length bytes) (2 ^ 32) few in rw (short, mark) refl
+pub opening-unmarked : (check : Event → Option Cause) (bytes : List ℕ) → length bytes < 2 ^ 32 → bytes_eq (take 4 bytes) magic ≡ false
+    → opening_by check bytes ≡ Some (NotABinlog 0)
+opening-unmarked check bytes few mark = let short : nat_lt (length bytes) (2 ^ 32) ≡ true = lt-ltb (length bytes) (2 ^ 32) few in rw (short, mark) refl
 
 -- no event behind the magic number
-pub opening-cut : (bytes : List ℕ) → length bytes < 2 ^ 32 → bytes_eq (take 4 bytes) magic ≡ true → event_at (drop 4 bytes) ≡ None → opening_fault bytes ≡ Some (CutEvent 4)
-unfolding opening_fault
-opening-cut bytes few mark none = let short : nat_lt (length bytes) (2 ^ 32) ≡ true = lt-ltb (length bytes) (2 ^ 32) few in rw (short, mark, none) refl
+pub opening-cut : (check : Event → Option Cause) (bytes : List ℕ) → length bytes < 2 ^ 32 → bytes_eq (take 4 bytes) magic ≡ true → event_at (drop 4 bytes) ≡ None
+    → opening_by check bytes ≡ Some (CutEvent 4)
+opening-cut check bytes few mark none = let short : nat_lt (length bytes) (2 ^ 32) ≡ true = lt-ltb (length bytes) (2 ^ 32) few in rw (short, mark, none) refl
 
 -- a check that is the last of all decides
 last-decides : (check : Option Fault) → first_failing (check ∷ []) ≡ check
 last-decides None = refl
 last-decides (Some fault) = refl
 
--- the fault of the format of the event behind the magic number, if it has one
+-- what the check says of the event behind the magic number
+pub opening-checked : (check : Event → Option Cause) (bytes : List ℕ) (e : Event) → length bytes < 2 ^ 32 → bytes_eq (take 4 bytes) magic ≡ true
+    → event_at (drop 4 bytes) ≡ Some e → opening_by check bytes ≡ fault_at 4 (check e)
+opening-checked check bytes e few mark found =
+    let short : nat_lt (length bytes) (2 ^ 32) ≡ true = lt-ltb (length bytes) (2 ^ 32) few in
+    rw (short, mark, found) (last-decides (fault_at 4 (check e)))
+
+-- a fault before the last check decides
+earlier-decides : (one two three last : Option Fault) (f : Fault) → first_failing (one ∷ two ∷ three ∷ None ∷ []) ≡ Some f
+    → first_failing (one ∷ two ∷ three ∷ last ∷ []) ≡ Some f
+earlier-decides (Some one) two three last f fails = fails
+earlier-decides None (Some two) three last f fails = fails
+earlier-decides None None (Some three) last f fails = fails
+earlier-decides None None None last f fails = absurd (none-some f fails)
+
+-- no check says nothing of any event
+unchecked-says : (found : Option Event) → fault_at 4 (option_map_or unchecked found None) ≡ None
+unchecked-says None = refl
+unchecked-says (Some e) = refl
+
+-- a fault that comes without the check is one with it
+pub opening-refused : (check : Event → Option Cause) (bytes : List ℕ) (f : Fault) → opening_by unchecked bytes ≡ Some f → opening_by check bytes ≡ Some f
+opening-refused check bytes f fails =
+    let first : Option Event = event_at (drop 4 bytes) in
+    earlier-decides (fault_at 0 (needs (nat_lt (length bytes) (2 ^ 32)) TooLong)) (fault_at 0 (needs (bytes_eq (take 4 bytes) magic) NotABinlog))
+    (fault_at 4 (needs (is_some first) CutEvent)) (fault_at 4 (option_map_or check first None)) f (rw (unchecked-says first) at fails)
+
+-- ---- with the checks of the format
+
+pub opening-unread : (bytes : List ℕ) (f : Fault) → opening_by unchecked bytes ≡ Some f → opening_fault bytes ≡ Some f
+unfolding opening_fault
+opening-unread bytes f fails = opening-refused format_fault bytes f fails
+
 pub opening-format : (bytes : List ℕ) (e : Event) → length bytes < 2 ^ 32 → bytes_eq (take 4 bytes) magic ≡ true → event_at (drop 4 bytes) ≡ Some e
     → opening_fault bytes ≡ fault_at 4 (format_fault e)
 unfolding opening_fault
-opening-format bytes e few mark found =
-    let short : nat_lt (length bytes) (2 ^ 32) ≡ true = lt-ltb (length bytes) (2 ^ 32) few in
-    rw (short, mark, found) (last-decides (fault_at 4 (format_fault e)))
+opening-format bytes e few mark found = opening-checked format_fault bytes e few mark found
+
+-- the same whatever the algorithm is
+pub front-unread : (bytes : List ℕ) (f : Fault) → opening_by unchecked bytes ≡ Some f → front_fault bytes ≡ Some f
+unfolding front_fault
+front-unread bytes f fails = opening-refused description_fault bytes f fails
+
+pub front-format : (bytes : List ℕ) (e : Event) → length bytes < 2 ^ 32 → bytes_eq (take 4 bytes) magic ≡ true → event_at (drop 4 bytes) ≡ Some e
+    → front_fault bytes ≡ fault_at 4 (description_fault e)
+unfolding front_fault
+front-format bytes e few mark found = opening-checked description_fault bytes e few mark found
 
 -- the fault that a refusal names
 pub err-said : {A : Type 0} (r : Result A Fault) (fault : Fault) → IsErrAnd r (λ said. said ≡ fault) → result_err r ≡ Some fault
@@ -64,23 +105,41 @@ none-caused : (pos : ℕ) (check : Option Cause) → fault_at pos check ≡ None
 none-caused pos None none = refl
 none-caused pos (Some cause) none = absurd (none-some (cause pos) (sym none))
 
--- the event that is there
-first-there : (bytes : List ℕ) (found : Option Event) → event_at (drop 4 bytes) ≡ found → length bytes < 2 ^ 32 → take 4 bytes ≡ magic
-    → is_some found ≡ true → option_map_or format_fault found None ≡ None → (first : Event) × IsLog bytes first
-first-there bytes None stands short mark some accepted = absurd (cc)
-first-there bytes (Some e) stands short mark some accepted = (e, record { short = short; mark = mark; stands = stands; accepted = accepted })
+-- bytes with an event behind the mark of which the check says nothing
+pub record IsChecked (check : Event → Option Cause) (bytes : List ℕ) (first : Event) : Type 0 where
+  pub short : length bytes < 2 ^ 32
+  pub mark : take 4 bytes ≡ magic
+  pub stands : event_at (drop 4 bytes) ≡ Some first
+  pub accepted : check first ≡ None
 
--- a log that was opened has its parts
-pub opened-log : (bytes : List ℕ) → opening_fault bytes ≡ None → (first : Event) × IsLog bytes first
-unfolding opening_fault
-opened-log bytes opened =
+-- the event that is there
+first-there : (check : Event → Option Cause) (bytes : List ℕ) (found : Option Event) → event_at (drop 4 bytes) ≡ found → length bytes < 2 ^ 32 → take 4 bytes ≡ magic
+    → is_some found ≡ true → option_map_or check found None ≡ None → (first : Event) × IsChecked check bytes first
+first-there check bytes None stands short mark some accepted = absurd (cc)
+first-there check bytes (Some e) stands short mark some accepted = (e, record { short = short; mark = mark; stands = stands; accepted = accepted })
+
+-- bytes that were opened have the parts of a log
+opened-checked : (check : Event → Option Cause) (bytes : List ℕ) → opening_by check bytes ≡ None → (first : Event) × IsChecked check bytes first
+opened-checked check bytes opened =
     let first : Option Event = event_at (drop 4 bytes) in
     let one = none-failing _ _ opened in
     let two = none-failing _ _ one.1 in
     let three = none-failing _ _ two.1 in
     let four = none-failing _ _ three.1 in
-    first-there bytes first refl (ltb-true (length bytes) (2 ^ 32) (none-at 0 _ TooLong one.0))
+    first-there check bytes first refl (ltb-true (length bytes) (2 ^ 32) (none-at 0 _ TooLong one.0))
     ((bytes_eq-Decides (take 4 bytes) magic).0 (none-at 0 _ NotABinlog two.0)) (none-at 4 _ CutEvent three.0) (none-caused 4 _ four.0)
+
+pub opened-log : (bytes : List ℕ) → opening_fault bytes ≡ None → (first : Event) × IsLog bytes first
+unfolding opening_fault
+opened-log bytes opened =
+    let log = opened-checked format_fault bytes opened in
+    let parts = log.1 in
+    (log.0, record { short = parts.short; mark = parts.mark; stands = parts.stands; accepted = parts.accepted })
+
+-- the same whatever the algorithm is
+pub opened-front : (bytes : List ℕ) → front_fault bytes ≡ None → (first : Event) × IsChecked description_fault bytes first
+unfolding front_fault
+opened-front bytes opened = opened-checked description_fault bytes opened
 
 -- and bytes that have them are opened
 pub opens-log : (bytes : List ℕ) (first : Event) → IsLog bytes first → opening_fault bytes ≡ None

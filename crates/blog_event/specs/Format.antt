@@ -95,18 +95,31 @@ old_lengths = (2, 13) ∷ (19, 8) ∷ (23, 8) ∷ (24, 8) ∷ (25, 8) ∷ []
 abbrev pub checked_lengths : List (ℕ × ℕ)
 checked_lengths = (2, 13) ∷ (19, 8) ∷ (30, 10) ∷ (31, 10) ∷ (32, 10) ∷ []
 
--- the checks by the server's version: it is readable; the post-header lengths; since 5.6.1, no checksum algorithm
+-- the checks by the server's version: it is readable; the post-header lengths
 abbrev pub server_checks : Option Version → List ℕ → List (Option Cause)
 server_checks None body = Some OldServer ∷ []
 server_checks (Some v) body =
-    if is_old v
-    then needs (nat_le 82 (length body) && has_lengths old_lengths body) BadFormat ∷ []
-    else needs (nat_le 94 (length body) && has_lengths checked_lengths body) BadFormat ∷ needs (checksum_algorithm body == 0) Checksums ∷ []
+    (if is_old v
+    then needs (nat_le 82 (length body) && has_lengths old_lengths body) BadFormat
+    else needs (nat_le 94 (length body) && has_lengths checked_lengths body) BadFormat) ∷ []
 
--- the first check of the event at 4 that fails
-unfoldable pub format_fault : Event → Option Cause
-format_fault e = first_failing (
+-- the checksum algorithm by the server's version: below 5.6.1 there is none
+abbrev pub algorithm_by : Option Version → List ℕ → ℕ
+algorithm_by None body = 0
+algorithm_by (Some v) body = if is_old v then 0 else checksum_algorithm body
+
+-- the checksum algorithm of the events of a file: 0 none, 1 CRC-32
+abbrev pub algorithm : List ℕ → ℕ
+algorithm body = algorithm_by (version_of (version_text body)) body
+
+-- the first check of the event at 4 that fails, whatever its checksum algorithm is
+unfoldable pub description_fault : Event → Option Cause
+description_fault e = first_failing (
     needs (e.kind == 15) BadFormat
     ∷ needs (nat_le 57 (length e.body)) BadFormat
     ∷ needs (binlog_version e.body == 4 && header_length e.body == 19) BadFormat
     ∷ server_checks (version_of (version_text e.body)) e.body)
+
+-- the first check of the event at 4 that fails: the last is that there are no checksums
+unfoldable pub format_fault : Event → Option Cause
+format_fault e = first_failing (description_fault e ∷ needs (algorithm e.body == 0) Checksums ∷ [])

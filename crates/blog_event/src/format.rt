@@ -2,12 +2,12 @@
 //! "FORMAT_DESCRIPTION_EVENT"). Its body: binlog version, 2 bytes; server version, 50; creation time, 4; header length, 1;
 //! the post-header length of each event type from 1 on, 1 each; checksum algorithm, 1; checksum, 4.
 
-ghost use Rattle.std.specs.Prelude.{◌≡◌, ◌+◌, ◌-◌, ◌<◌, ◌≤◌, ◌==◌, ◌&&◌, nat_le, if◌then◌else◌, Option, length, option_map};
+ghost use Rattle.std.specs.Prelude.{◌≡◌, ◌+◌, ◌-◌, ◌<◌, ◌≤◌, ◌==◌, ◌&&◌, nat_le, if◌then◌else◌, Option, length, option_map, IfOk};
 ghost use Rattle.std.specs.Result.{result_err};
 ghost use Rattle.std.specs.Char.{is_ascii_digit};
 ghost use Rattle.blog_event.specs.Event.{event_of};
 ghost use Rattle.blog_event.specs.Fault.{fault_at, first_failing};
-ghost use Rattle.blog_event.specs.Format.{front_while, decimal, number_front, after_point, version_of, version_text, binlog_version, header_length, post_header_length, has_lengths, old_lengths, checked_lengths, is_old, server_checks, format_fault};
+ghost use Rattle.blog_event.specs.Format.{front_while, decimal, number_front, after_point, version_of, version_text, binlog_version, header_length, post_header_length, has_lengths, old_lengths, checked_lengths, is_old, server_checks, algorithm, description_fault, format_fault};
 ghost use Rattle.blog_event.specs.Versions.{version_value};
 
 use crate::constants::{
@@ -159,17 +159,18 @@ fn is_version_four(event: &Event<'_>) -> bool
         && body[56] == 19
 }
 
-/// The first check that fails of those that go by the server's version.
-fn check_server(body: &[u8]) -> Result<(), Fault>
+/// The checksum algorithm of a file's events, or the first check that fails of those that go by the server's version.
+fn check_server(body: &[u8]) -> Result<u8, Fault>
     requires { 57 ≤ length body.now }
     ensures exact { result_err result ≡ fault_at 4 (first_failing (server_checks (version_of (version_text body.now)) body.now)) }
+    ensures algorithm { IfOk result (λ found. found ≡ algorithm body.now) }
 {
     let Some(version) = version_of(version_text(body)) else {
         return Err(Fault::OldServer { pos: 4 });
     };
     if is_old(version) {
         return if has_old_lengths(body) {
-            Ok(())
+            Ok(0)
         } else {
             Err(Fault::BadFormat { pos: 4 })
         };
@@ -177,10 +178,20 @@ fn check_server(body: &[u8]) -> Result<(), Fault>
     if !has_checked_lengths(body) {
         return Err(Fault::BadFormat { pos: 4 });
     }
-    if body[body.len() - 5] != 0 {
-        return Err(Fault::Checksums { pos: 4 });
+    Ok(body[body.len() - 5])
+}
+
+/// The checksum algorithm of a file's events by its first event: 0 none, 1 CRC-32; 0 for a server below 5.6.1. Or the
+/// first check of that event that fails, a fault at 4: it is a format description of this profile, of a server whose
+/// version can be read.
+pub fn check_description(event: &Event<'_>) -> Result<u8, Fault>
+    ensures exact { result_err result ≡ fault_at 4 (description_fault (event_of event.now)) }
+    ensures algorithm { IfOk result (λ found. found ≡ algorithm event.now.body.now) }
+{
+    if !is_version_four(event) {
+        return Err(Fault::BadFormat { pos: 4 });
     }
-    Ok(())
+    check_server(event.body)
 }
 
 /// The first check of a file's first event that fails, a fault at 4: it is a format description of this profile, of a
@@ -188,8 +199,8 @@ fn check_server(body: &[u8]) -> Result<(), Fault>
 pub fn check_format(event: &Event<'_>) -> Result<(), Fault>
     ensures exact { result_err result ≡ fault_at 4 (format_fault (event_of event.now)) }
 {
-    if !is_version_four(event) {
-        return Err(Fault::BadFormat { pos: 4 });
+    if check_description(event)? != 0 {
+        return Err(Fault::Checksums { pos: 4 });
     }
-    check_server(event.body)
+    Ok(())
 }

@@ -14,13 +14,13 @@ mod writing;
 pub use event::{Event, Header};
 pub use events::Events;
 pub use fault::Fault;
-pub use format::check_format;
+pub use format::{check_description, check_format};
 pub use laws::{
     events_left_are_determined, fronts_grow_to_the_read_list, items_are_the_events_left,
     opened_log_is_read_on, opened_logs_have_their_parts, read_list_is_longest,
     reading_an_event_is_exact,
 };
-pub use log::Log;
+pub use log::{Log, format_description};
 pub use reading::{HEADER_LEN, event_at};
 pub use writing::{open_event, put_event};
 

@@ -1,13 +1,15 @@
 //! A log that was opened: its bytes, as far as its first event a log of this profile.
 
-ghost use Rattle.std.specs.Prelude.{◌≡◌, ◌≤◌, ◌<◌, ◌+◌, ◌^◌, length, take, drop, true, bytes_eq, Some, None};
+ghost use Rattle.std.specs.Prelude.{◌≡◌, ◌≤◌, ◌<◌, ◌+◌, ◌^◌, length, take, drop, true, bytes_eq, Some, None, IfOk};
+ghost use Rattle.std.specs.Result.{result_err};
 ghost use Rattle.blog_event.specs.Event.{event_of, event_at, event_size};
 ghost use Rattle.blog_event.specs.File.{magic};
-ghost use Rattle.blog_event.specs.Format.{format_fault};
+ghost use Rattle.blog_event.specs.Format.{algorithm, format_fault};
+ghost use Rattle.blog_event.specs.Opening.{opening_by, front_fault, unchecked};
 
 use crate::event::Event;
 use crate::fault::Fault;
-use crate::format::check_format;
+use crate::format::{check_description, check_format};
 use crate::reading::event_at;
 
 /// The four bytes with which each log begins.
@@ -35,9 +37,48 @@ fn has_magic(bytes: &[u8]) -> bool
     bytes.starts_with(MAGIC)
 }
 
+/// The event behind the magic number of a file. Fails with `TooLong` at 0 if there are more than 4,294,967,295 bytes, with
+/// `NotABinlog` at 0 if they don't begin with the magic number, and with `CutEvent` at 4 if no event stands there.
+fn first_event(bytes: &[u8]) -> Result<Event<'_>, Fault>
+    ensures exact { result_err result ≡ opening_by unchecked bytes.now }
+    ensures short { IfOk result (λ _. length bytes.now < 2 ^ 32) }
+    ensures mark { IfOk result (λ _. bytes_eq (take 4 bytes.now) magic ≡ true) }
+    ensures event { IfOk result (λ e. event_at (drop 4 bytes.now) ≡ Some (event_of e)) }
+    ensures pos { IfOk result (λ e. e.pos ≡ 4) }
+    ensures size { IfOk result (λ e. e.header.size ≡ event_size (event_of e)) }
+    ensures within { IfOk result (λ e. 4 + e.header.size ≤ length bytes.now) }
+{
+    if bytes.len() > u32::MAX as usize {
+        return Err(Fault::TooLong { pos: 0 });
+    }
+    if !has_magic(bytes) {
+        return Err(Fault::NotABinlog { pos: 0 });
+    }
+    match event_at(bytes, 4) {
+        Some(event) => Ok(event),
+        None => Err(Fault::CutEvent { pos: 4 }),
+    }
+}
+
+/// The format description of a file, the event at the byte position 4, and the checksum algorithm of the file's events: 0
+/// none, 1 CRC-32; 0 for a server below 5.6.1. Fails as `Log::open` does, but never with `Checksums`.
+pub fn format_description(bytes: &[u8]) -> Result<(Event<'_>, u8), Fault>
+    ensures exact { result_err result ≡ front_fault bytes.now }
+    ensures short { IfOk result (λ _. length bytes.now < 2 ^ 32) }
+    ensures event { IfOk result (λ found. event_at (drop 4 bytes.now) ≡ Some (event_of found.0)) }
+    ensures pos { IfOk result (λ found. found.0.pos ≡ 4) }
+    ensures size { IfOk result (λ found. found.0.header.size ≡ event_size (event_of found.0)) }
+    ensures within { IfOk result (λ found. 4 + found.0.header.size ≤ length bytes.now) }
+    ensures algorithm { IfOk result (λ found. found.1 ≡ algorithm found.0.body.now) }
+{
+    let event = first_event(bytes)?;
+    let algorithm = check_description(&event)?;
+    Ok((event, algorithm))
+}
+
 impl<'a> Log<'a> {
-    ghost use Rattle.std.specs.Prelude.{Option, option_map, Ok, Err, IfOk, IfErr};
-    ghost use Rattle.std.specs.Result.{result_ok, result_err};
+    ghost use Rattle.std.specs.Prelude.{Option, option_map, Ok, Err, IfErr};
+    ghost use Rattle.std.specs.Result.{result_ok};
     ghost use Rattle.blog_event.specs.declared.fault.Fault.TheVariants.{CutEvent};
     ghost use Rattle.blog_event.specs.Opening.{opening_fault};
     ghost use Rattle.blog_event.specs.LogView.{log_bytes};
@@ -50,15 +91,7 @@ impl<'a> Log<'a> {
         ensures exact { result_err result ≡ opening_fault bytes.now }
         ensures bytes { IfOk result (λ log. log_bytes log ≡ bytes.now) }
     {
-        if bytes.len() > u32::MAX as usize {
-            return Err(Fault::TooLong { pos: 0 });
-        }
-        if !has_magic(bytes) {
-            return Err(Fault::NotABinlog { pos: 0 });
-        }
-        let Some(format) = event_at(bytes, 4) else {
-            return Err(Fault::CutEvent { pos: 4 });
-        };
+        let format = first_event(bytes)?;
         check_format(&format)?;
         Ok(Log { bytes, format })
     }

@@ -9,6 +9,5 @@ pub mod Shown
 pub mod Agreement
 pub mod Outputs
 pub mod Answers
-pub mod Watched
 pub mod Runs
 pub mod Worked

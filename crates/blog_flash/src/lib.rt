@@ -1,7 +1,6 @@
 //! The log that undoes a selection of a log's changes.
 #![tactic(auto)]
 
-mod devices;
 mod laid_out;
 mod lengths;
 mod modes;
@@ -15,11 +14,11 @@ mod tests;
 mod theorems;
 mod worked_logs;
 
+pub use blog_device::{RunFault, Watched, put};
 pub use blog_event::Fault;
 pub use blog_trans::Selection;
-pub use devices::Watched;
 pub use modes::{Mode, answer, flashback, forward, sql, summary};
-pub use runs::{RunFault, prepare, put, run};
+pub use runs::{prepare, run};
 pub use theorems::{
     every_stop_stands, flashback_undoes, forward_is_normal, groups_show_each_event_once,
     maps_agree_on_layouts, written_changes_are_inverse, written_logs_are_no_longer,

@@ -1,14 +1,13 @@
 //! Answers to small logs.
 
 use crate::{Fault, Mode, RunFault, Selection, Watched, answer, flashback, forward, prepare, run};
-use devices::{ALL, Failure, SlowWriter};
 use logs::{
     DELETE_ONE_ROW, DELETES_THREE, INSERT_ONE_ROW, INSERTS_THREE, INSERTS_THREE_PLAINLY, with_byte,
     with_rows,
 };
 use std::test::Fail;
+use test_devices::{ALL, Failure, SlowWriter};
 
-mod devices;
 mod logs;
 mod printing;
 mod running;
@@ -122,7 +121,7 @@ fn logs_are_refused(rt: HostRuntime) -> Result<(), Fail> {
         (&without_column, Fault::PartialImage { pos: 196 }),
     ] {
         let mut reader = Watched::new(log);
-        let mut writer = SlowWriter::new(&rt, ALL, Failure::Never);
+        let mut writer = Watched::new(SlowWriter::new(&rt, ALL, Failure::Never));
         let ran = run(
             rt.alloc(),
             &mut reader,

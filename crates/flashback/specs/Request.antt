@@ -5,10 +5,9 @@ use Rattle.std.specs.Str.{bytes_eq}
 use Rattle.std.specs.Str.Parse.{IsNumeral, digits_value}
 use Rattle.clap.specs.Words.{first_value, found_of, kind_of, one_text}
 use Rattle.clap.specs.declared.error.Error.{Error}
-use Rattle.clap.specs.declared.error.kind.ErrorKind.{ErrorKind}
-use Rattle.clap.specs.declared.error.kind.ErrorKind.TheVariants.{DisplayHelp, DisplayVersion}
 use Rattle.clap.specs.declared.parser.matches.ArgMatches.{ArgMatches}
 use Rattle.clap.specs.declared.parser.matches.Found.{Found}
+use Rattle.console.specs.Told.{AsksForText}
 use Rattle.blog_flash.specs.declared.modes.Mode.{Mode}
 use Rattle.blog_flash.specs.declared.modes.Mode.TheVariants.{Flashback, Forward, FlashbackSql, ForwardSql, Summary}
 use Rattle.flashback.specs.declared.words.Asked.{Asked}
@@ -83,10 +82,6 @@ RefusesRun found NotText = ⊥
 RefusesRun found OutOfMemory = ⊤
 
 -- ---- the parser's answer
-
--- it is the help, or the version
-abbrev pub AsksForText : ErrorKind → Type 0
-AsksForText kind = (kind ≡ DisplayHelp) ⊎ (kind ≡ DisplayVersion)
 
 -- what is asked for by it: the run by what it found, a text where that is its answer, and else the words are wrong or
 -- memory was refused

@@ -3,8 +3,9 @@
 ghost use Rattle.std.specs.Prelude.{◌≡◌, ◌≤◌, ◌||◌, IfErr, IsErr, IsOk, IsSome, OnErr, false, true};
 ghost use Rattle.std.specs.Process.{exit_status};
 ghost use Rattle.blog_trans.specs.Selection.{selection_of};
-ghost use Rattle.blog_flash.specs.Runs.{Prepares, Runs, ends_before_writing, is_write_fault};
-ghost use Rattle.blog_flash.specs.Watched.{device_of, has_failed};
+ghost use Rattle.blog_device.specs.Devices.{is_write_fault};
+ghost use Rattle.blog_device.specs.Watched.{device_of, has_failed};
+ghost use Rattle.blog_flash.specs.Runs.{Prepares, Runs, ends_before_writing};
 ghost use Rattle.flashback.specs.Status.{status_of};
 ghost use Rattle.flashback.specs.declared.commands.Failure.TheVariants.{Words, Run};
 

@@ -3,9 +3,10 @@
 use crate::commands::Failure;
 use crate::words::{ModeFault, WordsFault};
 use blog_flash::{Fault, RunFault, Watched, put};
+use console::put_line;
 use std::alloc::Allocator;
 use std::fmt;
-use std::io::{Cursor, Write};
+use std::io::Write;
 
 /// What is told where no mode is chosen, or several are.
 const CHOOSE_ONE_MODE: &str = "choose one of -B, --forward, --summary";
@@ -13,15 +14,12 @@ const CHOOSE_ONE_MODE: &str = "choose one of -B, --forward, --summary";
 /// What is told where a summary is asked for as pseudo-SQL.
 const SQL_OF_SUMMARY: &str = "--sql goes with -B or --forward";
 
-/// More bytes than the longest line has, with its end.
-const LINE_ROOM: usize = 64;
-
 impl<A: Allocator> Failure<A> {
     /// Prints the failure. What can't be printed is dropped.
     pub fn print<E: Write>(&self, errors: &mut Watched<E>) {
         let _ = match self {
             Failure::Words(WordsFault::Wrong(text)) => put(errors, text.as_bytes()),
-            _ => put_line(errors, self),
+            _ => put_line(errors, "flashback", self),
         };
     }
 }
@@ -49,20 +47,6 @@ impl fmt::Display for ModeFault {
             ModeFault::SqlOfSummary => SQL_OF_SUMMARY,
         })
     }
-}
-
-/// Writes the failure's line at once, and without memory.
-fn put_line<A: Allocator, E: Write>(
-    errors: &mut Watched<E>,
-    failure: &Failure<A>,
-) -> Result<(), RunFault> {
-    let mut line = Cursor::new([0u8; LINE_ROOM]);
-    if writeln!(line, "flashback: {failure}").is_err() {
-        return Ok(());
-    }
-    let end = line.position() as usize;
-    let room = line.get_ref().as_slice();
-    put(errors, room.get(..end).unwrap_or(room))
 }
 
 #[cfg(test)]

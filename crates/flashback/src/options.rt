@@ -1,6 +1,7 @@
 //! Every word that the program knows, and the help.
 
-use clap::{Arg, ArgAction, Command};
+use clap::{Arg, Command};
+use console::{flag, option};
 use std::alloc::{AllocError, Global};
 
 /// The name of `-B`.
@@ -105,17 +106,4 @@ fn selecting_words<'w>(alloc: Global, command: Command<'w>) -> Result<Command<'w
         .arg(stop)?
         .arg(database.short('d'))?
         .arg(table.short('T'))
-}
-
-/// A word `--name` that takes no value.
-fn flag<'w>(alloc: Global, name: &'w str) -> Arg<'w> {
-    Arg::new(alloc, name).long(name).action(ArgAction::SetTrue)
-}
-
-/// A word `--name` that takes a value, whatever that begins with, as `mysqlbinlog` does.
-fn option<'w>(alloc: Global, name: &'w str, value: &'w str) -> Arg<'w> {
-    Arg::new(alloc, name)
-        .long(name)
-        .value_name(value)
-        .allow_hyphen_values(true)
 }

@@ -12,6 +12,7 @@ use crate::options::{
 use blog_flash::{Mode, Selection};
 use clap::error::ErrorKind;
 use clap::{ArgMatches, Command, Error};
+use console::Told;
 use std::alloc::{AllocError, Allocator, Global};
 
 /// What the words ask for.
@@ -192,14 +193,9 @@ fn read_error<'w, A: Allocator>(alloc: A, error: &Error) -> Result<Asked<'w, A>,
     ensures memory { kind_of error.now ≡ ErrorKind.OutOfMemory → result ≡ Err OutOfMemory }
     ensures read { IsRead (Err error.now) result }
 {
-    if error.kind() == ErrorKind::OutOfMemory {
-        return Err(WordsFault::OutOfMemory);
-    }
-    let text = error.to_string(alloc)?;
-    if error.use_stderr() {
-        Err(WordsFault::Wrong(text))
-    } else {
-        Ok(Asked::Help(text))
+    match console::read_error(alloc, error)? {
+        Told::Asked(text) => Ok(Asked::Help(text)),
+        Told::Wrong(text) => Err(WordsFault::Wrong(text)),
     }
 }
 

@@ -1,7 +1,7 @@
 //! Which bytes are opened as a log, and why others are not.
 
 use super::logs::{LOG, log_of, log_with, with_bytes};
-use crate::{Fault, Log};
+use crate::{Fault, Log, format_description};
 use std::test::Fail;
 
 const BAD_FORMAT: Fault = Fault::BadFormat { pos: 4 };
@@ -38,6 +38,22 @@ fn opens_other_formats(rt: HostRuntime) -> Result<(), Fail> {
         let changed = with_bytes(at, bytes);
         assert_eq!(rt; Log::open(&changed)?.first(), first, "at {at}");
     }
+    Ok(())
+}
+
+#[test]
+fn gives_the_algorithm(rt: HostRuntime) -> Result<(), Fail> {
+    for algorithm in [0, 1, 255] {
+        let changed = with_bytes(115, &[algorithm]);
+        let (format, found) = format_description(&changed)?;
+        assert_eq!(rt;
+            (format.pos, format.header.size, found),
+            (4, 116, algorithm)
+        );
+    }
+    let old = log_with(rt.alloc(), b"5.5.62", &LOG[80..105], &[1; 5])?;
+    assert_eq!(rt; format_description(&old)?.1, 0);
+    assert_eq!(rt; format_description(&LOG[..119]).err(), Some(CUT));
     Ok(())
 }
 

@@ -1,12 +1,10 @@
 //! Runs over devices that move 1, 7 or all bytes a call, and that fail at each of their calls.
 
-use super::devices::{ALL, Failure, KINDS, SlowReader, SlowWriter};
-use super::logs::{INSERT_ONE_ROW, TWO_TRANSACTIONS, TWO_TRANSACTIONS_UNDONE, log_of};
-use crate::runs::read_up_to;
-use crate::{Fault, Mode, RunFault, Selection, Watched, prepare, put, run};
-use std::io;
+use super::logs::{TWO_TRANSACTIONS, TWO_TRANSACTIONS_UNDONE, log_of};
+use crate::{Fault, Mode, RunFault, Selection, Watched, prepare, run};
 use std::process::Abort;
 use std::test::Fail;
+use test_devices::{ALL, Failure, KINDS, SlowReader, SlowWriter};
 
 // How many bytes a reader gives a call, and its calls for the log of 499 bytes: the last finds the end.
 const READERS: [(usize, u64); 3] = [(1, 500), (7, 73), (ALL, 2)];
@@ -72,9 +70,9 @@ fn check_run<R: AllocGlobal + Abort>(
     wanted: &Outcome,
 ) {
     let (step, failure) = reader;
-    let mut reader = SlowReader::new(&logs.log, step, failure);
+    let mut reader = Watched::new(SlowReader::new(&logs.log, step, failure));
     let (step, failure) = writer;
-    let mut writer = SlowWriter::new(rt, step, failure);
+    let mut writer = Watched::new(SlowWriter::new(rt, step, failure));
     assert_eq!(rt; run_marked(rt, &mut reader, &mut writer), wanted.answer);
     assert_eq!(rt; reader.device().calls, wanted.reads);
     assert_eq!(rt; writer.device().calls, wanted.writes);
@@ -85,7 +83,7 @@ fn check_run<R: AllocGlobal + Abort>(
 // The same of the half that reads: it gives the output, or Read.
 fn check_prepare<R: AllocGlobal + Abort>(rt: &R, logs: &Logs, reader: Habit, wanted: &Outcome) {
     let (step, failure) = reader;
-    let mut reader = SlowReader::new(&logs.log, step, failure);
+    let mut reader = Watched::new(SlowReader::new(&logs.log, step, failure));
     let prepared = prepare(rt.alloc(), &mut reader, Mode::Flashback, &Selection::all());
     let answer = match prepared {
         Ok(text) => {
@@ -99,17 +97,6 @@ fn check_prepare<R: AllocGlobal + Abort>(rt: &R, logs: &Logs, reader: Habit, wan
     check_mark(rt, reader.failed(), reader.device().failed_calls);
 }
 
-// The same of the half that writes.
-fn check_put<R: AllocGlobal + Abort>(rt: &R, logs: &Logs, writer: Habit, wanted: &Outcome) {
-    let (step, failure) = writer;
-    let mut writer = SlowWriter::new(rt, step, failure);
-    assert_eq!(rt; put(&mut writer, &logs.undone), wanted.answer);
-    assert_eq!(rt; writer.device().calls, wanted.writes);
-    let taken = logs.undone.get(..wanted.taken);
-    assert_eq!(rt; Some(writer.device().taken.as_slice()), taken);
-    check_mark(rt, writer.failed(), writer.device().failed_calls);
-}
-
 // What comes of a writer that fails, after so many calls and so many bytes.
 fn unwritten(writes: u64, taken: usize) -> Outcome {
     Outcome {
@@ -120,9 +107,9 @@ fn unwritten(writes: u64, taken: usize) -> Outcome {
     }
 }
 
+// A run of the log from a steady reader into this device has this outcome.
 fn check_writer<R: AllocGlobal + Abort>(rt: &R, logs: &Logs, writer: Habit, wanted: &Outcome) {
     check_run(rt, logs, STEADY, writer, wanted);
-    check_put(rt, logs, writer, wanted);
 }
 
 #[test]
@@ -145,7 +132,6 @@ fn check_writers<R: AllocGlobal + Abort>(rt: &R, logs: &Logs, step: usize, reads
         };
         check_run(rt, logs, reader, writer, &wanted);
         check_prepare(rt, logs, reader, &wanted);
-        check_put(rt, logs, writer, &wanted);
     }
 }
 
@@ -258,7 +244,7 @@ fn check_failed_flush<R: AllocGlobal + Abort>(rt: &R, logs: &Logs, step: usize, 
 }
 
 #[test]
-fn a_failed_flush_comes_after_all_bytes(rt: HostRuntime) -> Result<(), Fail> {
+fn a_failed_flush_ends_the_run(rt: HostRuntime) -> Result<(), Fail> {
     let logs = two_transactions(&rt)?;
     for (step, writes) in WRITERS {
         check_failed_flush(&rt, &logs, step, writes);
@@ -266,87 +252,13 @@ fn a_failed_flush_comes_after_all_bytes(rt: HostRuntime) -> Result<(), Fail> {
     Ok(())
 }
 
-// Puts no bytes into a writer: it is called once.
-fn check_put_nothing<R: AllocGlobal + Abort>(
-    rt: &R,
-    failure: Failure,
-    wanted: Result<(), RunFault>,
-) {
-    let mut writer = SlowWriter::new(rt, ALL, failure);
-    assert_eq!(rt; put(&mut writer, b""), wanted);
-    assert_eq!(rt; writer.device().calls, 1);
-    assert!(rt; writer.device().taken.is_empty());
-    assert_eq!(rt; writer.failed(), wanted.is_err());
-    check_mark(rt, writer.failed(), writer.device().failed_calls);
-}
-
-#[test]
-fn no_bytes_are_flushed_once(rt: HostRuntime) -> Result<(), Fail> {
-    check_put_nothing(&rt, Failure::Never, Ok(()));
-    for kind in KINDS {
-        check_put_nothing(&rt, Failure::AtFlush(kind), Err(RunFault::Write));
-    }
-    Ok(())
-}
-
-#[test]
-fn a_watched_device_answers_its_own_errors(rt: HostRuntime) -> Result<(), Fail> {
-    for kind in KINDS {
-        let mut reader = SlowReader::new(&INSERT_ONE_ROW, 1, Failure::At(1, kind));
-        let error = reader.read(&mut [0; 4]).err().ok_or("read")?;
-        assert_eq!(rt; error.kind(), kind);
-
-        let mut writer = SlowWriter::new(&rt, ALL, Failure::At(1, kind));
-        let error = writer.write(&INSERT_ONE_ROW).err().ok_or("written")?;
-        assert_eq!(rt; error.kind(), kind);
-
-        let mut writer = SlowWriter::new(&rt, ALL, Failure::AtFlush(kind));
-        let error = writer.flush().err().ok_or("flushed")?;
-        assert_eq!(rt; error.kind(), kind);
-    }
-    Ok(())
-}
-
 #[test]
 fn a_refused_log_leaves_the_writer_alone(rt: HostRuntime) -> Result<(), Fail> {
-    let mut reader = SlowReader::new(b"no log", 1, Failure::Never);
-    let mut writer = SlowWriter::new(&rt, ALL, Failure::Never);
+    let mut reader = Watched::new(SlowReader::new(b"no log", 1, Failure::Never));
+    let mut writer = Watched::new(SlowWriter::new(&rt, ALL, Failure::Never));
     let refused = RunFault::Log(Fault::NotABinlog { pos: 0 });
     assert_eq!(rt; run_marked(&rt, &mut reader, &mut writer), Err(refused));
     assert_eq!(rt; reader.device().calls, 7);
     assert_eq!(rt; writer.device().calls, 0);
-    Ok(())
-}
-
-#[test]
-fn reading_stops_one_byte_past_the_limit(rt: HostRuntime) -> Result<(), Fail> {
-    let mut reader = SlowReader::new(b"thirteen byte", 1, Failure::Never);
-    let bytes = read_up_to(rt.alloc(), &mut reader, 13)
-        .ok()
-        .ok_or("refused")?;
-    assert_eq!(rt; bytes.as_slice(), b"thirteen byte".as_slice());
-
-    let mut reader = SlowReader::new(b"thirteen bytes and more", 1, Failure::Never);
-    let fault = read_up_to(rt.alloc(), &mut reader, 13).err().ok_or("read")?;
-    assert_eq!(rt; fault, RunFault::Log(Fault::TooLong { pos: 0 }));
-    assert_eq!(rt; reader.device().calls, 14);
-    assert!(rt; !reader.failed());
-    Ok(())
-}
-
-#[test]
-fn bytes_of_several_reads_go_through_memory(rt: HostRuntime) -> Result<(), Fail> {
-    let mut bytes = INSERT_ONE_ROW.to_vec(rt.alloc())?;
-    bytes.resize(150_000, b'.')?;
-    let mut reader = Watched::new(bytes.as_slice());
-    let read = read_up_to(rt.alloc(), &mut reader, 150_000)
-        .ok()
-        .ok_or("refused")?;
-    assert_eq!(rt; read.as_slice(), bytes.as_slice());
-
-    let mut writer = Watched::new(Vec::new(rt.alloc()));
-    assert_eq!(rt; put(&mut writer, &read), Ok(()));
-    assert_eq!(rt; writer.device().as_slice(), bytes.as_slice());
-    assert!(rt; !reader.failed() && !writer.failed());
     Ok(())
 }

@@ -1,0 +1,182 @@
+//! Runs of the program, over files in the folder for temporary files and writers in memory.
+
+mod failing_writers;
+mod logs;
+mod refused_memory;
+mod result_files;
+
+use crate::commands::command;
+use blog_device::Watched;
+use logs::{PLAIN, SUMMED};
+use std::alloc::AllocError;
+use std::path::PathBuf;
+use std::process::{Abort, ExitCode};
+use std::test::Fail;
+use std::{env, fs, io, process};
+
+/// Where the Stop event of `SUMMED` begins.
+const STOP: usize = 120;
+
+/// What a run answered, and what it wrote.
+#[derive(Drop)]
+struct Outcome {
+    status: ExitCode,
+    output: Watched<Vec<u8>>,
+    errors: Watched<Vec<u8>>,
+}
+
+impl Outcome {
+    fn output(&self) -> &[u8] {
+        self.output.device().as_slice()
+    }
+
+    fn errors(&self) -> &[u8] {
+        self.errors.device().as_slice()
+    }
+
+    /// Whether the run did what was asked for, wrote this, and printed nothing.
+    fn is_done(&self, output: &[u8]) -> bool {
+        self.status == ExitCode::SUCCESS && self.output() == output && self.errors().is_empty()
+    }
+
+    /// Whether the run ended with this status, wrote nothing else, and printed a line that begins so and has an end.
+    fn is_refusal(&self, status: u8, line: &str) -> bool {
+        self.status == ExitCode::from(status)
+            && self.output().is_empty()
+            && self.errors().starts_with(line.as_bytes())
+            && self.errors().ends_with(b"\n")
+    }
+}
+
+/// The words of a run, of which the first is the program's name.
+fn words_of(rt: &HostRuntime, words: &[&str]) -> Result<Vec<String>, AllocError> {
+    let mut all = Vec::new(rt.alloc());
+    all.push(String::from_str(rt.alloc(), "binlog")?)?;
+    for word in words {
+        all.push(String::from_str(rt.alloc(), word)?)?;
+    }
+    Ok(all)
+}
+
+fn run_given(rt: &HostRuntime, words: io::Result<Vec<String>>) -> Outcome {
+    let mut output = Watched::new(Vec::new(rt.alloc()));
+    let mut errors = Watched::new(Vec::new(rt.alloc()));
+    let status = command(rt, rt.alloc(), words, &mut output, &mut errors);
+    Outcome {
+        status,
+        output,
+        errors,
+    }
+}
+
+fn run_words(rt: &HostRuntime, words: &[&str]) -> Result<Outcome, AllocError> {
+    Ok(run_given(rt, Ok(words_of(rt, words)?)))
+}
+
+/// A path in the folder for temporary files that no other test has.
+fn path_of(rt: &HostRuntime, name: &str) -> io::Result<PathBuf> {
+    let id = process::id(rt.process());
+    let file = format!(in rt.alloc(); "binlog-{id}-{name}.binlog")?;
+    Ok(env::temp_dir(rt)?.join(rt.alloc(), file.as_str())?)
+}
+
+/// Runs the program with these words and a file of these bytes as the last word.
+fn run_log(rt: &HostRuntime, name: &str, log: &[u8], words: &[&str]) -> Result<Outcome, Fail> {
+    let path = path_of(rt, name)?;
+    fs::write(rt, path.as_path(), log)?;
+    let mut all = words_of(rt, words)?;
+    all.push(String::from_str(rt.alloc(), path.as_str())?)?;
+    let outcome = run_given(rt, Ok(all));
+    fs::remove_file(rt, path.as_path())?;
+    Ok(outcome)
+}
+
+/// `SUMMED` with one byte changed.
+fn with_byte(rt: &HostRuntime, at: usize, byte: u8) -> Result<Vec<u8>, Fail> {
+    let mut log = SUMMED.to_vec(rt.alloc())?;
+    *log.get_mut(at).ok_or("an edit past the end")? = byte;
+    Ok(log)
+}
+
+#[test]
+fn sums_are_taken_out(rt: HostRuntime) -> Result<(), Fail> {
+    assert!(rt; run_log(&rt, "summed", SUMMED.as_slice(), &["plain"])?.is_done(PLAIN.as_slice()));
+    assert!(rt; run_log(&rt, "plain", PLAIN.as_slice(), &["plain"])?.is_done(PLAIN.as_slice()));
+    Ok(())
+}
+
+/// Runs the program over a log that it refuses with this line.
+fn tells(rt: &HostRuntime, log: &[u8], line: &str) -> Result<(), Fail> {
+    if run_log(rt, "refused", log, &["plain"])?.is_refusal(1, line) {
+        Ok(())
+    } else {
+        Err(Fail::new(format_args!("it isn't told: {line}")))
+    }
+}
+
+#[test]
+fn refused_logs_are_told(rt: HostRuntime) -> Result<(), Fail> {
+    let wrong = with_byte(&rt, STOP + 5, 2)?;
+    let format = with_byte(&rt, 23, 3)?;
+    let old = with_byte(&rt, 25, b'x')?;
+    let unknown = with_byte(&rt, STOP - 5, 2)?;
+    tells(&rt, b"no log", "binlog: NotABinlog at 0: ")?;
+    tells(&rt, &SUMMED[..STOP + 22], "binlog: CutEvent at 120: ")?;
+    tells(&rt, format.as_slice(), "binlog: BadFormat at 4: ")?;
+    tells(&rt, old.as_slice(), "binlog: OldServer at 4: ")?;
+    tells(&rt, unknown.as_slice(), "binlog: UnknownAlgorithm at 4: ")?;
+    tells(&rt, wrong.as_slice(), "binlog: WrongSum at 120: ")
+}
+
+#[test]
+fn logs_that_cannot_be_read_are_told(rt: HostRuntime) -> Result<(), Fail> {
+    let absent = path_of(&rt, "absent")?;
+    let outcome = run_words(&rt, &["plain", absent.as_str()])?;
+    assert!(rt; outcome.is_refusal(1, "binlog: cannot open the log: "));
+    let folder = env::temp_dir(&rt)?;
+    let outcome = run_words(&rt, &["plain", folder.as_str()])?;
+    assert!(rt; outcome.is_refusal(1, "binlog: read failed: "));
+    Ok(())
+}
+
+#[test]
+fn help_and_version_are_written(rt: HostRuntime) -> Result<(), Fail> {
+    let cases = [
+        (
+            &["--help"] as &[&str],
+            "binlog plain [-r FILE [--force]] LOG",
+        ),
+        (&["plain", "--help"], "-r is the same as --result-file"),
+        (&["--version"], "binlog 0.1.0\n"),
+    ];
+    for (words, text) in cases {
+        let outcome = run_words(&rt, words)?;
+        assert_eq!(rt; outcome.status, ExitCode::SUCCESS);
+        assert!(rt; outcome.errors().is_empty());
+        assert!(rt; str::from_utf8(outcome.output())?.contains(text), "{text}");
+    }
+    Ok(())
+}
+
+#[test]
+fn wrong_words_end_in_two(rt: HostRuntime) -> Result<(), Fail> {
+    let cases = [
+        &[] as &[&str],
+        &["plain"],
+        &["plain", "a", "b"],
+        &["plain", "--nothing", "a"],
+        &["other", "a"],
+        &["a"],
+    ];
+    for words in cases {
+        assert!(rt;
+            run_words(&rt, words)?.is_refusal(2, "error: "),
+            "{words:?}"
+        );
+    }
+    let not_text = run_given(&rt, Err(io::Error::from(io::ErrorKind::InvalidData)));
+    assert!(rt; not_text.is_refusal(2, "binlog: the arguments are not UTF-8: "));
+    let no_memory = run_given(&rt, Err(io::Error::from(io::ErrorKind::OutOfMemory)));
+    assert!(rt; no_memory.is_refusal(1, "binlog: OutOfMemory: "));
+    Ok(())
+}

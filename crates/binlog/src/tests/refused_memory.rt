@@ -1,0 +1,64 @@
+//! Runs in which one request for memory is refused, each in turn.
+
+use super::logs::{PLAIN, SUMMED};
+use super::{Outcome, path_of, words_of};
+use crate::commands::command;
+use blog_device::Watched;
+use refusing::Refusing;
+use std::fs;
+use std::test::Fail;
+
+/// More requests than each of these runs makes.
+const REQUESTS: usize = 200;
+
+const OUT_OF_MEMORY: &str = "binlog: OutOfMemory: ";
+
+/// Runs the program with these words. Answers also whether its request of this number was refused.
+fn run_refusing(rt: &HostRuntime, words: &[&str], number: usize) -> Result<(Outcome, bool), Fail> {
+    let refusing = Refusing::new(rt.alloc(), number);
+    let mut output = Watched::new(Vec::new(rt.alloc()));
+    let mut errors = Watched::new(Vec::new(rt.alloc()));
+    let all = words_of(rt, words)?;
+    let status = command(rt, &refusing, Ok(all), &mut output, &mut errors);
+    let outcome = Outcome {
+        status,
+        output,
+        errors,
+    };
+    Ok((outcome, refusing.has_refused()))
+}
+
+/// Refuses each request of a run in turn: it ends with want of memory, and the result file isn't created. Answers the run
+/// that is refused none, and how many were refused before it.
+fn refuse_in_turn(rt: &HostRuntime, words: &[&str], file: &str) -> Result<(Outcome, usize), Fail> {
+    for number in 1..REQUESTS {
+        let (outcome, refused) = run_refusing(rt, words, number)?;
+        if !refused {
+            return Ok((outcome, number - 1));
+        }
+        if !outcome.is_refusal(1, OUT_OF_MEMORY) || fs::exists(rt, file)? {
+            return Err(Fail::new(format_args!("request {number}: {words:?}")));
+        }
+    }
+    Err(Fail::new("there are more requests"))
+}
+
+#[test]
+fn want_of_memory_leaves_nothing(rt: HostRuntime) -> Result<(), Fail> {
+    let log = path_of(&rt, "unremembered")?;
+    let result = path_of(&rt, "unmade")?;
+    fs::write(&rt, log.as_path(), SUMMED.as_slice())?;
+    let words = ["plain", log.as_str()];
+    let (outcome, refused) = refuse_in_turn(&rt, words.as_slice(), result.as_str())?;
+    assert!(rt; outcome.is_done(PLAIN.as_slice()));
+    assert!(rt; refused >= 2, "{refused}");
+    let words = ["plain", "-r", result.as_str(), log.as_str()];
+    let (outcome, refused) = refuse_in_turn(&rt, words.as_slice(), result.as_str())?;
+    assert!(rt; outcome.is_done(b""));
+    assert!(rt; refused >= 2, "{refused}");
+    let written = fs::read(&rt, result.as_path())?;
+    fs::remove_file(&rt, result.as_path())?;
+    fs::remove_file(&rt, log.as_path())?;
+    assert_eq!(rt; written.as_slice(), PLAIN.as_slice());
+    Ok(())
+}

@@ -1,0 +1,8 @@
+pub mod Steps
+pub mod Entries
+pub mod Bytes
+pub mod Texts
+pub mod Walk
+pub mod Formats
+pub mod Plains
+pub mod Faults

@@ -1,0 +1,51 @@
+//! Why a log has no plain copy.
+
+ghost use Rattle.std.specs.Prelude.{◌≡◌};
+ghost use Rattle.blog_sum.specs.declared.fault.SumFault.TheVariants.{Log, OutOfMemory};
+
+use blog_event::Fault;
+use std::alloc::{AllocError, AllocFailed};
+use thiserror::Error;
+
+/// Why a log has no plain copy. Each fault but the last has a byte position from the file's start.
+#[derive(Clone, Copy, Debug, PartialEq, Eq, Error)]
+pub enum SumFault {
+    /// It is no log: `TooLong` and `NotABinlog` at 0, `BadFormat` and `OldServer` at 4; or `CutEvent` where fewer than 19
+    /// bytes are left, or an event's size is below 19, in a log with sums below 23, or reaches past the file's end.
+    #[error("{0}")]
+    Log(Fault),
+    /// The checksum algorithm of the format description is neither 0, none, nor 1, CRC-32; at 4.
+    #[error("UnknownAlgorithm at {pos}")]
+    UnknownAlgorithm { pos: u32 },
+    /// The last four bytes of an event aren't the CRC-32 of those before them; at the event.
+    #[error("WrongSum at {pos}")]
+    WrongSum { pos: u32 },
+    /// The memory for the plain copy was refused.
+    #[error("OutOfMemory")]
+    OutOfMemory,
+}
+
+// Written by hand, so that clauses know which fault a `?` makes.
+impl From<Fault> for SumFault {
+    ghost from_gives = { λ of_log fault. fault ≡ Log of_log };
+
+    fn from(fault: Fault) -> SumFault {
+        SumFault::Log(fault)
+    }
+}
+
+impl From<AllocError> for SumFault {
+    ghost from_gives = { λ _ fault. fault ≡ OutOfMemory };
+
+    fn from(_refused: AllocError) -> SumFault {
+        SumFault::OutOfMemory
+    }
+}
+
+impl<T: Drop> From<AllocFailed<T>> for SumFault {
+    ghost from_gives = { λ _ fault. fault ≡ OutOfMemory };
+
+    fn from(_refused: AllocFailed<T>) -> SumFault {
+        SumFault::OutOfMemory
+    }
+}

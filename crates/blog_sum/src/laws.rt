@@ -1,0 +1,9 @@
+//! Laws of the definition.
+
+ghost use Rattle.std.specs.Prelude.{◌≡◌, codes};
+ghost use Rattle.blog_sum.specs.Crc.{crc32_of};
+
+/// The check value by which CRC-32 is known: the sum of the digits from 1 to 9. The call does nothing.
+pub fn check_value()
+    ensures check { crc32_of (codes "123456789") ≡ 0xCBF43926 }
+{}
