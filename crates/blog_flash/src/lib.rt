@@ -9,8 +9,6 @@ mod printed;
 mod put_sql;
 mod put_summary;
 mod runs;
-#[cfg(test)]
-mod tests;
 mod theorems;
 mod worked_logs;
 

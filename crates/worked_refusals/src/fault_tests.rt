@@ -144,6 +144,12 @@ fn later_events_that_are_refused(rt: HostRuntime) -> Result<(), Fail> {
         flags,
         body: &[],
     };
+    // Without a byte behind the schema.
+    let cut_query = Part::Other {
+        kind: 2,
+        flags: 0,
+        body: &[0; 13],
+    };
     for (last, fault) in [
         (
             query(b"DROP TABLE t".as_slice()),
@@ -151,17 +157,40 @@ fn later_events_that_are_refused(rt: HostRuntime) -> Result<(), Fail> {
         ),
         (query(b"ROLLBACK"), Fault::RolledBack { pos: 259 }),
         (query(b"begin"), Fault::Statement { pos: 259 }),
+        (query(b"COMMIT "), Fault::Statement { pos: 259 }),
+        (query(b"ROLLBACK TOO"), Fault::Statement { pos: 259 }),
         (of_type(28, 0), Fault::UnknownEvent { pos: 259 }),
+        (of_type(28, 0x0008), Fault::UnknownEvent { pos: 259 }),
+        (of_type(26, 0x0080), Fault::UnknownEvent { pos: 259 }),
+        (of_type(160, 0x0080), Fault::UnknownEvent { pos: 259 }),
         (of_type(162, 0x0080), Fault::UnknownEvent { pos: 259 }),
+        (of_type(20, 0x0080), Fault::UnknownEvent { pos: 259 }),
         (of_type(22, 0x0080), Fault::UnknownEvent { pos: 259 }),
+        (of_type(22, 0), Fault::UnknownEvent { pos: 259 }),
         (of_type(23, 0x0080), Fault::OutOfPlace { pos: 259 }),
         (of_type(39, 0x0080), Fault::PartialImage { pos: 259 }),
         (of_type(2, 0), Fault::BadBody { pos: 259 }),
+        (cut_query, Fault::BadBody { pos: 259 }),
         (of_type(5, 0), Fault::Statement { pos: 259 }),
+        (of_type(14, 0), Fault::Statement { pos: 259 }),
         (of_type(33, 0), Fault::Unended { pos: 278 }),
     ] {
         let log = with_last(&rt, last)?;
         check_fault(&rt, &log, &Selection::all(), Some(fault));
+    }
+    Ok(())
+}
+
+#[test]
+fn later_events_that_are_skipped(rt: HostRuntime) -> Result<(), Fail> {
+    for (kind, flags) in [(3, 0), (28, 0x0080), (41, 0x0080), (159, 0x0080)] {
+        let last = Part::Other {
+            kind,
+            flags,
+            body: &[],
+        };
+        let log = with_last(&rt, last)?;
+        check_fault(&rt, &log, &Selection::all(), None);
     }
     Ok(())
 }

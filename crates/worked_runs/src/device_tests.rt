@@ -1,7 +1,7 @@
 //! Runs over devices that move 1, 7 or all bytes a call, and that fail at each of their calls.
 
-use super::logs::{TWO_TRANSACTIONS, TWO_TRANSACTIONS_UNDONE, log_of};
-use crate::{Fault, Mode, RunFault, Selection, Watched, prepare, run};
+use crate::logs::{TWO_TRANSACTIONS, TWO_TRANSACTIONS_UNDONE, log_of};
+use blog_flash::{Fault, Mode, RunFault, Selection, Watched, prepare, run};
 use std::process::Abort;
 use std::test::Fail;
 use test_devices::{ALL, Failure, KINDS, SlowReader, SlowWriter};

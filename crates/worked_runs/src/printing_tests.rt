@@ -1,7 +1,7 @@
 //! What is printed of small logs.
 
-use super::logs::{BEGIN, COMMIT, INSERT_ONE_ROW, MAP, Part, TWO_TRANSACTIONS, XID, log_of};
-use crate::{Mode, Selection, answer, flashback, sql, summary};
+use crate::logs::{BEGIN, COMMIT, INSERT_ONE_ROW, MAP, Part, TWO_TRANSACTIONS, XID, log_of};
+use blog_flash::{Mode, Selection, answer, flashback, sql, summary};
 use std::test::Fail;
 
 #[test]

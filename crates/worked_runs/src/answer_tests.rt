@@ -1,16 +1,14 @@
 //! Answers to small logs.
 
-use crate::{Fault, Mode, RunFault, Selection, Watched, answer, flashback, forward, prepare, run};
-use logs::{
+use crate::logs::{
     DELETE_ONE_ROW, DELETES_THREE, INSERT_ONE_ROW, INSERTS_THREE, INSERTS_THREE_PLAINLY, with_byte,
     with_rows,
 };
+use blog_flash::{
+    Fault, Mode, RunFault, Selection, Watched, answer, flashback, forward, prepare, run,
+};
 use std::test::Fail;
 use test_devices::{ALL, Failure, SlowWriter};
-
-mod logs;
-mod printing;
-mod running;
 
 // A log, and what it is answered with.
 const LOG: &[u8] = &INSERT_ONE_ROW;
