@@ -36,3 +36,4 @@ pub mod IndexFacts
 pub mod IndexStatements
 mod IndexCode
 pub mod IndexRows
+pub mod Turns

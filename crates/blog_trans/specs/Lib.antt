@@ -26,3 +26,5 @@ pub mod PlacedFacts
 pub mod WalkView
 pub mod IndexView
 pub mod Shown
+pub mod InTurn
+pub mod GroupEventsView

@@ -268,6 +268,31 @@ impl<'a, 's, A: Allocator> Index<'a, 's, A> {
         (self.event_at(entry.at), self.event_at(entry.link))
     }
 
+    /// The rows event `r` of statement `s` of transaction `t`, the map that it goes by, what that names, and the rows.
+    pub(crate) fn group_rows(
+        &self,
+        t: usize,
+        s: usize,
+        r: usize,
+    ) -> (Event<'a>, Event<'a>, TableMap<'a>, RowsEvent<'a>)
+        requires { IsSome (rows_at (index_groups self.now) t s r) }
+        ensures event { option_map (λ x. x.event) (rows_at (index_groups self.now) t s r) ≡ Some (placed result.0) }
+        ensures map { option_map (λ x. x.map) (rows_at (index_groups self.now) t s r) ≡ Some (placed result.1) }
+        ensures kind { IfSome (rows_at (index_groups self.now) t s r) (λ x. x.kind ≡ rows_kind result.3) }
+        ensures read { IfSome (rows_at (index_groups self.now) t s r) (λ x. x.body ≡ rows_body result.3) }
+        ensures names { IfSome (rows_at (index_groups self.now) t s r) (λ x. names_of x.map.event.body ≡ Some (map_names result.2)) }
+        ensures layout { IfSome (rows_at (index_groups self.now) t s r) (λ x. layout_of x.map.event.body ≡ Ok (layout_columns (rows_layout result.3))) }
+        ensures size { result.0.header.size ≡ event_size (event_of result.0) }
+    {
+        let (event, map) = self.rows_and_map(t, s, r);
+        let EventKind::Rows(kind) = event_kind(&event) else {
+            unreachable!();
+        };
+        let layout = Layout::known(map.body);
+        let rows = RowsEvent::known(kind, event.body, &layout);
+        (event, map, TableMap::known(map.body), rows)
+    }
+
     /// The rows event `r` of statement `s` of transaction `t`, with the map that it goes by. No row is read.
     pub fn rows_event(
         &self,
@@ -283,13 +308,8 @@ impl<'a, 's, A: Allocator> Index<'a, 's, A> {
         ensures layout { IfSome (rows_at (index_groups self.now) t s r) (λ x. layout_of x.map.event.body ≡ Ok (layout_columns (rows_layout result.2))) }
         ensures size { result.0.header.size ≡ event_size (event_of result.0) }
     {
-        let (event, map) = self.rows_and_map(t, s, r);
-        let EventKind::Rows(kind) = event_kind(&event) else {
-            unreachable!();
-        };
-        let layout = Layout::known(map.body);
-        let rows = RowsEvent::known(kind, event.body, &layout);
-        (event, TableMap::known(map.body), rows)
+        let (event, _, table, rows) = self.group_rows(t, s, r);
+        (event, table, rows)
     }
 
     /// An entry for each event of the groups, in the order in which the log in normal form has them. No event has two

@@ -3,6 +3,7 @@
 
 mod counts;
 mod entry;
+mod group_events;
 mod groups;
 mod judge;
 mod keeper;
@@ -19,6 +20,7 @@ mod walker;
 mod walking;
 
 pub use entry::Entry;
+pub use group_events::{GroupEvent, GroupEvents, GroupRows};
 pub use groups::{Index, TableCount};
 pub use kind::{EventKind, event_kind};
 pub use laws::{

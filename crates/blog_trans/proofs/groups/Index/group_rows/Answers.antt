@@ -8,7 +8,7 @@ use Rattle.blog_trans.specs.IndexView.{index_bytes, index_groups, index_selectio
 use Rattle.blog_trans.proofs.IndexFacts.{Stands}
 use Rattle.blog_trans.proofs.IndexStatements.{has_rows}
 use Rattle.blog_trans.proofs.IndexRows.{same_event, kind_found, kind_same, layout_ok, body_read, body_same, names_some}
-use Rattle.blog_trans.proofs.groups.Index.rows_event.Goals as goal
+use Rattle.blog_trans.proofs.groups.Index.group_rows.Goals as goal
 
 pub unreachable-requires : goal.unreachable-requires
 unreachable-requires g c =

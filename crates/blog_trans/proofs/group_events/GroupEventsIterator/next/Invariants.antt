@@ -1,0 +1,12 @@
+use Rattle.std.proofs.Common.{◌≡◌, ◌-◌, true}
+use Rattle.blog_trans.specs.GroupEventsView.{events_left}
+use Rattle.blog_trans.proofs.group_events.GroupEventsIterator.next.Given as goal
+
+abbrev pub invariant-statements : goal.invariant-statements
+invariant-statements g l = record {
+  left : events_left l.self ≡ events_left l.fn.self;
+  opened : l.self.is_open ≡ true;
+}
+
+abbrev pub decreases-statements : goal.decreases-statements
+decreases-statements g l = l.self.statements.end - l.self.statements.start

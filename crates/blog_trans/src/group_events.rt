@@ -1,0 +1,237 @@
+//! Going through the events of groups, one after the other, as they are written.
+
+ghost use Rattle.std.specs.Prelude.{◌≡◌, ◌<◌, ◌≤◌, ℕ, true, false, length, Some, IsSome};
+ghost use Rattle.blog_trans.specs.IndexView.{index_groups, map_at, rows_at, statement_at};
+
+use crate::groups::Index;
+use blog_event::Event;
+use blog_row::{Order, RowsEvent, TableMap};
+use std::alloc::{Allocator, Global};
+
+/// A rows event of groups, with the map by which it goes.
+#[derive(Clone, Copy, Debug)]
+pub struct GroupRows<'a> {
+    /// The event.
+    pub event: Event<'a>,
+    /// The table map, an event of the same statement.
+    pub map: Event<'a>,
+    /// The table that it names.
+    pub table: TableMap<'a>,
+    /// The rows.
+    pub rows: RowsEvent<'a>,
+    /// Whether it is the last of its statement in the order in which the events are gone through.
+    pub last: bool,
+}
+
+/// An event of groups.
+#[derive(Clone, Copy, Debug)]
+pub enum GroupEvent<'a> {
+    /// The `BEGIN` of a transaction.
+    Begin(Event<'a>),
+    /// A table map of a statement.
+    Map(Event<'a>),
+    /// A rows event of a statement.
+    Rows(GroupRows<'a>),
+    /// The event that ends a transaction: a `COMMIT` or an Xid.
+    End(Event<'a>),
+}
+
+/// Numbers that are left, from the first up to the last and without that.
+#[derive(Clone, Copy, Debug)]
+struct Numbers {
+    start: usize,
+    end: usize,
+}
+
+/// The events of the groups of an index, in an order.
+#[derive(Drop)]
+pub struct GroupEvents<'i, 'a, 's, A: Allocator = Global> {
+    index: &'i Index<'a, 's, A>,
+    order: Order,
+    // Transactions that aren't begun.
+    transactions: Numbers,
+    // Whether a transaction was begun that hasn't ended, and its number.
+    is_open: bool,
+    transaction: usize,
+    // Its statements of which nothing was given.
+    statements: Numbers,
+    // The number of the one of which some was given, and what is left of it.
+    statement: usize,
+    maps: Numbers,
+    rows: Numbers,
+    ghost known: { transactions.end ≤ length (index_groups index.now) },
+    ghost opened: { is_open ≡ true → transaction < length (index_groups index.now) },
+    ghost statements_known: { (s : ℕ) → statements.start ≤ s → s < statements.end → IsSome (statement_at (index_groups index.now) transaction s) },
+    ghost maps_known: { (m : ℕ) → maps.start ≤ m → m < maps.end → IsSome (map_at (index_groups index.now) transaction statement m) },
+    ghost rows_known: { (r : ℕ) → rows.start ≤ r → r < rows.end → IsSome (rows_at (index_groups index.now) transaction statement r) },
+}
+
+impl Numbers {
+    ghost use Rattle.blog_trans.specs.GroupEventsView.{IsFrom0, TakesNumber};
+
+    /// As many, from 0 on.
+    fn new(len: usize) -> Self
+        ensures { IsFrom0 len result }
+    {
+        Numbers { start: 0, end: len }
+    }
+
+    /// Whether none is left.
+    fn is_empty(self) -> bool
+        ensures none { result ≡ true → self.end ≤ self.start }
+        ensures some { result ≡ false → self.start < self.end }
+    {
+        self.start >= self.end
+    }
+
+    /// Takes the one that comes first in an order.
+    fn take(&mut self, order: Order) -> usize
+        requires { self.old.start < self.old.end }
+        ensures { TakesNumber order self.old result self.new }
+    {
+        match order {
+            Order::Forward => {
+                let first = self.start;
+                self.start += 1;
+                first
+            }
+            Order::Backward => {
+                self.end -= 1;
+                self.end
+            }
+        }
+    }
+}
+
+impl<'a, 's, A: Allocator> Index<'a, 's, A> {
+    ghost use Rattle.blog_trans.specs.InTurn.{in_turn};
+    ghost use Rattle.blog_trans.specs.GroupEventsView.{events_left};
+
+    /// The events of the groups one after the other, in the order in which they are written: forward that of the log;
+    /// backward transactions, statements and rows events go from the last to the first, and the maps of a statement stand
+    /// before its rows events.
+    pub fn in_turn(&self, order: Order) -> GroupEvents<'_, 'a, 's, A>
+        ensures { events_left result ≡ in_turn order (index_groups self.now) }
+    {
+        GroupEvents {
+            index: self,
+            order,
+            transactions: Numbers::new(self.transactions()),
+            is_open: false,
+            transaction: 0,
+            statements: Numbers::new(0),
+            statement: 0,
+            maps: Numbers::new(0),
+            rows: Numbers::new(0),
+        }
+    }
+}
+
+impl<'i, 'a, 's, A: Allocator> GroupEvents<'i, 'a, 's, A> {
+    ghost use Rattle.std.specs.Prelude.{◌+◌};
+    ghost use Rattle.blog_trans.specs.GroupEventsView.{GivesEvent, events_left};
+
+    /// Begins the next transaction, if any is left.
+    fn begin(&mut self) -> Option<GroupEvent<'a>>
+        requires { self.old.is_open ≡ false }
+        ensures { GivesEvent self.old result self.new }
+    {
+        if self.transactions.is_empty() {
+            return None;
+        }
+        let t = self.transactions.take(self.order);
+        self.is_open = true;
+        self.transaction = t;
+        self.statements = Numbers::new(self.index.statements(t));
+        self.maps = Numbers::new(0);
+        self.rows = Numbers::new(0);
+        Some(GroupEvent::Begin(self.index.begin(t)))
+    }
+
+    /// Opens the next statement.
+    fn open_statement(&mut self)
+        requires open { self.old.is_open ≡ true }
+        requires some { self.old.statements.start < self.old.statements.end }
+        requires no_maps { self.old.maps.end ≤ self.old.maps.start }
+        requires no_rows { self.old.rows.end ≤ self.old.rows.start }
+        ensures left { events_left self.new ≡ events_left self.old }
+        ensures open { self.new.is_open ≡ true }
+        ensures fewer { (self.new.statements.end + self.old.statements.start) + 1 ≡ self.new.statements.start + self.old.statements.end }
+    {
+        let s = self.statements.take(self.order);
+        self.statement = s;
+        self.maps = Numbers::new(self.index.maps(self.transaction, s));
+        self.rows = Numbers::new(self.index.rows(self.transaction, s));
+    }
+
+    /// The next map of the open statement.
+    fn map(&mut self) -> GroupEvent<'a>
+        requires open { self.old.is_open ≡ true }
+        requires some { self.old.maps.start < self.old.maps.end }
+        ensures { GivesEvent self.old (Some result) self.new }
+    {
+        let m = self.maps.take(Order::Forward);
+        let (event, _) = self.index.map(self.transaction, self.statement, m);
+        GroupEvent::Map(event)
+    }
+
+    /// The next rows event of the open statement.
+    fn rows(&mut self) -> GroupEvent<'a>
+        requires open { self.old.is_open ≡ true }
+        requires no_maps { self.old.maps.end ≤ self.old.maps.start }
+        requires some { self.old.rows.start < self.old.rows.end }
+        ensures { GivesEvent self.old (Some result) self.new }
+    {
+        let r = self.rows.take(self.order);
+        let (event, map, table, rows) = self.index.group_rows(self.transaction, self.statement, r);
+        GroupEvent::Rows(GroupRows {
+            event,
+            map,
+            table,
+            rows,
+            last: self.rows.is_empty(),
+        })
+    }
+
+    /// Ends the open transaction.
+    fn end(&mut self) -> GroupEvent<'a>
+        requires open { self.old.is_open ≡ true }
+        requires no_maps { self.old.maps.end ≤ self.old.maps.start }
+        requires no_rows { self.old.rows.end ≤ self.old.rows.start }
+        requires no_statements { self.old.statements.end ≤ self.old.statements.start }
+        ensures { GivesEvent self.old (Some result) self.new }
+    {
+        self.is_open = false;
+        GroupEvent::End(self.index.end(self.transaction))
+    }
+}
+
+impl<'i, 'a, 's, A: Allocator> Iterator for GroupEvents<'i, 'a, 's, A> {
+    type Item = GroupEvent<'a>;
+
+    ghost use Rattle.std.specs.Iterator.{at_most};
+    ghost use Rattle.blog_trans.specs.GroupEventsView.{GivesEvent, events_left};
+
+    ghost next_gives = { GivesEvent };
+
+    ghost remaining = { λ events. at_most (length (events_left events)) };
+
+    fn next(&mut self) -> Option<GroupEvent<'a>> {
+        if !self.is_open {
+            return self.begin();
+        }
+        'statements: while self.maps.is_empty()
+            && self.rows.is_empty()
+            && !self.statements.is_empty()
+        {
+            self.open_statement();
+        }
+        if !self.maps.is_empty() {
+            return Some(self.map());
+        }
+        if !self.rows.is_empty() {
+            return Some(self.rows());
+        }
+        Some(self.end())
+    }
+}
