@@ -1,5 +1,5 @@
 -- Well-formed groups: they stay so in reverse order, and their events are as their kinds and bodies say.
-use Rattle.std.proofs.Common.{◌≡◌, ℕ, zero, suc, ◌<◌, ◌^◌, Bool, true, false, ◌||◌, List, [], ◌∷◌, ◌++◌, take, map, reverse, Result, Ok, refl, ap, ◌∙◌, arith}
+use Rattle.std.proofs.Common.{◌≡◌, ℕ, ◌<◌, ◌^◌, Bool, true, false, ◌||◌, List, [], ◌∷◌, ◌++◌, map, reverse, Result, Ok, refl, ap, ◌∙◌, arith}
 use Rattle.std.specs.List.{AllByRecursion, list_any, flat_map}
 use Rattle.std.proofs.lemmas.List.{reverse-append}
 use Rattle.std.proofs.lemmas.List.Folds.{list_any-append}
@@ -163,16 +163,6 @@ transaction-reversed Known t h = record {
 -- reversed groups
 pub groups-reversed : (Known : Event → Type 0) (ts : List Transaction) → AreGroups Known ts → AreGroups Known (reversed ts)
 groups-reversed Known ts h = all-turned (IsTransaction Known) reversed_transaction (transaction-reversed Known) ts h
-
--- the first of them
-pub groups-take : (Known : Event → Type 0) (k : ℕ) (ts : List Transaction) → AreGroups Known ts → AreGroups Known (take k ts)
-groups-take Known zero ts h = tt
-groups-take Known (suc k) [] h = tt
-groups-take Known (suc k) (t ∷ ts) h = (h.0, groups-take Known k ts h.1)
-
--- groups and further groups
-pub groups-append : (Known : Event → Type 0) (ts us : List Transaction) → AreGroups Known ts → AreGroups Known us → AreGroups Known (ts ++ us)
-groups-append Known ts us h others = all-append (IsTransaction Known) ts us h others
 
 -- ---- headers
 

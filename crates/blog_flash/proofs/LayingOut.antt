@@ -1,9 +1,9 @@
 -- The log that is laid out of an accepted log's groups: how long it is, and what stands in its front.
-use Rattle.std.proofs.Common.{◌≡◌, ℕ, ◌+◌, ◌≤◌, true, List, ◌++◌, length, take, drop, Some, bytes_eq, sym, ap, ap₂, ◌∙◌, arith, append_assoc, take_at, length-drop}
+use Rattle.std.proofs.Common.{◌≡◌, ℕ, ◌+◌, ◌≤◌, true, List, ◌++◌, length, take, drop, Some, bytes_eq, sym, ap, ap₂, ◌∙◌, arith, append_assoc, take_at, length-drop, Option, option_map, refl}
 use Rattle.std.proofs.lemmas.List.{take-append-drop}
 use Rattle.std.proofs.lemmas.Slice.Eq.{bytes_eq-Decides}
 use Rattle.std.proofs.Math.Seq.{take-append-add}
-use Rattle.blog_event.specs.Event.{Event, event_size, event_text, event_at}
+use Rattle.blog_event.specs.Event.{Event, event_size, event_text, event_at, event_of}
 use Rattle.blog_event.specs.File.{magic, read, AreBytes, end_of}
 use Rattle.blog_event.proofs.Framing.{bytes-drop, event-found, read-first, text-length}
 use Rattle.blog_trans.specs.Selection.{Selection}
@@ -13,9 +13,43 @@ use Rattle.blog_row.specs.declared.order.Order.{Order}
 use Rattle.blog_row.specs.declared.order.Order.TheVariants.{Forward, Backward}
 use Rattle.blog_flash.specs.LaidOut.{text_from, groups_in, transactions_of}
 use Rattle.blog_flash.specs.Texts.{group_events, laid_out, laid_out_after}
-use Rattle.blog_flash.proofs.GroupParts.{first-laid, laid-end, groups-laid}
-use Rattle.blog_flash.proofs.Sizes.{groups-turned, laid-out-length}
+use Rattle.blog_flash.proofs.Sizes.{groups-turned, laid-out-length, end-total}
 use Rattle.blog_flash.proofs.Totals.{no-longer}
+use Rattle.std.proofs.lemmas.Option.{same_Some}
+use Rattle.blog_event.specs.declared.log.Log.{Log}
+use Rattle.blog_event.specs.LogView.{log_bytes}
+
+-- ---- what is laid out
+
+-- the event at 4 is the first that is read
+pub first-laid : (bytes : List ℕ) (stop : Option ℕ) (e : Event) (ts : List Transaction) → bytes_eq (take 4 bytes) magic ≡ true → event_at (drop 4 bytes) ≡ Some e
+    → laid_out_after (read bytes stop) ts ≡ laid_out e ts
+first-laid bytes stop e ts mark stands = ap (λ es. laid_out_after es ts) (read-first bytes stop e ((bytes_eq-Decides (take 4 bytes) magic).0 mark) stands)
+
+-- it is as long as its groups end behind that
+pub laid-end : (e : Event) (ts : List Transaction) → length (laid_out e ts) ≡ end_of (4 + event_size e) (group_events ts)
+laid-end e ts = laid-out-length e ts ∙ sym (end-total (4 + event_size e) (group_events ts))
+
+-- the groups in an order
+pub groups-laid : (order : Order) (bytes : List ℕ) (sel : Selection) → groups_in order (groups bytes sel) ≡ transactions_of order (placed_groups bytes sel)
+unfolding groups
+groups-laid order bytes sel = refl
+
+-- the same of a log that was opened
+pub log-laid : (log : Log) (bytes : List ℕ) (stop : Option ℕ) (ts : List Transaction) → log_bytes log ≡ bytes → laid_out_after (read bytes stop) ts ≡ laid_out (event_of log.format) ts
+log-laid log bytes stop ts same =
+    ap (λ own. laid_out_after (read own stop) ts) (sym same) ∙ first-laid (log_bytes log) stop (event_of log.format) ts log.mark log.stands
+
+-- where its second event begins
+pub log-first : (log : Log) (n : ℕ) → option_map (λ e. 4 + event_size e) (event_at (drop 4 (log_bytes log))) ≡ Some n → 4 + event_size (event_of log.format) ≡ n
+log-first log n first = same_Some (4 + event_size (event_of log.format)) n (ap (option_map (λ e. 4 + event_size e)) (sym log.stands) ∙ first)
+
+-- and how long the log is that is laid out
+pub log-end : (log : Log) (order : Order) (bytes : List ℕ) (sel : Selection) (n : ℕ) → log_bytes log ≡ bytes → option_map (λ e. 4 + event_size e) (event_at (drop 4 (log_bytes log))) ≡ Some n
+    → length (laid_out_after (read bytes sel.stop) (groups_in order (groups bytes sel))) ≡ end_of n (group_events (transactions_of order (placed_groups bytes sel)))
+log-end log order bytes sel n same first =
+    ap length (log-laid log bytes sel.stop (groups_in order (groups bytes sel)) same) ∙ laid-end (event_of log.format) (groups_in order (groups bytes sel))
+    ∙ ap₂ (λ (m : ℕ) (ts : List Transaction). end_of m (group_events ts)) (log-first log n first) (groups-laid order bytes sel)
 
 -- an accepted log, and the event at 4
 pub record IsOpened (bytes : List ℕ) (sel : Selection) (e : Event) : Type 0 where

@@ -17,10 +17,7 @@ pub mod Source
 pub mod Agreement
 pub mod OwnMaps
 pub mod Written
-pub mod Numbered
-pub mod ReadRows
 pub mod Placing
-pub mod GroupParts
 pub mod RowsText
 pub mod LayingOut
 pub mod Headline
@@ -30,3 +27,5 @@ pub mod Quoting
 pub mod Digits
 pub mod PrintedParts
 pub mod Answering
+pub mod InTurn
+pub mod PrintedInTurn

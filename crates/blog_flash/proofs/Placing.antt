@@ -9,14 +9,6 @@ use Rattle.blog_flash.proofs.Sizes.{end-total}
 pub record Splits (left es rest : List Event) : Type 0 where
   pub is : left ≡ es ++ rest
 
--- with one in front
-pub one-splits : (left : List Event) (e : Event) (rest : List Event) → left ≡ e ∷ rest → Splits left (e ∷ []) rest
-one-splits left e rest is = record { is = is }
-
--- two lists
-pub append-splits : (es rest : List Event) → Splits (es ++ rest) es rest
-append-splits es rest = record { is = refl }
-
 -- ---- where events end
 
 -- two lists of events
@@ -57,11 +49,6 @@ rest-left items more pos next left es rest splits written here =
     ∙ append_assoc items (text_from pos es) (text_from (end_of pos es) rest)
     ∙ ap (λ (text : List ℕ). items ++ text) (sym (text-append pos es rest) ∙ ap (text_from pos) (sym splits.is))
 
--- both parts appended, one after the other
-pub split-put : (items more all : List ℕ) (pos next : ℕ) (whole es rest : List Event) → Splits whole es rest → more ≡ items ++ text_from pos es → next ≡ end_of pos es
-    → all ≡ more ++ text_from next rest → all ≡ items ++ text_from pos whole
-split-put items more all pos next whole es rest splits first here second = second ∙ rest-left items more pos next whole es rest splits first here
-
 -- where none is left, all are appended
 pub none-left : (items : List ℕ) (pos : ℕ) (left : List Event) → left ≡ [] → items ++ text_from pos left ≡ items
 none-left items pos left none = ap (λ (es : List Event). items ++ text_from pos es) none ∙ append-nil items
@@ -89,8 +76,3 @@ put-next old pos all items len left es rest more next put splits written here = 
 pub put-room : (old : List ℕ) (pos : ℕ) (all : List Event) (items : List ℕ) (len n : ℕ) (left es rest : List Event) → IsPut old pos all items len left → Splits left es rest
     → end_of pos all ≤ n → end_of len es ≤ n
 put-room old pos all items len n left es rest put splits within = let ends = put.ends in first-within len n left es rest splits (omega arith)
-
--- at last none is left
-pub put-all : (old : List ℕ) (pos : ℕ) (all : List Event) (items : List ℕ) (len : ℕ) (left : List Event) → IsPut old pos all items len left → left ≡ []
-    → (items ≡ old ++ text_from pos all) × (len ≡ end_of pos all)
-put-all old pos all items len left put none = (sym (none-left items len left none) ∙ put.text, sym (ap (end_of len) none) ∙ put.ends)

@@ -1,5 +1,5 @@
 -- Texts that grow part by part.
-use Rattle.std.proofs.Common.{◌≡◌, ℕ, ◌+◌, ◌≤◌, List, [], ◌++◌, length, Result, Ok, Err, OnOk, IsOk, sym, ap, ◌∙◌, append_assoc, append-nil, arith, length-append}
+use Rattle.std.proofs.Common.{◌≡◌, ℕ, ◌+◌, ◌≤◌, List, [], ◌++◌, length, Result, Ok, Err, IsOk, sym, ap, ◌∙◌, append_assoc, append-nil, arith, length-append}
 
 -- a part is appended, and the rest is left
 pub next-part : (items left all part rest more : List ℕ) → items ++ left ≡ all → left ≡ part ++ rest → more ≡ items ++ part → more ++ rest ≡ all
@@ -13,11 +13,6 @@ no-part items left all so_far none = sym (append-nil items) ∙ ap (λ (bytes : 
 -- one part after the other
 pub both-parts : (old items more one two : List ℕ) → items ≡ old ++ one → more ≡ items ++ two → more ≡ old ++ (one ++ two)
 both-parts old items more one two first second = second ∙ ap (λ (bytes : List ℕ). bytes ++ two) first ∙ append_assoc old one two
-
--- what follows from a last part
-pub last-part : {T E P Q : Type 0} (r : Result T E) → OnOk r P → (P → Q) → OnOk r Q
-last-part (Ok x) h follows = follows h
-last-part (Err e) h follows = h
 
 -- ---- room
 

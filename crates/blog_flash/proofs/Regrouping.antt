@@ -1,5 +1,5 @@
 -- Grouping the events of groups gives the groups back, wherever the events stand.
-use Rattle.std.proofs.Common.{◌≡◌, ℕ, ◌+◌, ◌-◌, ◌%◌, List, [], ◌∷◌, ◌++◌, map, filter, if◌then◌else◌, Bool, true, false, ◌&&◌, ◌||◌, not, bytes_eq, Option, Some, None, Ok, option_and_then, refl, ap, sym, ◌∙◌}
+use Rattle.std.proofs.Common.{◌≡◌, ℕ, ◌+◌, List, [], ◌∷◌, ◌++◌, map, filter, if◌then◌else◌, Bool, true, false, ◌&&◌, ◌||◌, not, bytes_eq, Option, Some, None, Ok, option_and_then, refl, ap, sym, ◌∙◌}
 use Rattle.std.specs.List.{AllByRecursion, flat_map, filter_map, list_any}
 use Rattle.std.proofs.lemmas.Slice.Eq.{bytes_eq-Decides}
 use Rattle.blog_event.specs.Event.{Event, event_size}

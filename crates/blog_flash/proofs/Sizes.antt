@@ -1,7 +1,6 @@
 -- How long the events of groups are together, as they are written: reversing groups changes nothing of it.
-use Rattle.std.proofs.Common.{◌≡◌, ℕ, ◌+◌, Bool, true, false, List, [], ◌∷◌, ◌++◌, length, map, reverse, refl, sym, ap, ap₂, ◌∙◌, arith, length-append}
-use Rattle.std.specs.Prelude.{if◌then◌else◌}
-use Rattle.std.specs.List.{flat_map, concat}
+use Rattle.std.proofs.Common.{◌≡◌, ℕ, ◌+◌, Bool, true, false, List, [], ◌∷◌, ◌++◌, length, map, reverse, refl, sym, ap, ap₂, ◌∙◌, arith}
+use Rattle.std.specs.List.{flat_map}
 use Rattle.blog_event.specs.Event.{Event, event_size}
 use Rattle.blog_event.specs.File.{end_of}
 use Rattle.blog_event.proofs.Framing.{texts-length}

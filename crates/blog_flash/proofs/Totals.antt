@@ -1,7 +1,7 @@
 -- What is written is no longer than the log: groups keep events of the range, none of them twice.
-use Rattle.std.proofs.Common.{◌≡◌, ℕ, ◌+◌, ◌≤◌, Bool, true, false, ◌&&◌, List, [], ◌∷◌, ◌++◌, length, map, filter, not, bytes_eq, Option, Some, None, Result, Ok, Err, refl, ap, ◌∙◌, subst, arith, length-append}
+use Rattle.std.proofs.Common.{◌≡◌, ℕ, ◌+◌, ◌≤◌, Bool, true, false, ◌&&◌, List, [], ◌∷◌, length, map, filter, not, bytes_eq, Option, Some, None, Result, Ok, Err, refl, ap, ◌∙◌, subst, arith}
 use Rattle.std.specs.Prelude.{if◌then◌else◌}
-use Rattle.std.specs.List.{cons_option, filter_map, list_any, concat}
+use Rattle.std.specs.List.{cons_option, filter_map, list_any}
 use Rattle.blog_event.specs.Event.{Event, event_size}
 use Rattle.blog_event.specs.File.{Placed, placed_from, read, AreBytes}
 use Rattle.blog_event.proofs.Framing.{read-whole}
@@ -9,7 +9,7 @@ use Rattle.blog_row.specs.declared.kind.RowsKind.{RowsKind}
 use Rattle.blog_row.specs.declared.fault.RowFault.{RowFault}
 use Rattle.blog_row.specs.Column.{Layout}
 use Rattle.blog_row.specs.TableMap.{layout_of}
-use Rattle.blog_row.specs.RowsEvent.{RowsBody, table_id, IsRowsBody}
+use Rattle.blog_row.specs.RowsEvent.{RowsBody, table_id}
 use Rattle.blog_row.proofs.Cutting.{and_then_found}
 use Rattle.blog_row.proofs.Images.{images_found, images_again}
 use Rattle.blog_row.proofs.Layouts.{layout_some}

@@ -1,22 +1,21 @@
 //! Laying out the groups of an index as a log: in normal form, or as the log that undoes them.
 
-ghost use Rattle.std.specs.Prelude.{◌≡◌, ◌+◌, ◌<◌, ◌≤◌, [], ◌∷◌, ◌++◌, length, take, IsSome, IfOk, IfErr, vec_len, vec_capacity};
-ghost use Rattle.std.specs.List.{flat_map};
+ghost use Rattle.std.specs.Prelude.{◌≡◌, ◌+◌, ◌≤◌, [], ◌∷◌, ◌++◌, length, take, IfOk, IfErr, vec_len, vec_capacity};
 ghost use Rattle.blog_event.specs.Event.{event_of, unplaced};
 ghost use Rattle.blog_event.specs.File.{end_of, read};
 ghost use Rattle.blog_event.specs.declared.fault.Fault.TheVariants.{OutOfMemory};
 ghost use Rattle.blog_row.specs.RowsEventView.{rows_content};
 ghost use Rattle.blog_row.specs.RowsWriting.{content_in, written_body};
 ghost use Rattle.blog_trans.specs.Groups.{groups};
-ghost use Rattle.blog_trans.specs.IndexView.{index_bytes, index_selection, index_groups, statement_at};
-ghost use Rattle.blog_flash.specs.LaidOut.{text_from, rows_in, rows_seen, groups_in, maps_of, rows_of, statement_of, statements_of, transaction_of, transactions_of};
-ghost use Rattle.blog_flash.specs.Texts.{rows_event, rows_events, statement_events, group_events, laid_out_after};
+ghost use Rattle.blog_trans.specs.GroupEventsView.{event_seen};
+ghost use Rattle.blog_trans.specs.IndexView.{index_bytes, index_selection, index_groups};
+ghost use Rattle.blog_flash.specs.LaidOut.{text_from, rows_in, rows_seen, groups_in, transactions_of, written_event};
+ghost use Rattle.blog_flash.specs.Texts.{rows_event, group_events, laid_out_after};
 
 use crate::lengths::text_len;
-use crate::order::number;
 use blog_event::{Event, Fault, Header, open_event, put_event};
 use blog_row::{Order, RowsEvent};
-use blog_trans::Index;
+use blog_trans::{GroupEvent, Index};
 use std::alloc::Allocator;
 
 /// The length of the magic number.
@@ -72,105 +71,18 @@ fn put_rows_event<A: Allocator>(
     put_body_at(out, body, order, rows, last);
 }
 
-/// Appends the maps of statement `s` of transaction `t`, in order.
-fn put_maps<A: Allocator, B: Allocator>(
-    out: &mut Vec<u8, A>,
-    index: &Index<'_, '_, B>,
-    t: usize,
-    s: usize,
-)
-    requires found { IsSome (statement_at (index_groups index.now) t s) }
-    requires room { end_of (vec_len out.old) (maps_of (index_groups index.now) t s) ≤ vec_capacity out.old }
-    requires short { end_of (vec_len out.old) (maps_of (index_groups index.now) t s) ≤ 4294967295 }
-    ensures items { out.new.items ≡ out.old.items ++ text_from (vec_len out.old) (maps_of (index_groups index.now) t s) }
-    ensures len { vec_len out.new ≡ end_of (vec_len out.old) (maps_of (index_groups index.now) t s) }
+/// Appends what is written for an event of the groups, with the log_pos that it has there.
+fn put_group_event<A: Allocator>(out: &mut Vec<u8, A>, order: Order, event: &GroupEvent<'_>)
+    requires room { end_of (vec_len out.old) (written_event order (event_seen event.now) ∷ []) ≤ vec_capacity out.old }
+    requires short { end_of (vec_len out.old) (written_event order (event_seen event.now) ∷ []) ≤ 4294967295 }
+    ensures items { out.new.items ≡ out.old.items ++ text_from (vec_len out.old) (written_event order (event_seen event.now) ∷ []) }
+    ensures len { vec_len out.new ≡ end_of (vec_len out.old) (written_event order (event_seen event.now) ∷ []) }
     ensures capacity { vec_capacity out.old ≤ vec_capacity out.new }
 {
-    for m in 0..index.maps(t, s) {
-        let (event, _) = index.map(t, s, m);
-        put_same(out, &event);
+    match event {
+        GroupEvent::Begin(event) | GroupEvent::Map(event) | GroupEvent::End(event) => put_same(out, event),
+        GroupEvent::Rows(rows) => put_rows_event(out, order, &rows.event, &rows.rows, rows.last),
     }
-}
-
-/// Appends the rows events of statement `s` of transaction `t`.
-fn put_rows<A: Allocator, B: Allocator>(
-    out: &mut Vec<u8, A>,
-    index: &Index<'_, '_, B>,
-    order: Order,
-    t: usize,
-    s: usize,
-)
-    requires found { IsSome (statement_at (index_groups index.now) t s) }
-    requires room { end_of (vec_len out.old) (rows_events (rows_of order (index_groups index.now) t s)) ≤ vec_capacity out.old }
-    requires short { end_of (vec_len out.old) (rows_events (rows_of order (index_groups index.now) t s)) ≤ 4294967295 }
-    ensures items { out.new.items ≡ out.old.items ++ text_from (vec_len out.old) (rows_events (rows_of order (index_groups index.now) t s)) }
-    ensures len { vec_len out.new ≡ end_of (vec_len out.old) (rows_events (rows_of order (index_groups index.now) t s)) }
-    ensures capacity { vec_capacity out.old ≤ vec_capacity out.new }
-{
-    let len = index.rows(t, s);
-    for i in 0..len {
-        let (event, _, rows) = index.rows_event(t, s, number(order, len, i));
-        put_rows_event(out, order, &event, &rows, i + 1 == len);
-    }
-}
-
-/// Appends statement `s` of transaction `t`.
-fn put_statement<A: Allocator, B: Allocator>(
-    out: &mut Vec<u8, A>,
-    index: &Index<'_, '_, B>,
-    order: Order,
-    t: usize,
-    s: usize,
-)
-    requires found { IsSome (statement_at (index_groups index.now) t s) }
-    requires room { end_of (vec_len out.old) (statement_of order (index_groups index.now) t s) ≤ vec_capacity out.old }
-    requires short { end_of (vec_len out.old) (statement_of order (index_groups index.now) t s) ≤ 4294967295 }
-    ensures items { out.new.items ≡ out.old.items ++ text_from (vec_len out.old) (statement_of order (index_groups index.now) t s) }
-    ensures len { vec_len out.new ≡ end_of (vec_len out.old) (statement_of order (index_groups index.now) t s) }
-    ensures capacity { vec_capacity out.old ≤ vec_capacity out.new }
-{
-    put_maps(out, index, t, s);
-    put_rows(out, index, order, t, s);
-}
-
-/// Appends the statements of transaction `t`.
-fn put_statements<A: Allocator, B: Allocator>(
-    out: &mut Vec<u8, A>,
-    index: &Index<'_, '_, B>,
-    order: Order,
-    t: usize,
-)
-    requires found { t < length (index_groups index.now) }
-    requires room { end_of (vec_len out.old) (flat_map statement_events (statements_of order (index_groups index.now) t)) ≤ vec_capacity out.old }
-    requires short { end_of (vec_len out.old) (flat_map statement_events (statements_of order (index_groups index.now) t)) ≤ 4294967295 }
-    ensures items { out.new.items ≡ out.old.items ++ text_from (vec_len out.old) (flat_map statement_events (statements_of order (index_groups index.now) t)) }
-    ensures len { vec_len out.new ≡ end_of (vec_len out.old) (flat_map statement_events (statements_of order (index_groups index.now) t)) }
-    ensures capacity { vec_capacity out.old ≤ vec_capacity out.new }
-{
-    let len = index.statements(t);
-    for i in 0..len {
-        put_statement(out, index, order, t, number(order, len, i));
-    }
-}
-
-/// Appends transaction `t`.
-fn put_transaction<A: Allocator, B: Allocator>(
-    out: &mut Vec<u8, A>,
-    index: &Index<'_, '_, B>,
-    order: Order,
-    t: usize,
-)
-    requires found { t < length (index_groups index.now) }
-    requires room { end_of (vec_len out.old) (transaction_of order (index_groups index.now) t) ≤ vec_capacity out.old }
-    requires short { end_of (vec_len out.old) (transaction_of order (index_groups index.now) t) ≤ 4294967295 }
-    ensures items { out.new.items ≡ out.old.items ++ text_from (vec_len out.old) (transaction_of order (index_groups index.now) t) }
-    ensures len { vec_len out.new ≡ end_of (vec_len out.old) (transaction_of order (index_groups index.now) t) }
-    ensures capacity { vec_capacity out.old ≤ vec_capacity out.new }
-{
-    let (first, last) = (index.begin(t), index.end(t));
-    put_same(out, &first);
-    put_statements(out, index, order, t);
-    put_same(out, &last);
 }
 
 /// Appends all transactions.
@@ -185,9 +97,8 @@ fn put_transactions<A: Allocator, B: Allocator>(
     ensures len { vec_len out.new ≡ end_of (vec_len out.old) (group_events (transactions_of order (index_groups index.now))) }
     ensures capacity { vec_capacity out.old ≤ vec_capacity out.new }
 {
-    let len = index.transactions();
-    for i in 0..len {
-        put_transaction(out, index, order, number(order, len, i));
+    for event in index.in_turn(order) {
+        put_group_event(out, order, &event);
     }
 }
 

@@ -4,7 +4,6 @@
 mod laid_out;
 mod lengths;
 mod modes;
-mod order;
 mod printed;
 mod put_sql;
 mod put_summary;

@@ -25,7 +25,7 @@ slice-take [] i (suc n) within = refl
 slice-take (x ∷ xs) zero (suc n) within = refl
 slice-take (x ∷ xs) (suc i) (suc n) within = slice-take xs i n (omega arith)
 
-drop-at : {A : Type 0} (xs : List A) (i : ℕ) (x : A) → slice_get xs i ≡ Some x → drop i xs ≡ x ∷ drop (i + 1) xs
+pub drop-at : {A : Type 0} (xs : List A) (i : ℕ) (x : A) → slice_get xs i ≡ Some x → drop i xs ≡ x ∷ drop (i + 1) xs
 drop-at xs i x is =
     let more : suc i ≡ i + 1 = omega arith in
     drop-cons xs i x (slice_get_within xs i x is) ∙ ap₂ (λ y n. y ∷ drop n xs) (get_or_from_slice_get xs i x x is) more

@@ -1,5 +1,5 @@
 -- The event has room for the body that is written into it.
-use Rattle.std.proofs.Common.{◌≡◌, ℕ, List, ◌++◌, length, replicate, sym, ap, ◌∙◌, arith}
+use Rattle.std.proofs.Common.{ℕ, List, ◌++◌, length, replicate, sym, ap, ◌∙◌, arith}
 use Rattle.std.proofs.lemmas.List.{length-replicate}
 use Rattle.blog_event.specs.Event.{Event, event_text}
 use Rattle.blog_row.specs.RowsKind.{number_of_kind}

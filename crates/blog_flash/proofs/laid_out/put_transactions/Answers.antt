@@ -1,46 +1,33 @@
-use Rattle.std.proofs.Common.{arith}
+use Rattle.std.proofs.Common.{[], ◌∷◌, map, vec_len, sym, ap, subst, ◌∙◌, arith}
+use Rattle.blog_trans.specs.GroupEventsView.{event_seen, events_left}
 use Rattle.blog_trans.specs.IndexView.{index_groups}
-use Rattle.blog_flash.proofs.Numbered.{number-within}
-use Rattle.blog_flash.proofs.GroupParts.{next-transactions, done-transactions}
-use Rattle.blog_flash.proofs.Placing.{put-none, put-room, put-next, put-all}
+use Rattle.blog_flash.specs.LaidOut.{transactions_of, written_event}
+use Rattle.blog_flash.specs.Texts.{group_events}
+use Rattle.blog_flash.proofs.InTurn.{written-in-turn}
+use Rattle.blog_flash.proofs.Placing.{IsPut, Splits, put-none, put-room, put-next}
 use Rattle.blog_flash.proofs.laid_out.put_transactions.Goals as goal
 
-pub loop-i-init : goal.loop-i-init
-loop-i-init g c = record { put = put-none _ _ _; capacity = omega arith }
+pub loop-event-init : goal.loop-event-init
+loop-event-init g c =
+    let out = c.args.out.now in
+    let groups = index_groups c.args.index.now in
+    let left = ap (λ events. map (written_event c.args.order) (events_left events)) c.into_iter-event-iterator.ensures.into_iter_gives
+        ∙ ap (map (written_event c.args.order)) c.in_turn-event-items.ensures ∙ written-in-turn c.args.order groups in
+    let all = group_events (transactions_of c.args.order groups) in
+    record { next = tt; finite = tt; put = subst (λ es. IsPut out.items (vec_len out) all out.items (vec_len out) es) (sym left) (put-none _ _ _); capacity = omega arith }
 
-pub put_transaction-requires-clause-found : goal.put_transaction-requires-clause-found
-put_transaction-requires-clause-found g c =
-    let within = number-within c.args.order c.transactions-len.result c.loop-i.i c.loop-i-test.true in
-    let number = c.number.ensures in
-    let len = c.transactions-len.ensures in
-    omega arith
-
-pub put_transaction-requires-clause-room : goal.put_transaction-requires-clause-room
-put_transaction-requires-clause-room g c =
-    let next = next-transactions c.args.order (index_groups c.args.index.now) c.transactions-len.result c.loop-i.i c.number.result c.transactions-len.ensures c.loop-i-test.true c.number.ensures in
-    let kept = c.loop-i.invariant.capacity in
+pub put_group_event-requires : goal.put_group_event-requires
+put_group_event-requires g c =
+    let write = written_event c.args.order in
+    let next : Splits (map write (events_left c.loop-event.event-iterator)) (write (event_seen c.in-Some.event) ∷ []) (map write (events_left c.next.new.self)) = record { is = ap (map write) c.in-Some.ensures.steps.first } in
+    let kept = c.loop-event.invariant.capacity in
     let room = c.requires.room in
-    put-room _ _ _ _ _ _ _ _ _ c.loop-i.invariant.put next (omega arith)
+    record { room = put-room _ _ _ _ _ _ _ _ _ c.loop-event.invariant.put next (omega arith); short = put-room _ _ _ _ _ _ _ _ _ c.loop-event.invariant.put next c.requires.short }
 
-pub put_transaction-requires-clause-short : goal.put_transaction-requires-clause-short
-put_transaction-requires-clause-short g c =
-    let next = next-transactions c.args.order (index_groups c.args.index.now) c.transactions-len.result c.loop-i.i c.number.result c.transactions-len.ensures c.loop-i-test.true c.number.ensures in
-    put-room _ _ _ _ _ _ _ _ _ c.loop-i.invariant.put next c.requires.short
-
-pub loop-i-preserved : goal.loop-i-preserved
-loop-i-preserved g c =
-    let next = next-transactions c.args.order (index_groups c.args.index.now) c.transactions-len.result c.loop-i.i c.number.result c.transactions-len.ensures c.loop-i-test.true c.number.ensures in
-    let kept = c.loop-i.invariant.capacity in
-    let more = c.put_transaction.ensures.capacity in
-    record {
-      put = put-next _ _ _ _ _ _ _ _ _ _ c.loop-i.invariant.put next c.put_transaction.ensures.items c.put_transaction.ensures.len;
-      capacity = omega arith;
-    }
-
-pub returns-clause-items : goal.returns-clause-items
-returns-clause-items g c =
-    (put-all _ _ _ _ _ _ c.loop-i.invariant.put (done-transactions c.args.order (index_groups c.args.index.now) c.transactions-len.result c.loop-i.i c.transactions-len.ensures c.loop-i-test.false)).0
-
-pub returns-clause-len : goal.returns-clause-len
-returns-clause-len g c =
-    (put-all _ _ _ _ _ _ c.loop-i.invariant.put (done-transactions c.args.order (index_groups c.args.index.now) c.transactions-len.result c.loop-i.i c.transactions-len.ensures c.loop-i-test.false)).1
+pub loop-event-preserved : goal.loop-event-preserved
+loop-event-preserved g c =
+    let write = written_event c.args.order in
+    let next : Splits (map write (events_left c.loop-event.event-iterator)) (write (event_seen c.in-Some.event) ∷ []) (map write (events_left c.next.new.self)) = record { is = ap (map write) c.in-Some.ensures.steps.first } in
+    let kept = c.loop-event.invariant.capacity in
+    let more = c.put_group_event.ensures.capacity in
+    record { next = tt; finite = tt; put = put-next _ _ _ _ _ _ _ _ _ _ c.loop-event.invariant.put next c.put_group_event.ensures.items c.put_group_event.ensures.len; capacity = omega arith }

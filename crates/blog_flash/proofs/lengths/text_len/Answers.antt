@@ -1,16 +1,25 @@
-use Rattle.std.proofs.Common.{sym, ◌∙◌, arith}
-use Rattle.blog_trans.specs.IndexView.{index_bytes, index_selection}
+use Rattle.std.proofs.Common.{[], ◌∷◌, map, ap, sym, ◌∙◌, arith}
+use Rattle.blog_event.specs.File.{end_of}
 use Rattle.blog_row.specs.declared.order.Order.TheVariants.{Forward}
-use Rattle.blog_flash.proofs.GroupParts.{log-end}
+use Rattle.blog_trans.specs.GroupEventsView.{event_seen, events_left}
+use Rattle.blog_trans.specs.IndexView.{index_bytes, index_groups, index_selection}
+use Rattle.blog_flash.specs.LaidOut.{written_event}
+use Rattle.blog_flash.proofs.LayingOut.{log-end}
+use Rattle.blog_flash.proofs.InTurn.{written-in-turn}
+use Rattle.blog_flash.proofs.Placing.{end-above}
 use Rattle.blog_flash.proofs.lengths.text_len.Goals as goal
 
-pub transactions_end-requires : goal.transactions_end-requires
-transactions_end-requires g c =
-    let end = log-end c.log.result Forward (index_bytes c.args.index.now) (index_selection c.args.index.now) c.first.result c.log.ensures.bytes c.first.ensures.event in
-    let short = c.requires.short in
-    record { short = omega arith }
+pub loop-event-init : goal.loop-event-init
+loop-event-init g c =
+    let index = c.args.index.now in
+    let left = ap (λ events. map (written_event Forward) (events_left events)) c.into_iter-event-iterator.ensures.into_iter_gives ∙ ap (map (written_event Forward)) c.in_turn-event-items.ensures ∙ written-in-turn Forward (index_groups index) in
+    let end = log-end c.log.result Forward (index_bytes index) (index_selection index) c.first-end.result c.log.ensures.bytes c.first-end.ensures.event in
+    record { next = tt; finite = tt; ends = ap (end_of c.first-end.result) left ∙ sym end }
 
-pub returns : goal.returns
-returns g c =
-    let end = log-end c.log.result Forward (index_bytes c.args.index.now) (index_selection c.args.index.now) c.first.result c.log.ensures.bytes c.first.ensures.event in
-    c.transactions_end.ensures ∙ sym end
+pub event_end-end-requires : goal.event_end-end-requires
+event_end-end-requires g c =
+    let next = ap (λ events. end_of c.loop-event.end (map (written_event Forward) events)) c.in-Some.ensures.steps.first in
+    let behind = end-above (end_of c.loop-event.end (written_event Forward (event_seen c.in-Some.event) ∷ [])) (map (written_event Forward) (events_left c.next.new.self)) in
+    let whole = c.loop-event.invariant.ends in
+    let short = c.requires.short in
+    record { short = omega (arith, next, behind, whole, short) }

@@ -1,13 +1,17 @@
-use Rattle.std.proofs.Common.{◌≡◌, ◌≤◌, ◌++◌, map, drop, vec_capacity}
+use Rattle.std.proofs.Common.{◌≡◌, ◌≤◌, ◌++◌, vec_capacity}
 use Rattle.std.specs.List.{flat_map}
-use Rattle.blog_trans.specs.Groups.{transaction_value}
-use Rattle.blog_trans.specs.IndexView.{index_groups}
-use Rattle.blog_flash.specs.Printed.{transaction_lines}
+use Rattle.blog_trans.specs.Groups.{groups}
+use Rattle.blog_trans.specs.GroupEventsView.{events_left}
+use Rattle.blog_trans.specs.IndexView.{index_bytes, index_selection}
+use Rattle.blog_flash.specs.Printed.{sql_text}
+use Rattle.blog_flash.specs.PrintedRows.{event_lines}
 use Rattle.blog_flash.proofs.put_sql.put_transactions.Given as goal
 
--- the transactions are left from number t on
-abbrev pub invariant-loop-t : goal.invariant-loop-t
-invariant-loop-t g l = record {
-  text : l.out.items ++ flat_map transaction_lines (drop l.t (map transaction_value (index_groups l.index))) ≡ l.fn.out.items ++ flat_map transaction_lines (map transaction_value (index_groups l.index));
+-- the events are left that the iterator still gives
+abbrev pub invariant-loop-event : goal.invariant-loop-event
+invariant-loop-event g l = record {
+  next : (goal.iterator-loop-event g).can_next l.event-iterator;
+  finite : (goal.iterator-loop-event g).is_finite l.event-iterator;
+  text : l.out.items ++ flat_map (λ e. event_lines e) (events_left l.event-iterator) ≡ l.fn.out.items ++ sql_text (groups (index_bytes l.index) (index_selection l.index));
   capacity : vec_capacity l.fn.out ≤ vec_capacity l.out;
 }

@@ -6,7 +6,7 @@ use Rattle.blog_trans.specs.Groups.{groups}
 use Rattle.blog_trans.specs.IndexView.{index_bytes, index_selection}
 use Rattle.blog_trans.specs.TableCountView.{table_counted}
 use Rattle.blog_flash.specs.Printed.{count_line}
-use Rattle.blog_flash.proofs.Numbered.{drop-at}
+use Rattle.blog_trans.proofs.Turns.{drop-at}
 use Rattle.blog_flash.proofs.Printing.{next-part, no-part, part-fits, not-refused}
 use Rattle.blog_flash.proofs.put_summary.put_counts.Goals as goal
 
