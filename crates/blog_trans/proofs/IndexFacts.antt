@@ -1,5 +1,5 @@
--- What is known of an index: its columns, and that the events of its groups stand in its log.
-use Rattle.std.proofs.Common.{◌≡◌, ℕ, zero, suc, ◌+◌, ◌<◌, ◌≤◌, Bool, true, false, if◌then◌else◌, List, [], ◌∷◌, length, take, drop, filter, get_or, Option, Some, None, IsSome, bytes_eq, refl, sym, ap, subst, ◌∙◌, arith}
+-- What is known of an index: its lists, and that the events of its groups stand in its log.
+use Rattle.std.proofs.Common.{◌≡◌, ℕ, zero, suc, ◌+◌, ◌<◌, ◌≤◌, Bool, true, false, if◌then◌else◌, List, [], ◌∷◌, length, take, drop, filter, get_or, Option, Some, None, IsSome, bytes_eq, refl, sym, ap, ◌∙◌, zero-add, arith}
 use Rattle.std.specs.Option.{option_map_or}
 use Rattle.std.specs.List.{AllByRecursion, slice_get}
 use Rattle.std.proofs.lemmas.List.{drop-drop}
@@ -8,6 +8,7 @@ use Rattle.blog_event.specs.declared.event.Event as told
 use Rattle.blog_event.specs.Event.{Event, event_at, event_of, event_size}
 use Rattle.blog_event.specs.File.{Placed, placed_from, magic, is_below, events_from, read}
 use Rattle.blog_trans.specs.declared.entry.Entry.{Entry}
+use Rattle.blog_trans.specs.declared.entry.TransactionStart.{TransactionStart}
 use Rattle.blog_trans.specs.declared.groups.Index.{Index}
 use Rattle.blog_trans.specs.Selection.{Selection}
 use Rattle.blog_trans.specs.Acceptance.{is_in_range, range}
@@ -15,9 +16,10 @@ use Rattle.blog_trans.specs.Groups.{PlacedTransaction, placed_groups}
 use Rattle.blog_trans.specs.PlacedFacts.{IsPlacedTransaction}
 use Rattle.blog_trans.specs.IndexView.{index_bytes, index_groups, index_selection, placed}
 use Rattle.blog_trans.proofs.PlacedFacts.{transaction-at}
-use Rattle.blog_trans.specs.Entries.{statements_in, transaction_place}
-use Rattle.blog_trans.proofs.EntriesFound.{Finds}
-use Rattle.blog_trans.proofs.IndexFound.{IsFlat, next_transaction, at_begin, at_end, at_first}
+use Rattle.blog_trans.specs.Entries.{event_entry, statements_in, transaction_place, transaction_start, transaction_starts}
+use Rattle.blog_trans.proofs.Columns.{transactions_len, statements_len}
+use Rattle.blog_trans.proofs.EntriesFound.{Finds, finds, get_transaction_start}
+use Rattle.blog_trans.proofs.IndexFound.{next_transaction, at_begin, at_end}
 
 -- ---- the events of the groups stand in the log
 
@@ -62,16 +64,6 @@ transaction_known bytes sel t x at =
 
 -- ---- of an index
 
-pub columns : {A : Type 0} (index : Index A) → IsFlat index.entries.items index.transactions index.statements (index_groups index)
-columns index = record {
-  ats = index.ats;
-  links = index.links;
-  counted = index.counted;
-  statements_counted = index.statements_counted;
-  transaction_column = index.transaction_column;
-  statement_column = index.statement_column;
-}
-
 pub known : {A : Type 0} (index : Index A) (t : ℕ) (x : PlacedTransaction) → slice_get (index_groups index) t ≡ Some x → IsPlacedTransaction (Stands (index_bytes index)) (index_selection index) x
 known index t x at = transaction_known (index_bytes index) (index_selection index) t x at
 
@@ -96,29 +88,31 @@ placed_is bytes p at e same stands read pos =
 
 -- the event that stands at the entry's position is this one
 pub record Reads {A : Type 0} (index : Index A) (n : ℕ) (p : Placed) : Type 0 where
-  pub entry : Finds (λ e. e.at) index.entries.items n p.pos
+  pub entry : Finds index.entries.items n (event_entry p)
   pub stands : Stands (index_bytes index) p
 
+entry_same : {A : Type 0} (index : Index A) (n : ℕ) (p : Placed) (e : Entry) → Reads index n p → e ≡ get_or index.entries.items n e → e.at ≡ p.pos
+entry_same index n p e reads item = ap (λ (x : Entry). x.at) (reads.entry.value e item)
+
 pub reads_some : {A : Type 0} (index : Index A) (n : ℕ) (p : Placed) (e : Entry) → Reads index n p → e ≡ get_or index.entries.items n e → IsSome (event_at (drop e.at (index_bytes index)))
-reads_some index n p e reads item = some_at (index_bytes index) p e.at (reads.entry.value e item) reads.stands
+reads_some index n p e reads item = some_at (index_bytes index) p e.at (entry_same index n p e reads item) reads.stands
 
 pub reads_is : {A : Type 0} (index : Index A) (n : ℕ) (p : Placed) (e : Entry) (event : told.Event) → Reads index n p → e ≡ get_or index.entries.items n e
     → event_at (drop e.at (index_bytes index)) ≡ Some (event_of event) → event.pos ≡ e.at → placed event ≡ p
-reads_is index n p e event reads item read pos = placed_is (index_bytes index) p e.at event (reads.entry.value e item) reads.stands read pos
+reads_is index n p e event reads item read pos = placed_is (index_bytes index) p e.at event (entry_same index n p e reads item) reads.stands read pos
 
 -- the `BEGIN` and the end of a transaction
 pub begin_read : {A : Type 0} (index : Index A) (t n : ℕ) → t < length (index_groups index) → n ≡ transaction_place (index_groups index) t
     → (x : PlacedTransaction) × (slice_get (index_groups index) t ≡ Some x) × Reads index n x.begin
 begin_read index t n below place =
     let x = found (index_groups index) t below in
-    let entry = at_begin index.entries.items index.transactions index.statements (index_groups index) t x.0 (columns index) x.1 in
-    (x.0, x.1, record { entry = subst (λ (m : ℕ). Finds (λ e. e.at) index.entries.items m x.0.begin.pos) (sym place) entry; stands = (known index t x.0 x.1).begin_member })
+    (x.0, x.1, record { entry = at_begin index.entries.items (index_groups index) t n x.0 index.entries_are x.1 place; stands = (known index t x.0 x.1).begin_member })
 
 pub end_read : {A : Type 0} (index : Index A) (t n : ℕ) → t < length (index_groups index) → n + 1 ≡ transaction_place (index_groups index) (t + 1)
     → (x : PlacedTransaction) × (slice_get (index_groups index) t ≡ Some x) × Reads index n x.end
 end_read index t n below place =
     let x = found (index_groups index) t below in
-    (x.0, x.1, record { entry = at_end index.entries.items index.transactions index.statements (index_groups index) t n x.0 (columns index) x.1 place; stands = (known index t x.0 x.1).end_member })
+    (x.0, x.1, record { entry = at_end index.entries.items (index_groups index) t n x.0 index.entries_are x.1 place; stands = (known index t x.0 x.1).end_member })
 
 -- there is an entry before the end of a transaction
 pub end_some : {A : Type 0} (index : Index A) (t : ℕ) → t < length (index_groups index) → 2 ≤ transaction_place (index_groups index) (t + 1)
@@ -126,10 +120,23 @@ end_some index t below =
     let x = found (index_groups index) t below in
     omega (arith, next_transaction (index_groups index) t x.0 x.1)
 
--- the number of a transaction's first statement
-pub first_read : {A : Type 0} (index : Index A) (t n : ℕ) → t < length (index_groups index) → n ≡ transaction_place (index_groups index) t
-    → Finds (λ e. e.link) index.entries.items n (statements_in (take t (index_groups index)))
-first_read index t n below place =
-    let x = found (index_groups index) t below in
-    subst (λ (m : ℕ). Finds (λ e. e.link) index.entries.items m (statements_in (take t (index_groups index)))) (sym place)
-    (at_first index.entries.items index.transactions index.statements (index_groups index) t x.0 (columns index) x.1)
+-- where a transaction begins
+pub transaction_read : {A : Type 0} (index : Index A) (t : ℕ) → t < length (index_groups index)
+    → Finds index.transactions.items t (transaction_start (0 + transaction_place (index_groups index) t) (0 + statements_in (take t (index_groups index))))
+transaction_read index t below =
+    finds index.transactions.items (transaction_starts 0 0 (index_groups index)) t (transaction_start (0 + transaction_place (index_groups index) t) (0 + statements_in (take t (index_groups index)))) index.transactions_are
+    (get_transaction_start 0 0 (index_groups index) t below)
+
+pub first_entry : {A : Type 0} (index : Index A) (t : ℕ) (x : TransactionStart) → t < length (index_groups index) → x ≡ get_or index.transactions.items t x → x.entry ≡ transaction_place (index_groups index) t
+first_entry index t x below item = ap (λ (s : TransactionStart). s.entry) ((transaction_read index t below).value x item) ∙ zero-add (transaction_place (index_groups index) t)
+
+pub first_statement : {A : Type 0} (index : Index A) (t : ℕ) (x : TransactionStart) → t < length (index_groups index) → x ≡ get_or index.transactions.items t x
+    → x.statement ≡ statements_in (take t (index_groups index))
+first_statement index t x below item = ap (λ (s : TransactionStart). s.statement) ((transaction_read index t below).value x item) ∙ zero-add (statements_in (take t (index_groups index)))
+
+-- how many transactions and statements there are
+pub many_transactions : {A : Type 0} (index : Index A) → length index.transactions.items ≡ length (index_groups index)
+many_transactions index = ap length index.transactions_are ∙ transactions_len 0 0 (index_groups index)
+
+pub many_statements : {A : Type 0} (index : Index A) → length index.statements.items ≡ statements_in (index_groups index)
+many_statements index = ap length index.statements_are ∙ statements_len 0 (index_groups index)

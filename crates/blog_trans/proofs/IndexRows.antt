@@ -20,15 +20,16 @@ use Rattle.blog_trans.specs.Selection.{Selection}
 use Rattle.blog_trans.specs.PlacedFacts.{IsPlacedRows}
 use Rattle.blog_trans.specs.Acceptance.{rows_under}
 use Rattle.blog_trans.specs.Groups.{PlacedRows, PlacedTransaction}
-use Rattle.blog_trans.specs.Entries.{statement_place}
+use Rattle.blog_trans.specs.Entries.{rows_entry, statement_place}
 use Rattle.blog_trans.specs.IndexView.{index_bytes, index_groups, placed, statement_at, rows_at}
-use Rattle.blog_trans.proofs.IndexFacts.{reads_some, reads_is, some_at, placed_is}
-use Rattle.blog_trans.proofs.IndexStatements.{HasRows, has_rows, ReadsRows, rows_read}
+use Rattle.blog_trans.proofs.EntriesFound.{Finds}
+use Rattle.blog_trans.proofs.IndexFacts.{some_at, placed_is}
+use Rattle.blog_trans.proofs.IndexStatements.{HasRows, has_rows, rows_read}
 
 -- the rows event of these numbers, and its entry behind the maps of its statement
 pub record HasEntry {A : Type 0} (index : Index A) (t s r start many : ℕ) : Type 0 where
   pub has : HasRows index t s r
-  pub read : ReadsRows index (start + many + r) has.p
+  pub read : Finds index.entries.items (start + many + r) (rows_entry has.p)
 
 pub has_entry : {A : Type 0} (index : Index A) (t s r start many : ℕ) → IsSome (rows_at (index_groups index) t s r)
     → ((x : PlacedTransaction) → slice_get (index_groups index) t ≡ Some x → start ≡ statement_place (index_groups index) t x s)
@@ -41,21 +42,28 @@ has_entry index t s r start many some begins counted =
 
 -- ---- the events that are read
 
+-- where they begin
+at_same : {A : Type 0} (index : Index A) (t s r start many : ℕ) (e : Entry) (has : HasEntry index t s r start many) → e ≡ get_or index.entries.items (start + many + r) e → e.at ≡ has.has.p.event.pos
+at_same index t s r start many e has item = ap (λ (x : Entry). x.at) (has.read.value e item)
+
+map_same : {A : Type 0} (index : Index A) (t s r start many : ℕ) (e : Entry) (has : HasEntry index t s r start many) → e ≡ get_or index.entries.items (start + many + r) e → e.map ≡ has.has.p.map.pos
+map_same index t s r start many e has item = ap (λ (x : Entry). x.map) (has.read.value e item)
+
 pub event_some : {A : Type 0} (index : Index A) (t s r start many : ℕ) (e : Entry) → HasEntry index t s r start many → e ≡ get_or index.entries.items (start + many + r) e
     → IsSome (event_at (drop e.at (index_bytes index)))
-event_some index t s r start many e has item = reads_some index (start + many + r) has.has.p.event e has.read.event item
+event_some index t s r start many e has item = some_at (index_bytes index) has.has.p.event e.at (at_same index t s r start many e has item) has.has.placed.member
 
 pub map_some : {A : Type 0} (index : Index A) (t s r start many : ℕ) (e : Entry) → HasEntry index t s r start many → e ≡ get_or index.entries.items (start + many + r) e
-    → IsSome (event_at (drop e.link (index_bytes index)))
-map_some index t s r start many e has item = some_at (index_bytes index) has.has.p.map e.link (has.read.link.value e item) has.has.placed.map.member
+    → IsSome (event_at (drop e.map (index_bytes index)))
+map_some index t s r start many e has item = some_at (index_bytes index) has.has.p.map e.map (map_same index t s r start many e has item) has.has.placed.map.member
 
 pub event_is : {A : Type 0} (index : Index A) (t s r start many : ℕ) (e : Entry) (event : read_event.Event) (has : HasEntry index t s r start many)
     → e ≡ get_or index.entries.items (start + many + r) e → event_at (drop e.at (index_bytes index)) ≡ Some (event_of event) → event.pos ≡ e.at → placed event ≡ has.has.p.event
-event_is index t s r start many e event has item read pos = reads_is index (start + many + r) has.has.p.event e event has.read.event item read pos
+event_is index t s r start many e event has item read pos = placed_is (index_bytes index) has.has.p.event e.at event (at_same index t s r start many e has item) has.has.placed.member read pos
 
 pub map_is : {A : Type 0} (index : Index A) (t s r start many : ℕ) (e : Entry) (event : read_event.Event) (has : HasEntry index t s r start many)
-    → e ≡ get_or index.entries.items (start + many + r) e → event_at (drop e.link (index_bytes index)) ≡ Some (event_of event) → event.pos ≡ e.link → placed event ≡ has.has.p.map
-map_is index t s r start many e event has item read pos = placed_is (index_bytes index) has.has.p.map e.link event (has.read.link.value e item) has.has.placed.map.member read pos
+    → e ≡ get_or index.entries.items (start + many + r) e → event_at (drop e.map (index_bytes index)) ≡ Some (event_of event) → event.pos ≡ e.map → placed event ≡ has.has.p.map
+map_is index t s r start many e event has item read pos = placed_is (index_bytes index) has.has.p.map e.map event (map_same index t s r start many e has item) has.has.placed.map.member read pos
 
 -- ---- what they say
 

@@ -1,18 +1,19 @@
 -- What an index has of its statements.
-use Rattle.std.proofs.Common.{◌≡◌, ℕ, ◌+◌, ◌<◌, ◌≤◌, length, take, Option, Some, None, IsSome, option_map, refl, sym, ap, ◌∙◌, arith}
+use Rattle.std.proofs.Common.{◌≡◌, ℕ, ◌+◌, ◌<◌, ◌≤◌, length, take, get_or, Option, Some, None, IsSome, option_map, refl, sym, ap, ◌∙◌, zero-add, arith}
 use Rattle.std.specs.List.{slice_get}
 use Rattle.std.proofs.lemmas.Bool.{false≢true}
 use Rattle.std.proofs.lemmas.Option.{same_Some, slice_get_within, option_and_then_some}
 use Rattle.blog_event.specs.File.{Placed}
+use Rattle.blog_trans.specs.declared.entry.StatementStart.{StatementStart}
 use Rattle.blog_trans.specs.declared.groups.Index.{Index}
 use Rattle.blog_trans.specs.Groups.{PlacedRows, PlacedStatement, PlacedTransaction}
-use Rattle.blog_trans.specs.Entries.{statements_in, transaction_place, statement_place}
+use Rattle.blog_trans.specs.Entries.{rows_entry, statement_start, statement_starts, statements_in, transaction_place, statement_place}
 use Rattle.blog_trans.specs.PlacedFacts.{IsPlacedMap, IsPlacedRows, IsPlacedStatement}
 use Rattle.blog_trans.specs.IndexView.{index_bytes, index_groups, index_selection, statement_at, map_at, rows_at}
 use Rattle.blog_trans.proofs.PlacedFacts.{statement-at, map-at, rows-at}
-use Rattle.blog_trans.proofs.EntriesFound.{Finds}
-use Rattle.blog_trans.proofs.IndexFound.{next_statements, next_statement, last_statement, at_statement, at_maps, at_map, at_rows}
-use Rattle.blog_trans.proofs.IndexFacts.{Stands, Reads, columns, known, found}
+use Rattle.blog_trans.proofs.EntriesFound.{Finds, finds, get_statement_start}
+use Rattle.blog_trans.proofs.IndexFound.{next_statements, next_statement, last_statement, at_map, at_rows}
+use Rattle.blog_trans.proofs.IndexFacts.{Stands, Reads, known, found}
 
 -- what there is
 pub some_found : {A : Type 0} (o : Option A) → IsSome o → (x : A) × (o ≡ Some x)
@@ -53,18 +54,20 @@ same_transaction index t s has x at = same_Some has.x x (sym has.at ∙ at)
 pub below : {A : Type 0} (index : Index A) (t s : ℕ) → HasStatement index t s → t < length (index_groups index)
 below index t s has = slice_get_within (index_groups index) t has.x has.at
 
--- where the statement begins
+-- where the statement begins, and how many maps it has
 pub start_found : {A : Type 0} (index : Index A) (t s n : ℕ) (has : HasStatement index t s) → n ≡ statements_in (take t (index_groups index)) + s
-    → Finds (λ e. e.statement) index.entries.items n (statement_place (index_groups index) t has.x s)
+    → Finds index.statements.items n (statement_start (0 + statement_place (index_groups index) t has.x s) (length has.y.maps))
 start_found index t s n has place =
-    at_statement index.entries.items index.transactions index.statements (index_groups index) t s n has.x (columns index) has.at (slice_get_within has.x.statements s has.y has.inside) place
+    finds index.statements.items (statement_starts 0 (index_groups index)) n (statement_start (0 + statement_place (index_groups index) t has.x s) (length has.y.maps)) index.statements_are
+    (get_statement_start 0 (index_groups index) t s n has.x has.y has.at has.inside place)
 
--- how many maps it has
-pub maps_found : {A : Type 0} (index : Index A) (t s n : ℕ) (has : HasStatement index t s) → n ≡ statement_place (index_groups index) t has.x s
-    → Finds (λ e. e.link) index.entries.items n (length has.y.maps)
-maps_found index t s n has place =
-    let first = has.placed.some_map in
-    at_maps index.entries.items index.transactions index.statements (index_groups index) t s n has.x has.y first.0 (columns index) has.at has.inside (ap (λ l. slice_get l 0) first.2) place
+pub first_entry : {A : Type 0} (index : Index A) (t s n : ℕ) (x : StatementStart) (has : HasStatement index t s) → n ≡ statements_in (take t (index_groups index)) + s → x ≡ get_or index.statements.items n x
+    → x.entry ≡ statement_place (index_groups index) t has.x s
+first_entry index t s n x has place item = ap (λ (z : StatementStart). z.entry) ((start_found index t s n has place).value x item) ∙ zero-add (statement_place (index_groups index) t has.x s)
+
+pub maps_found : {A : Type 0} (index : Index A) (t s n : ℕ) (x : StatementStart) (has : HasStatement index t s) → n ≡ statements_in (take t (index_groups index)) + s → x ≡ get_or index.statements.items n x
+    → length has.y.maps ≡ x.maps
+maps_found index t s n x has place item = sym (ap (λ (z : StatementStart). z.maps) ((start_found index t s n has place).value x item))
 
 -- where it ends
 pub end_found : {A : Type 0} (index : Index A) (t s : ℕ) (has : HasStatement index t s)
@@ -107,7 +110,7 @@ has_map index t s m some =
 
 pub map_read : {A : Type 0} (index : Index A) (t s m n : ℕ) (has : HasMap index t s m) → n ≡ statement_place (index_groups index) t has.has.x s + m → Reads index n has.p
 map_read index t s m n has place = record {
-  entry = at_map index.entries.items index.transactions index.statements (index_groups index) t s m n has.has.x has.has.y has.p (columns index) has.has.at has.has.inside has.inside place;
+  entry = at_map index.entries.items (index_groups index) t s m n has.has.x has.has.y has.p index.entries_are has.has.at has.has.inside has.inside place;
   stands = has.placed.member;
 }
 
@@ -130,11 +133,5 @@ has_rows index t s r some =
     record { has = has; p = p.0; inside = here; placed = rows-at (Stands (index_bytes index)) (index_selection index) has.y r p.0 has.placed here; is = p.1 })
 
 -- its entry
-pub record ReadsRows {A : Type 0} (index : Index A) (n : ℕ) (p : PlacedRows) : Type 0 where
-  pub event : Reads index n p.event
-  pub link : Finds (λ e. e.link) index.entries.items n p.map.pos
-
-pub rows_read : {A : Type 0} (index : Index A) (t s r n : ℕ) (has : HasRows index t s r) → n ≡ statement_place (index_groups index) t has.has.x s + length has.has.y.maps + r → ReadsRows index n has.p
-rows_read index t s r n has place =
-    let both = at_rows index.entries.items index.transactions index.statements (index_groups index) t s r n has.has.x has.has.y has.p (columns index) has.has.at has.has.inside has.inside place in
-    record { event = record { entry = both.0; stands = has.placed.member }; link = both.1 }
+pub rows_read : {A : Type 0} (index : Index A) (t s r n : ℕ) (has : HasRows index t s r) → n ≡ statement_place (index_groups index) t has.has.x s + length has.has.y.maps + r → Finds index.entries.items n (rows_entry has.p)
+rows_read index t s r n has place = at_rows index.entries.items (index_groups index) t s r n has.has.x has.has.y has.p index.entries_are has.has.at has.has.inside has.inside place

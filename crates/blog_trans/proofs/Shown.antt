@@ -27,8 +27,8 @@ use Rattle.blog_trans.specs.Groups.{PlacedRows, PlacedStatement, PlacedTransacti
 use Rattle.blog_trans.specs.PlacedFacts.{IsPlacedMap, IsPlacedRows, IsPlacedStatement, IsPlacedTransaction}
 use Rattle.blog_trans.specs.Passing.{Passes}
 use Rattle.blog_trans.specs.declared.entry.Entry.{Entry}
-use Rattle.blog_trans.specs.Entries.{statement_ats, transaction_ats, ats_of}
-use Rattle.blog_trans.specs.Shown.{statement_shown, transaction_shown, shown, events_in_range, ShowsEachOnce}
+use Rattle.blog_trans.specs.Entries.{event_entry, rows_entry, statement_entries, transaction_entries, entries_of}
+use Rattle.blog_trans.specs.Shown.{statement_shown, transaction_shown, shown, shown_positions, events_in_range, ShowsEachOnce}
 use Rattle.blog_trans.proofs.Sums.{sum_of, sum-append, sum-map, sum-joined, sum-filter, sum-kept, sum-ones}
 use Rattle.blog_trans.proofs.Apart.{statements-fit, span_sum, spans-fit}
 use Rattle.blog_trans.proofs.Opening.{opening-refused}
@@ -283,46 +283,55 @@ shows-each-once bytes sel accepted = record {
 
 -- ---- entries
 
--- the position of an event
+-- the position of an event, and of an entry
 abbrev pos_of : Placed → ℕ
 pos_of p = p.pos
 
--- the positions of rows events
-rows-ats : (rows : List PlacedRows) → map (λ (r : PlacedRows). r.event.pos) rows ≡ map pos_of (map (λ (r : PlacedRows). r.event) rows)
-rows-ats [] = refl
-rows-ats (r ∷ rows) = ap (λ (ats : List ℕ). r.event.pos ∷ ats) (rows-ats rows)
+abbrev at_of : Entry → ℕ
+at_of e = e.at
 
--- of elements whose positions are said one by one
-joined-ats : {A : Type 0} (f : A → List ℕ) (g : A → List Placed) → ((x : A) → f x ≡ map pos_of (g x)) → (xs : List A) → flat_map f xs ≡ map pos_of (flat_map g xs)
-joined-ats f g same [] = refl
-joined-ats f g same (x ∷ xs) = ap₂ ◌++◌ (same x) (joined-ats f g same xs) ∙ sym (map-append pos_of (g x) (flat_map g xs))
+-- of maps and of rows events
+maps-at : (ms : List Placed) → map at_of (map event_entry ms) ≡ map pos_of ms
+maps-at [] = refl
+maps-at (m ∷ ms) = ap (λ (ats : List ℕ). m.pos ∷ ats) (maps-at ms)
+
+rows-at : (rows : List PlacedRows) → map at_of (map rows_entry rows) ≡ map pos_of (map (λ (r : PlacedRows). r.event) rows)
+rows-at [] = refl
+rows-at (r ∷ rows) = ap (λ (ats : List ℕ). r.event.pos ∷ ats) (rows-at rows)
+
+-- of elements whose entries are said one by one
+joined-at : {A : Type 0} (f : A → List Entry) (g : A → List Placed) → ((x : A) → map at_of (f x) ≡ map pos_of (g x)) → (xs : List A) → map at_of (flat_map f xs) ≡ map pos_of (flat_map g xs)
+joined-at f g same [] = refl
+joined-at f g same (x ∷ xs) = map-append at_of (f x) (flat_map f xs) ∙ ap₂ ◌++◌ (same x) (joined-at f g same xs) ∙ sym (map-append pos_of (g x) (flat_map g xs))
 
 -- of a statement
-statement-shown-ats : (s : PlacedStatement) → statement_ats s ≡ map pos_of (statement_shown s)
-statement-shown-ats s = ap (λ (ats : List ℕ). map pos_of s.maps ++ ats) (rows-ats s.rows) ∙ sym (map-append pos_of s.maps (map (λ (r : PlacedRows). r.event) s.rows))
+statement-at : (s : PlacedStatement) → map at_of (statement_entries s) ≡ map pos_of (statement_shown s)
+statement-at s =
+    map-append at_of (map event_entry s.maps) (map rows_entry s.rows) ∙ ap₂ ◌++◌ (maps-at s.maps) (rows-at s.rows) ∙ sym (map-append pos_of s.maps (map (λ (r : PlacedRows). r.event) s.rows))
 
 -- of a transaction
-transaction-shown-ats : (t : PlacedTransaction) → transaction_ats t ≡ map pos_of (transaction_shown t)
-transaction-shown-ats t =
-    ap (λ (ats : List ℕ). t.begin.pos ∷ ats) (ap (λ (ats : List ℕ). ats ++ t.end.pos ∷ []) (joined-ats statement_ats statement_shown statement-shown-ats t.statements)
+transaction-at : (t : PlacedTransaction) → map at_of (transaction_entries t) ≡ map pos_of (transaction_shown t)
+transaction-at t =
+    ap (λ (ats : List ℕ). t.begin.pos ∷ ats) (map-append at_of (flat_map statement_entries t.statements) (event_entry t.end ∷ [])
+    ∙ ap (λ (ats : List ℕ). ats ++ t.end.pos ∷ []) (joined-at statement_entries statement_shown statement-at t.statements)
     ∙ sym (map-append pos_of (flat_map statement_shown t.statements) (t.end ∷ [])))
 
 -- the positions of entries are those of the events that are shown
-shown-ats : (bytes : List ℕ) (sel : Selection) → ats_of (placed_groups bytes sel) ≡ map pos_of (shown bytes sel)
+pub entries-at : (entries : List Entry) (bytes : List ℕ) (sel : Selection) → entries ≡ entries_of (placed_groups bytes sel) → map at_of entries ≡ shown_positions bytes sel
 unfolding shown
-shown-ats bytes sel = joined-ats transaction_ats transaction_shown transaction-shown-ats (placed_groups bytes sel)
+entries-at entries bytes sel is = ap (map at_of) is ∙ joined-at transaction_entries transaction_shown transaction-at (placed_groups bytes sel)
 
 -- so none of them comes twice
-pub entries-once : (entries : List Entry) (bytes : List ℕ) (sel : Selection) → IsAccepted bytes sel → map (λ (e : Entry). e.at) entries ≡ ats_of (placed_groups bytes sel)
+pub entries-once : (entries : List Entry) (bytes : List ℕ) (sel : Selection) → IsAccepted bytes sel → entries ≡ entries_of (placed_groups bytes sel)
     → IsDistinct (λ a b. a == b) (map (λ (e : Entry). e.at) entries)
-entries-once entries bytes sel accepted ats = subst (IsDistinct (λ a b. a == b)) (sym (ats ∙ shown-ats bytes sel)) (shown-once bytes sel accepted)
+entries-once entries bytes sel accepted is = subst (IsDistinct (λ a b. a == b)) (sym (entries-at entries bytes sel is)) (shown-once bytes sel accepted)
 
 -- and they are no more than the events of the range
-pub entries-few : (entries : List Entry) (bytes : List ℕ) (sel : Selection) → IsAccepted bytes sel → map (λ (e : Entry). e.at) entries ≡ ats_of (placed_groups bytes sel)
+pub entries-few : (entries : List Entry) (bytes : List ℕ) (sel : Selection) → IsAccepted bytes sel → entries ≡ entries_of (placed_groups bytes sel)
     → length entries ≤ length (events_in_range bytes sel)
-entries-few entries bytes sel accepted ats =
-    let same = ap length (ats ∙ shown-ats bytes sel) in
-    let own = length-map entries (λ (e : Entry). e.at) in
+entries-few entries bytes sel accepted is =
+    let same = ap length (entries-at entries bytes sel is) in
+    let own = length-map entries at_of in
     let others = length-map (shown bytes sel) pos_of in
     let few = shown-few bytes sel accepted in
     omega arith

@@ -1,7 +1,7 @@
 -- What one more event makes of what is kept.
-use Rattle.std.proofs.Common.{◌≡◌, ℕ, Bool, true, false, if◌then◌else◌, List, [], ◌∷◌, ◌++◌, map, length, filter, Some, None, refl, sym, ap, ◌∙◌, subst}
+use Rattle.std.proofs.Common.{◌≡◌, ℕ, Bool, true, false, if◌then◌else◌, List, [], ◌∷◌, ◌++◌, map, filter, Some, None, refl, sym, ap, ◌∙◌, subst}
 use Rattle.std.specs.List.{flat_map}
-use Rattle.std.proofs.lemmas.List.{append_assoc, append-nil, length-map}
+use Rattle.std.proofs.lemmas.List.{append_assoc, append-nil}
 use Rattle.std.proofs.lemmas.List.Concat.{flat_map-append}
 use Rattle.blog_event.specs.File.{Placed}
 use Rattle.blog_row.specs.TableMap.{Table}
@@ -111,10 +111,6 @@ log-facts f g sel statement same (m ∷ firsts) = at (is_used sel statement m) (
         ≡ map g (if b then m ∷ filter (is_used sel statement) firsts else filter (is_used sel statement) firsts)
     at true rest = λ i. same m i ∷ rest i
     at false rest = rest
-
--- a list without positions is empty
-pub no-length : {A : Type 0} (f : A → ℕ) (xs : List A) → map f xs ≡ [] → length xs ≡ 0
-no-length f xs none = sym (length-map xs f) ∙ ap length none
 
 -- ---- the counts of what is kept
 

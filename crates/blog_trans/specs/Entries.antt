@@ -1,87 +1,91 @@
 -- The flat list of what is kept: an entry for each event of the groups, in the order in which the log in normal form has
--- them, and the numbers that lead through the list. The entry n also says where transaction n begins in the list, and
--- where statement n, counted over the whole log; there are enough, since each of them has entries of its own.
-use Rattle.std.specs.Prelude.{◌≡◌, ℕ, ◌+◌, List, [], ◌∷◌, ◌++◌, map, length, take, Option, None}
+-- them; and the two lists that lead through it: where each transaction begins in it, and where each statement does.
+use Rattle.std.specs.Prelude.{◌≡◌, ℕ, ◌+◌, List, [], ◌∷◌, ◌++◌, map, length, take, None}
 use Rattle.std.specs.Option.{option_map_or}
 use Rattle.std.specs.List.{flat_map}
+use Rattle.blog_event.specs.File.{Placed}
 use Rattle.blog_trans.specs.declared.entry.Entry.{Entry}
-use Rattle.blog_trans.specs.Groups.{PlacedStatement, PlacedTransaction}
+use Rattle.blog_trans.specs.declared.entry.StatementStart.{StatementStart}
+use Rattle.blog_trans.specs.declared.entry.TransactionStart.{TransactionStart}
+use Rattle.blog_trans.specs.declared.maps.MapSeen.{MapSeen}
+use Rattle.blog_trans.specs.Groups.{PlacedRows, PlacedStatement, PlacedTransaction}
 use Rattle.blog_trans.specs.Progress.{Open, Progress}
 
--- ---- the columns, of groups
+-- ---- entries
 
--- where each event begins in the log
-abbrev pub statement_ats : PlacedStatement → List ℕ
-statement_ats s = map (λ m. m.pos) s.maps ++ map (λ r. r.event.pos) s.rows
+-- of an event, by where it begins, and of a rows event where its map begins
+abbrev pub entry_at : ℕ → ℕ → Entry
+entry_at at map = record { at = at; map = map }
 
-abbrev pub transaction_ats : PlacedTransaction → List ℕ
-transaction_ats t = t.begin.pos ∷ (flat_map statement_ats t.statements ++ t.end.pos ∷ [])
+abbrev pub event_entry : Placed → Entry
+event_entry p = entry_at p.pos 0
 
-abbrev pub ats_of : List PlacedTransaction → List ℕ
-ats_of ts = flat_map transaction_ats ts
+abbrev pub rows_entry : PlacedRows → Entry
+rows_entry r = entry_at r.event.pos r.map.pos
 
--- the links: of a `BEGIN` the number of its first statement, of a map the number of its statement's maps, of a rows event
--- where its map begins in the log
-abbrev pub statement_links : PlacedStatement → List ℕ
-statement_links s = map (λ m. length s.maps) s.maps ++ map (λ r. r.map.pos) s.rows
+abbrev pub statement_entries : PlacedStatement → List Entry
+statement_entries s = map event_entry s.maps ++ map rows_entry s.rows
 
-abbrev pub transaction_links : ℕ → PlacedTransaction → List ℕ
-transaction_links n t = n ∷ (flat_map statement_links t.statements ++ 0 ∷ [])
+abbrev pub transaction_entries : PlacedTransaction → List Entry
+transaction_entries t = event_entry t.begin ∷ (flat_map statement_entries t.statements ++ event_entry t.end ∷ [])
 
-abbrev pub links_from : ℕ → List PlacedTransaction → List ℕ
-links_from n [] = []
-links_from n (t ∷ ts) = transaction_links n t ++ links_from (n + length t.statements) ts
+abbrev pub entries_of : List PlacedTransaction → List Entry
+entries_of ts = flat_map transaction_entries ts
 
--- the entries at which transactions begin, the first at entry n
-abbrev pub transaction_starts : ℕ → List PlacedTransaction → List ℕ
-transaction_starts n [] = []
-transaction_starts n (t ∷ ts) = n ∷ transaction_starts (n + length (transaction_ats t)) ts
+-- of maps as the program holds them
+abbrev pub map_entries : List MapSeen → List Entry
+map_entries maps = map (λ m. entry_at m.at 0) maps
 
--- the entries at which statements begin
-abbrev pub starts_in : ℕ → List PlacedStatement → List ℕ
+-- ---- beginnings
+
+-- of a transaction: its first entry, and the number of its first statement
+abbrev pub transaction_start : ℕ → ℕ → TransactionStart
+transaction_start entry statement = record { entry = entry; statement = statement }
+
+-- of a statement: its first entry, and how many maps it has
+abbrev pub statement_start : ℕ → ℕ → StatementStart
+statement_start entry maps = record { entry = entry; maps = maps }
+
+-- of transactions from an entry and a statement on
+abbrev pub transaction_starts : ℕ → ℕ → List PlacedTransaction → List TransactionStart
+transaction_starts n s [] = []
+transaction_starts n s (t ∷ ts) = transaction_start n s ∷ transaction_starts (n + length (transaction_entries t)) (s + length t.statements) ts
+
+-- of the statements of a transaction, from an entry on
+abbrev pub starts_in : ℕ → List PlacedStatement → List StatementStart
 starts_in n [] = []
-starts_in n (s ∷ ss) = n ∷ starts_in (n + length (statement_ats s)) ss
+starts_in n (s ∷ ss) = statement_start n (length s.maps) ∷ starts_in (n + length (statement_entries s)) ss
 
-abbrev pub statement_starts : ℕ → List PlacedTransaction → List ℕ
+-- of all statements
+abbrev pub statement_starts : ℕ → List PlacedTransaction → List StatementStart
 statement_starts n [] = []
-statement_starts n (t ∷ ts) = starts_in (n + 1) t.statements ++ statement_starts (n + length (transaction_ats t)) ts
+statement_starts n (t ∷ ts) = starts_in (n + 1) t.statements ++ statement_starts (n + length (transaction_entries t)) ts
 
 -- how many statements there are
 abbrev pub statements_in : List PlacedTransaction → ℕ
 statements_in ts = length (flat_map (λ t. t.statements) ts)
 
--- ---- the columns, of the open transaction behind them
+-- ---- what the lists show
 
-abbrev pub open_ats : Open → List ℕ
-open_ats o = o.begin.pos ∷ (flat_map statement_ats o.statements ++ map (λ r. r.event.pos) o.rows)
+-- the entries of the open transaction
+abbrev pub open_entries : Open → List Entry
+open_entries o = event_entry o.begin ∷ (flat_map statement_entries o.statements ++ map rows_entry o.rows)
 
-abbrev pub open_links : ℕ → Open → List ℕ
-open_links n o = n ∷ (flat_map statement_links o.statements ++ map (λ r. r.map.pos) o.rows)
-
-abbrev pub open_statements : Option Open → ℕ
-open_statements current = option_map_or (λ o. length o.statements) current 0
-
--- ---- what a list of entries shows
-
-pub record Shows (entries : List Entry) (transactions statements : ℕ) (k : Progress) : Type 0 where
-  pub ats : map (λ e. e.at) entries ≡ ats_of k.done ++ option_map_or open_ats k.current []
-  pub links : map (λ e. e.link) entries ≡ links_from 0 k.done ++ option_map_or (open_links (statements_in k.done)) k.current []
-  pub counted : transactions ≡ length k.done
-  pub statements_counted : statements ≡ statements_in k.done + open_statements k.current
-  pub transaction_column : take transactions (map (λ e. e.transaction) entries) ≡ transaction_starts 0 k.done
-  pub statement_column : take statements (map (λ e. e.statement) entries)
-      ≡ statement_starts 0 k.done ++ option_map_or (λ o. starts_in (length (ats_of k.done) + 1) o.statements) k.current []
+pub record Shows (entries : List Entry) (transactions : List TransactionStart) (statements : List StatementStart) (k : Progress) : Type 0 where
+  pub entries_are : entries ≡ entries_of k.done ++ option_map_or open_entries k.current []
+  pub transactions_are : transactions ≡ transaction_starts 0 0 k.done
+  pub statements_are : statements ≡ statement_starts 0 k.done ++ option_map_or (λ o. starts_in (length (entries_of k.done) + 1) o.statements) k.current []
 
 -- the groups, all done
-abbrev pub ShowsGroups : List Entry → ℕ → ℕ → List PlacedTransaction → Type 0
+abbrev pub ShowsGroups : List Entry → List TransactionStart → List StatementStart → List PlacedTransaction → Type 0
 ShowsGroups entries transactions statements ts = Shows entries transactions statements (record { done = ts; current = None })
 
 -- ---- by number, from 0
 
 -- the entry at which a transaction begins
 abbrev pub transaction_place : List PlacedTransaction → ℕ → ℕ
-transaction_place ts t = length (ats_of (take t ts))
+transaction_place ts t = length (entries_of (take t ts))
 
 -- the entry at which a statement of the transaction begins
 abbrev pub statement_place : List PlacedTransaction → ℕ → PlacedTransaction → ℕ → ℕ
-statement_place ts t x s = transaction_place ts t + 1 + length (flat_map statement_ats (take s x.statements))
+statement_place ts t x s = transaction_place ts t + 1 + length (flat_map statement_entries (take s x.statements))

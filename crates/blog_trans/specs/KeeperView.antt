@@ -5,17 +5,17 @@ use Rattle.blog_event.specs.File.{Placed}
 use Rattle.blog_trans.specs.declared.keeper.Keeper.{Keeper}
 use Rattle.blog_trans.specs.Groups.{PlacedRows, PlacedStatement, PlacedTransaction}
 use Rattle.blog_trans.specs.Progress.{Open, Progress}
-use Rattle.blog_trans.specs.Entries.{statement_ats, ats_of, statements_in, Shows}
+use Rattle.blog_trans.specs.Entries.{statement_entries, entries_of, statements_in, Shows}
 
 -- where the open transaction begins in the list, how many statements stand before it, and where its open statement begins
 pub record AreMarks (transaction first statement : ℕ) (done : List PlacedTransaction) (o : Open) : Type 0 where
-  pub transaction_is : transaction ≡ length (ats_of done)
+  pub transaction_is : transaction ≡ length (entries_of done)
   pub first_is : first ≡ statements_in done
-  pub statement_is : statement ≡ length (ats_of done) + 1 + length (flat_map statement_ats o.statements)
+  pub statement_is : statement ≡ length (entries_of done) + 1 + length (flat_map statement_entries o.statements)
 
--- the keeper's entries show what is kept, and its marks lie where the open transaction and its open statement begin
+-- the keeper's lists show what is kept, and its marks lie where the open transaction and its open statement begin
 pub record Holds {A : Type 0} (keeper : Keeper A) (k : Progress) : Type 0 where
-  pub shows : Shows keeper.entries.items keeper.transactions keeper.statements k
+  pub shows : Shows keeper.entries.items keeper.transactions.items keeper.statements.items k
   pub marked : (o : Open) → k.current ≡ Some o → AreMarks keeper.transaction_start keeper.first_statement keeper.statement_start k.done o
 
 -- a statement of these maps and rows events behind others, if it has any rows event

@@ -8,7 +8,6 @@ pub mod Groups
 pub mod Changes
 pub mod Progress
 pub mod Entries
-pub mod EntryView
 pub mod KeeperView
 pub mod TableNameView
 pub mod TablesView

@@ -10,10 +10,10 @@ ghost use Rattle.blog_trans.specs.Groups.{placed_groups};
 ghost use Rattle.blog_trans.specs.PlacedChanges.{placed_changes, placed_tables};
 ghost use Rattle.blog_trans.specs.CountsView.{AreCounts};
 ghost use Rattle.blog_trans.specs.TablesView.{tables_known};
-ghost use Rattle.blog_trans.specs.Entries.{ats_of, links_from, statement_starts, statements_in, transaction_starts};
+ghost use Rattle.blog_trans.specs.Entries.{entries_of, statement_starts, statements_in, transaction_starts};
 
 use crate::counts::Counts;
-use crate::entry::Entry;
+use crate::entry::{Entry, StatementStart, TransactionStart};
 use crate::keeper::Keeper;
 use crate::kind::{EventKind, event_kind};
 use crate::layouts::Layouts;
@@ -29,19 +29,14 @@ pub struct Index<'a, 's, A: Allocator = Global> {
     log: Log<'a>,
     sel: Selection<'s>,
     entries: Vec<Entry, A>,
-    transactions: u32,
-    statements: u32,
+    transactions: Vec<TransactionStart, A>,
+    statements: Vec<StatementStart, A>,
     layouts: Layouts<'a, A>,
     counts: Counts<A>,
     pub ghost accepted: { fault (log_bytes log) (selection_of sel) ≡ None },
-    ghost ats: { map (λ e. e.at) entries.items ≡ ats_of (placed_groups (log_bytes log) (selection_of sel)) },
-    ghost links: { map (λ e. e.link) entries.items ≡ links_from 0 (placed_groups (log_bytes log) (selection_of sel)) },
-    ghost counted: { transactions ≡ length (placed_groups (log_bytes log) (selection_of sel)) },
-    ghost statements_counted: { statements ≡ statements_in (placed_groups (log_bytes log) (selection_of sel)) },
-    ghost transaction_column: { take transactions (map (λ e. e.transaction) entries.items)
-        ≡ transaction_starts 0 (placed_groups (log_bytes log) (selection_of sel)) },
-    ghost statement_column: { take statements (map (λ e. e.statement) entries.items)
-        ≡ statement_starts 0 (placed_groups (log_bytes log) (selection_of sel)) },
+    ghost entries_are: { entries.items ≡ entries_of (placed_groups (log_bytes log) (selection_of sel)) },
+    ghost transactions_are: { transactions.items ≡ transaction_starts 0 0 (placed_groups (log_bytes log) (selection_of sel)) },
+    ghost statements_are: { statements.items ≡ statement_starts 0 (placed_groups (log_bytes log) (selection_of sel)) },
     ghost tallied: { AreCounts (tables_known layouts) (placed_changes (placed_groups (log_bytes log) (selection_of sel)))
         (placed_tables (placed_groups (log_bytes log) (selection_of sel))) counts } by { Prim.hlevel props },
 }
@@ -73,7 +68,7 @@ impl<'a, 's, A: Allocator> Index<'a, 's, A> {
     ghost use Rattle.blog_trans.specs.Changes.{counts_of};
     ghost use Rattle.blog_trans.specs.TableCountView.{table_counted};
     ghost use Rattle.blog_trans.specs.Entries.{ShowsGroups, statement_place, transaction_place};
-    ghost use Rattle.blog_trans.specs.Shown.{events_in_range};
+    ghost use Rattle.blog_trans.specs.Shown.{events_in_range, shown_positions};
     ghost use Rattle.blog_trans.specs.IndexView.{index_bytes, index_groups, index_selection, placed, map_at, rows_at, statement_at};
 
     /// The groups of a log, of what was kept of it.
@@ -85,7 +80,7 @@ impl<'a, 's, A: Allocator> Index<'a, 's, A> {
         counts: Counts<A>,
     ) -> Self
         requires accepted { fault (log_bytes log) (selection_of sel) ≡ None }
-        requires kept { ShowsGroups keeper.entries.items keeper.transactions keeper.statements (placed_groups (log_bytes log) (selection_of sel)) }
+        requires kept { ShowsGroups keeper.entries.items keeper.transactions.items keeper.statements.items (placed_groups (log_bytes log) (selection_of sel)) }
         requires counted { AreCounts (tables_known layouts) (placed_changes (placed_groups (log_bytes log) (selection_of sel)))
             (placed_tables (placed_groups (log_bytes log) (selection_of sel))) counts }
         ensures bytes { index_bytes result ≡ log_bytes log.entry }
@@ -114,7 +109,7 @@ impl<'a, 's, A: Allocator> Index<'a, 's, A> {
     pub fn transactions(&self) -> usize
         ensures { result ≡ length (index_groups self.now) }
     {
-        self.transactions as usize
+        self.transactions.len()
     }
 
     /// The entry at which transaction `t` begins.
@@ -122,7 +117,7 @@ impl<'a, 's, A: Allocator> Index<'a, 's, A> {
         requires { t < length (index_groups self.now) }
         ensures { result ≡ transaction_place (index_groups self.now) t }
     {
-        self.entries[t].transaction as usize
+        self.transactions[t].entry as usize
     }
 
     /// The entry behind transaction `t`.
@@ -142,8 +137,7 @@ impl<'a, 's, A: Allocator> Index<'a, 's, A> {
         requires { t < length (index_groups self.now) }
         ensures { result ≡ statements_in (take t (index_groups self.now)) }
     {
-        let start = self.transaction_start(t);
-        self.entries[start].link as usize
+        self.transactions[t].statement as usize
     }
 
     /// The number of the first statement behind transaction `t`.
@@ -154,7 +148,7 @@ impl<'a, 's, A: Allocator> Index<'a, 's, A> {
         if self.transactions() > t + 1 {
             self.first_statement(t + 1)
         } else {
-            self.statements as usize
+            self.statements.len()
         }
     }
 
@@ -203,16 +197,17 @@ impl<'a, 's, A: Allocator> Index<'a, 's, A> {
     pub fn all_statements(&self) -> usize
         ensures { result ≡ statements_in (index_groups self.now) }
     {
-        self.statements as usize
+        self.statements.len()
     }
 
-    /// The entry at which statement `s` of transaction `t` begins.
-    fn statement_start(&self, t: usize, s: usize) -> usize
+    /// Where statement `s` of transaction `t` begins.
+    fn statement(&self, t: usize, s: usize) -> StatementStart
         requires { IsSome (statement_at (index_groups self.now) t s) }
-        ensures { (x : PlacedTransaction) → slice_get (index_groups self.now) t ≡ Some x → result ≡ statement_place (index_groups self.now) t x s }
+        ensures entry { (x : PlacedTransaction) → slice_get (index_groups self.now) t ≡ Some x → result.entry ≡ statement_place (index_groups self.now) t x s }
+        ensures maps { option_map (λ x. length x.maps) (statement_at (index_groups self.now) t s) ≡ Some result.maps }
     {
         let n = self.first_statement(t) + s;
-        self.entries[n].statement as usize
+        self.statements[n]
     }
 
     /// The entry behind statement `s` of transaction `t`.
@@ -221,7 +216,7 @@ impl<'a, 's, A: Allocator> Index<'a, 's, A> {
         ensures { (x : PlacedTransaction) → slice_get (index_groups self.now) t ≡ Some x → result ≡ statement_place (index_groups self.now) t x (s + 1) }
     {
         if self.statements(t) > s + 1 {
-            self.statement_start(t, s + 1)
+            self.statement(t, s + 1).entry as usize
         } else {
             self.transaction_end(t) - 1
         }
@@ -232,8 +227,7 @@ impl<'a, 's, A: Allocator> Index<'a, 's, A> {
         requires { IsSome (statement_at (index_groups self.now) t s) }
         ensures { option_map (λ x. length x.maps) (statement_at (index_groups self.now) t s) ≡ Some result }
     {
-        let start = self.statement_start(t, s);
-        self.entries[start].link as usize
+        self.statement(t, s).maps as usize
     }
 
     /// The map `m` of statement `s` of transaction `t`.
@@ -243,7 +237,7 @@ impl<'a, 's, A: Allocator> Index<'a, 's, A> {
         ensures names { names_of result.0.body.now ≡ Some (map_names result.1) }
         ensures size { result.0.header.size ≡ event_size (event_of result.0) }
     {
-        let n = self.statement_start(t, s) + m;
+        let n = self.statement(t, s).entry as usize + m;
         let event = self.event_at(self.entries[n].at);
         (event, TableMap::known(event.body))
     }
@@ -253,7 +247,8 @@ impl<'a, 's, A: Allocator> Index<'a, 's, A> {
         requires { IsSome (statement_at (index_groups self.now) t s) }
         ensures { option_map (λ x. length x.rows) (statement_at (index_groups self.now) t s) ≡ Some result }
     {
-        self.statement_end(t, s) - self.statement_start(t, s) - self.maps(t, s)
+        let start = self.statement(t, s);
+        self.statement_end(t, s) - start.entry as usize - start.maps as usize
     }
 
     /// The rows event `r` of statement `s` of transaction `t`, and the map that it goes by.
@@ -263,9 +258,10 @@ impl<'a, 's, A: Allocator> Index<'a, 's, A> {
         ensures map { option_map (λ x. x.map) (rows_at (index_groups self.now) t s r) ≡ Some (placed result.1) }
         ensures size { result.0.header.size ≡ event_size (event_of result.0) }
     {
-        let n = self.statement_start(t, s) + self.maps(t, s) + r;
+        let start = self.statement(t, s);
+        let n = start.entry as usize + start.maps as usize + r;
         let entry = self.entries[n];
-        (self.event_at(entry.at), self.event_at(entry.link))
+        (self.event_at(entry.at), self.event_at(entry.map))
     }
 
     /// The rows event `r` of statement `s` of transaction `t`, the map that it goes by, what that names, and the rows.
@@ -315,7 +311,7 @@ impl<'a, 's, A: Allocator> Index<'a, 's, A> {
     /// An entry for each event of the groups, in the order in which the log in normal form has them. No event has two
     /// entries, and there are no more entries than events in the range.
     pub fn entries(&self) -> &[Entry]
-        ensures ats { map (λ e. e.at) result.now ≡ ats_of (index_groups self.now) }
+        ensures ats { map (λ e. e.at) result.now ≡ shown_positions (index_bytes self.now) (index_selection self.now) }
         ensures once { IsDistinct (λ a b. a == b) (map (λ e. e.at) result.now) }
         ensures few { length result.now ≤ length (events_in_range (index_bytes self.now) (index_selection self.now)) }
     {

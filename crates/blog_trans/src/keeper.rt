@@ -1,39 +1,37 @@
-//! Keeping the events of the groups: the flat list of entries, as it grows.
+//! Keeping the events of the groups: the lists of the index, as they grow.
 
-ghost use Rattle.std.specs.Prelude.{◌≡◌, ◌+◌, ◌<◌, ◌≤◌, ◌^◌, List, [], ◌∷◌, ◌++◌, map, take, drop, length, Some, None, IsOk, OnOk, IfErr, vec_len, vec_capacity};
+ghost use Rattle.std.specs.Prelude.{◌≡◌, ◌+◌, ◌<◌, ◌≤◌, ◌^◌, List, [], ◌∷◌, ◌++◌, map, take, drop, length, Some, None, IsOk, OnOk, OnErr, IfOk, IfErr, vec_len, vec_capacity};
 ghost use Rattle.indexmap.specs.IndexMap.{index_map_len, values};
 ghost use Rattle.blog_event.specs.declared.fault.Fault.TheVariants.{OutOfMemory};
 ghost use Rattle.blog_event.specs.File.{Placed};
 ghost use Rattle.blog_trans.specs.Groups.{PlacedRows};
 ghost use Rattle.blog_trans.specs.Progress.{Open, Progress, ended, with_rows};
 ghost use Rattle.blog_trans.specs.StatementMaps.{used_maps};
-ghost use Rattle.blog_trans.specs.EntryView.{entry_at, entry_with_link, map_entries};
+ghost use Rattle.blog_trans.specs.Entries.{map_entries};
 
-use crate::entry::Entry;
+use crate::entry::{Entry, StatementStart, TransactionStart};
 use crate::maps::Maps;
 use blog_event::Fault;
 use std::alloc::Allocator;
 
-/// The entries of what is kept of the events so far.
+/// The lists of what is kept of the events so far.
 #[derive(Drop)]
 pub(crate) struct Keeper<A: Allocator> {
     pub(crate) entries: Vec<Entry, A>,
-    // How many transactions and statements are kept.
-    pub(crate) transactions: u32,
-    pub(crate) statements: u32,
-    // Where the open transaction begins in the list, and where its open statement does.
+    pub(crate) transactions: Vec<TransactionStart, A>,
+    pub(crate) statements: Vec<StatementStart, A>,
+    // Where the open transaction begins in the list of entries, and where its open statement does.
     pub(crate) transaction_start: u32,
     pub(crate) statement_start: u32,
     // How many statements were kept before the open transaction.
     pub(crate) first_statement: u32,
     ghost start_in: { transaction_start ≤ vec_len entries },
     ghost statement_in: { statement_start ≤ vec_len entries },
-    ghost few_transactions: { transactions ≤ transaction_start },
-    ghost few_statements: { statements ≤ statement_start },
+    ghost few_statements: { vec_len statements ≤ statement_start },
     ghost few_before: { first_statement ≤ transaction_start },
 }
 
-impl<A: Allocator> Keeper<A> {
+impl<A: Allocator + Copy> Keeper<A> {
     ghost use Rattle.blog_trans.specs.KeeperView.{Holds, closed_by};
 
     /// Nothing is kept yet.
@@ -42,13 +40,17 @@ impl<A: Allocator> Keeper<A> {
     {
         Keeper {
             entries: Vec::new(alloc),
-            transactions: 0,
-            statements: 0,
+            transactions: Vec::new(alloc),
+            statements: Vec::new(alloc),
             transaction_start: 0,
             statement_start: 0,
             first_statement: 0,
         }
     }
+}
+
+impl<A: Allocator> Keeper<A> {
+    ghost use Rattle.blog_trans.specs.KeeperView.{Holds, closed_by};
 
     /// A transaction begins.
     pub(crate) fn begin(&mut self, at: u32) -> Result<(), Fault>
@@ -61,8 +63,8 @@ impl<A: Allocator> Keeper<A> {
         ensures capacity { vec_capacity self.old.entries ≤ vec_capacity self.new.entries }
     {
         self.transaction_start = self.entries.len() as u32;
-        self.first_statement = self.statements;
-        push(&mut self.entries, at, self.statements)?;
+        self.first_statement = self.statements.len() as u32;
+        push(&mut self.entries, Entry { at, map: 0 })?;
         self.statement_start = self.entries.len() as u32;
         Ok(())
     }
@@ -75,8 +77,9 @@ impl<A: Allocator> Keeper<A> {
         ensures few { vec_len self.new.entries ≤ vec_len self.old.entries + 1 }
         ensures room { vec_len self.old.entries < vec_capacity self.old.entries → IsOk result }
         ensures capacity { vec_capacity self.old.entries ≤ vec_capacity self.new.entries }
+        ensures statements { self.new.statements ≡ self.old.statements }
     {
-        push(&mut self.entries, at, map)
+        push(&mut self.entries, Entry { at, map })
     }
 
     /// The open statement ends: the maps that its rows events use come in front of these.
@@ -86,16 +89,16 @@ impl<A: Allocator> Keeper<A> {
             → k.current ≡ Some o → Holds self.old k → OnOk result (Holds self.new (record { done = k.done; current = Some (closed_by ms o) })) }
         ensures refused { IfErr result (λ fault. fault ≡ OutOfMemory) }
         ensures few { vec_len self.new.entries ≤ vec_len self.old.entries + index_map_len maps.now }
-        ensures room { vec_len self.old.entries + index_map_len maps.now ≤ vec_capacity self.old.entries → IsOk result }
+        ensures room { vec_len self.old.entries + index_map_len maps.now ≤ vec_capacity self.old.entries → vec_len self.old.statements < vec_capacity self.old.statements → IsOk result }
         ensures capacity { vec_capacity self.old.entries ≤ vec_capacity self.new.entries }
     {
         let start = self.statement_start as usize;
         if self.entries.len() == start {
             return Ok(());
         }
-        put_maps(&mut self.entries, maps, start)?;
-        self.entries[self.statements as usize].statement = self.statement_start;
-        self.statements += 1;
+        let maps = put_maps(&mut self.entries, maps, start)?;
+        let entry = self.statement_start;
+        push(&mut self.statements, StatementStart { entry, maps })?;
         self.statement_start = self.entries.len() as u32;
         Ok(())
     }
@@ -107,38 +110,33 @@ impl<A: Allocator> Keeper<A> {
             → OnOk result (Holds self.new (ended p k.done o)) }
         ensures refused { IfErr result (λ fault. fault ≡ OutOfMemory) }
         ensures few { vec_len self.new.entries ≤ vec_len self.old.entries + 1 }
-        ensures room { vec_len self.old.entries < vec_capacity self.old.entries → IsOk result }
+        ensures room { vec_len self.old.entries < vec_capacity self.old.entries → vec_len self.old.transactions < vec_capacity self.old.transactions → IsOk result }
         ensures capacity { vec_capacity self.old.entries ≤ vec_capacity self.new.entries }
     {
-        if self.statements == self.first_statement {
-            self.statement_start = self.transaction_start;
-            self.entries.truncate(self.transaction_start as usize);
+        let (entry, statement) = (self.transaction_start, self.first_statement);
+        if self.statements.len() == statement as usize {
+            self.statement_start = entry;
+            self.entries.truncate(entry as usize);
             return Ok(());
         }
-        push(&mut self.entries, at, 0)?;
-        self.entries[self.transactions as usize].transaction = self.transaction_start;
-        self.transactions += 1;
+        push(&mut self.entries, Entry { at, map: 0 })?;
+        push(&mut self.transactions, TransactionStart { entry, statement })?;
         self.transaction_start = self.entries.len() as u32;
         Ok(())
     }
 }
 
-/// Adds an entry of an event. That is refused only where there is no room for it.
-fn push<A: Allocator>(entries: &mut Vec<Entry, A>, at: u32, link: u32) -> Result<(), Fault>
-    ensures items { OnOk result (entries.new.items ≡ entries.old.items ++ entry_at at link ∷ []) }
+/// Adds an element to a list. That is refused only where there is no room for it.
+fn push<T: Copy, A: Allocator>(list: &mut Vec<T, A>, item: T) -> Result<(), Fault>
+    ensures items { OnOk result (list.new.items ≡ list.old.items ++ item ∷ []) }
     ensures refused { IfErr result (λ fault. fault ≡ OutOfMemory) }
-    ensures least { vec_len entries.old ≤ vec_len entries.new }
-    ensures few { vec_len entries.new ≤ vec_len entries.old + 1 }
-    ensures room { vec_len entries.old < vec_capacity entries.old → IsOk result }
-    ensures capacity { vec_capacity entries.old ≤ vec_capacity entries.new }
+    ensures least { vec_len list.old ≤ vec_len list.new }
+    ensures few { vec_len list.new ≤ vec_len list.old + 1 }
+    ensures same { OnErr result (vec_len list.new ≡ vec_len list.old) }
+    ensures room { vec_len list.old < vec_capacity list.old → IsOk result }
+    ensures capacity { vec_capacity list.old ≤ vec_capacity list.new }
 {
-    let entry = Entry {
-        at,
-        transaction: 0,
-        statement: 0,
-        link,
-    };
-    let Ok(_) = entries.push(entry) else {
+    let Ok(_) = list.push(item) else {
         return Err(Fault::OutOfMemory);
     };
     Ok(())
@@ -155,32 +153,22 @@ fn push_maps<'a, A: Allocator>(entries: &mut Vec<Entry, A>, maps: &Maps<'a, A>) 
 {
     for map in maps.values() {
         if map.used {
-            push(entries, map.at, 0)?;
+            push(entries, Entry { at: map.at, map: 0 })?;
         }
     }
     Ok(())
 }
 
-/// Writes one link into all of these entries.
-fn set_links(entries: &mut [Entry], link: u32)
-    ensures { entries.new ≡ map (entry_with_link link) entries.old }
-{
-    for entry in entries.iter_mut() {
-        entry.link = link;
-    }
-}
-
-/// Puts entries of the maps that are used in front of those from `start` on; the link of each is their number.
+/// Puts entries of the maps that are used in front of those from `start` on, and answers their number.
 fn put_maps<'a, A: Allocator>(
     entries: &mut Vec<Entry, A>,
     maps: &Maps<'a, A>,
     start: usize,
-) -> Result<(), Fault>
+) -> Result<u32, Fault>
     requires within { start ≤ vec_len entries.old }
     requires room { vec_len entries.old + index_map_len maps.now < 2 ^ 32 }
-    ensures items { OnOk result (entries.new.items ≡ take start entries.old.items
-        ++ (map (entry_with_link (length (used_maps (values maps.now)))) (map_entries (used_maps (values maps.now)))
-        ++ drop start entries.old.items)) }
+    ensures items { OnOk result (entries.new.items ≡ take start entries.old.items ++ (map_entries (used_maps (values maps.now)) ++ drop start entries.old.items)) }
+    ensures counted { IfOk result (λ n. n ≡ length (used_maps (values maps.now))) }
     ensures refused { IfErr result (λ fault. fault ≡ OutOfMemory) }
     ensures least { vec_len entries.old ≤ vec_len entries.new }
     ensures few { vec_len entries.new ≤ vec_len entries.old + index_map_len maps.now }
@@ -191,6 +179,5 @@ fn put_maps<'a, A: Allocator>(
     push_maps(entries, maps)?;
     let added = entries.len() - before;
     entries[start..].rotate_right(added);
-    set_links(&mut entries[start..start + added], added as u32);
-    Ok(())
+    Ok(added as u32)
 }

@@ -67,6 +67,7 @@ impl<'a, A: Allocator + Copy> Walker<'a, A> {
         ensures room { vec_len self.old.keeper.entries < vec_capacity self.old.keeper.entries → kept.now.table < vec_capacity self.old.counts.rows → IsOk result }
         ensures entries_capacity { vec_capacity self.old.keeper.entries ≤ vec_capacity self.new.keeper.entries }
         ensures rows_capacity { vec_capacity self.old.counts.rows ≤ vec_capacity self.new.counts.rows }
+        ensures statements { self.new.keeper.statements ≡ self.old.keeper.statements }
         ensures tables { self.new.counts.tables ≡ self.old.counts.tables }
     {
         self.keeper.rows(at, kept.map)?;
@@ -86,7 +87,7 @@ impl<'a, A: Allocator + Copy> Walker<'a, A> {
         ensures few { OnOk result (vec_len self.new.keeper.entries + index_map_len self.new.judge.maps ≤ vec_len self.old.keeper.entries + index_map_len self.old.judge.maps) }
         ensures numbers { (n : ℕ) → AreFew n self.old.counts → OnOk result (AreFew n self.new.counts) }
         ensures refused { IfErr result (λ fault. fault ≡ OutOfMemory) }
-        ensures room { vec_len self.old.keeper.entries + index_map_len self.old.judge.maps ≤ vec_capacity self.old.keeper.entries
+        ensures room { vec_len self.old.keeper.entries + index_map_len self.old.judge.maps ≤ vec_capacity self.old.keeper.entries → vec_len self.old.keeper.statements < vec_capacity self.old.keeper.statements
             → AreBelow (vec_capacity self.old.counts.rows) (values self.old.judge.maps) → vec_len self.old.counts.tables + length (values self.old.judge.maps) ≤ vec_capacity self.old.counts.tables
             → IsOk result }
     {
@@ -109,6 +110,7 @@ impl<'a, A: Allocator + Copy> Walker<'a, A> {
         ensures room { vec_len self.old.keeper.entries < vec_capacity self.old.keeper.entries → IfSome kept (λ rows. rows.table < vec_capacity self.old.counts.rows) → IsOk result }
         ensures entries_capacity { vec_capacity self.old.keeper.entries ≤ vec_capacity self.new.keeper.entries }
         ensures rows_capacity { vec_capacity self.old.counts.rows ≤ vec_capacity self.new.counts.rows }
+        ensures statements { self.new.keeper.statements ≡ self.old.keeper.statements }
         ensures tables { self.new.counts.tables ≡ self.old.counts.tables }
     {
         match &kept {
@@ -128,7 +130,7 @@ impl<'a, A: Allocator + Copy> Walker<'a, A> {
         ensures few { OnOk result (vec_len self.new.keeper.entries + index_map_len self.new.judge.maps ≤ vec_len self.old.keeper.entries + index_map_len self.old.judge.maps + 1) }
         ensures numbers { (n : ℕ) → AreFew n self.old.counts → OnOk result (AreFew (n + images_of kept) self.new.counts) }
         ensures refused { IfErr result (λ fault. fault ≡ OutOfMemory) }
-        ensures room { vec_len self.old.keeper.entries + index_map_len self.old.judge.maps < vec_capacity self.old.keeper.entries → IfSome kept (λ rows. rows.table < vec_capacity self.old.counts.rows)
+        ensures room { vec_len self.old.keeper.entries + index_map_len self.old.judge.maps < vec_capacity self.old.keeper.entries → vec_len self.old.keeper.statements < vec_capacity self.old.keeper.statements → IfSome kept (λ rows. rows.table < vec_capacity self.old.counts.rows)
             → AreBelow (vec_capacity self.old.counts.rows) (values self.old.judge.maps) → vec_len self.old.counts.tables + length (values self.old.judge.maps) ≤ vec_capacity self.old.counts.tables
             → IsOk result }
     {

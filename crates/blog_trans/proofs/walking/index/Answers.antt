@@ -47,7 +47,7 @@ new-requires-clause-kept g c =
     ∙ last-is bytes sel c.end.result c.in-Ok.at c.place.result c.end.ensures.len through.1 (c.place.ensures ∙ through.2.judge.place_is)
     ∙ sym c.end_fault.ensures ∙ c.in_default.is in
     let keeper = c.walk.new.walker.keeper in
-    subst (Shows keeper.entries.items keeper.transactions keeper.statements) (progress-is bytes sel accepted through.2.passed) through.2.keeps.keeper.shows
+    subst (Shows keeper.entries.items keeper.transactions.items keeper.statements.items) (progress-is bytes sel accepted through.2.passed) through.2.keeps.keeper.shows
 
 pub new-requires-clause-counted : goal.new-requires-clause-counted
 new-requires-clause-counted g c =

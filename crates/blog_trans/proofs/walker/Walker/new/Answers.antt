@@ -2,7 +2,6 @@ use Rattle.std.proofs.Common.{List, [], map, length, sym, ap, subst, arith}
 use Rattle.blog_row.specs.TableMap.{Table}
 use Rattle.blog_trans.specs.TableNameView.{table_named}
 use Rattle.blog_trans.specs.CountsView.{AreCounts}
-use Rattle.blog_trans.proofs.WalkerCode.{no-length}
 use Rattle.blog_trans.proofs.walker.Walker.new.Goals as goal
 
 pub returns-clause-walks : goal.returns-clause-walks
@@ -17,7 +16,7 @@ returns-clause-walks g c = λ sel. record {
 
 pub returns-clause-within : goal.returns-clause-within
 returns-clause-within g c = record {
-  entries = omega (arith, c.new.ensures.empty, no-length (λ e. e.at) c.new-2.result.entries.items c.new-2.ensures.shows.ats);
+  entries = omega (arith, c.new.ensures.empty, ap length c.new-2.ensures.shows.entries_are);
   tables = omega (arith, ap length c.new.ensures.layouts);
   numbers = c.new-3.ensures.few;
 }

@@ -1,8 +1,8 @@
-use Rattle.std.proofs.Common.{◌+◌, ap, ◌∙◌, arith}
+use Rattle.std.proofs.Common.{◌+◌, length, Some, option_map, ap, ◌∙◌, arith}
 use Rattle.blog_trans.specs.Entries.{statement_place}
 use Rattle.blog_trans.specs.IndexView.{index_groups}
-use Rattle.blog_trans.proofs.IndexStatements.{has_statement, same_transaction, below, start_found}
-use Rattle.blog_trans.proofs.groups.Index.statement_start.Goals as goal
+use Rattle.blog_trans.proofs.IndexStatements.{has_statement, same_transaction, below, start_found, first_entry, maps_found}
+use Rattle.blog_trans.proofs.groups.Index.statement.Goals as goal
 
 pub first_statement-requires : goal.first_statement-requires
 first_statement-requires g c = below c.args.self.now c.args.t c.args.s (has_statement c.args.self.now c.args.t c.args.s c.requires)
@@ -17,8 +17,14 @@ index-requires g c =
     let has = has_statement c.args.self.now c.args.t c.args.s c.requires in
     omega (arith, (start_found c.args.self.now c.args.t c.args.s (c.first_statement.result + c.args.s) has (ap (λ n. n + c.args.s) c.first_statement.ensures)).within)
 
-pub returns : goal.returns
-returns g c = λ x at.
+pub returns-clause-entry : goal.returns-clause-entry
+returns-clause-entry g c = λ x at.
     let has = has_statement c.args.self.now c.args.t c.args.s c.requires in
-    (start_found c.args.self.now c.args.t c.args.s (c.first_statement.result + c.args.s) has (ap (λ n. n + c.args.s) c.first_statement.ensures)).value c.index.result.now c.index.ensures
+    first_entry c.args.self.now c.args.t c.args.s (c.first_statement.result + c.args.s) c.index.result.now has (ap (λ n. n + c.args.s) c.first_statement.ensures) c.index.ensures
     ∙ ap (λ z. statement_place (index_groups c.args.self.now) c.args.t z c.args.s) (same_transaction c.args.self.now c.args.t c.args.s has x at)
+
+pub returns-clause-maps : goal.returns-clause-maps
+returns-clause-maps g c =
+    let has = has_statement c.args.self.now c.args.t c.args.s c.requires in
+    ap (option_map (λ x. length x.maps)) has.is
+    ∙ ap Some (maps_found c.args.self.now c.args.t c.args.s (c.first_statement.result + c.args.s) c.index.result.now has (ap (λ n. n + c.args.s) c.first_statement.ensures) c.index.ensures)
