@@ -36,9 +36,9 @@ transaction-printed t =
     ap (λ text. line (codes "BEGIN") ++ text)
     (flat-append event_lines (flat_map (statement_in_turn Forward) t.statements) (Ends t.end ∷ [])
     ∙ ap₂ ◌++◌ (flat-flat event_lines (statement_in_turn Forward) t.statements
-        ∙ flat-same (λ s. flat_map event_lines (statement_in_turn Forward s)) (λ s. flat_map change_lines (changes_of_statement (statement_value s))) statement-printed t.statements
-        ∙ sym (flat_map-map (λ s. flat_map change_lines (changes_of_statement s)) statement_value t.statements)
-        ∙ sym (flat-flat change_lines changes_of_statement (map statement_value t.statements))) (append-nil (line (codes "COMMIT"))))
+    ∙ flat-same (λ s. flat_map event_lines (statement_in_turn Forward s)) (λ s. flat_map change_lines (changes_of_statement (statement_value s))) statement-printed t.statements
+    ∙ sym (flat_map-map (λ s. flat_map change_lines (changes_of_statement s)) statement_value t.statements)
+    ∙ sym (flat-flat change_lines changes_of_statement (map statement_value t.statements))) (append-nil (line (codes "COMMIT"))))
 
 pub printed-in-turn : (ts : List PlacedTransaction) → flat_map event_lines (in_turn Forward ts) ≡ sql_text (map transaction_value ts)
 unfolding in_turn sql_text

@@ -80,7 +80,9 @@ fn put_group_event<A: Allocator>(out: &mut Vec<u8, A>, order: Order, event: &Gro
     ensures capacity { vec_capacity out.old ≤ vec_capacity out.new }
 {
     match event {
-        GroupEvent::Begin(event) | GroupEvent::Map(event) | GroupEvent::End(event) => put_same(out, event),
+        GroupEvent::Begin(event) | GroupEvent::Map(event) | GroupEvent::End(event) => {
+            put_same(out, event);
+        }
         GroupEvent::Rows(rows) => put_rows_event(out, order, &rows.event, &rows.rows, rows.last),
     }
 }

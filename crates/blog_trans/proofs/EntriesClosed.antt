@@ -24,6 +24,7 @@ maps_same (u ∷ used) (m ∷ ms) same = ap₂ (λ (at : ℕ) (es : List Entry).
   where
     heads : (x y : ℕ) (xs ys : List ℕ) → x ∷ xs ≡ y ∷ ys → x ≡ y
     heads x y xs ys same = cc
+
     tails : (x y : ℕ) (xs ys : List ℕ) → x ∷ xs ≡ y ∷ ys → xs ≡ ys
     tails x y xs ys same = cc
 
@@ -85,6 +86,6 @@ closed_holds entries transactions statements transaction first start many k o us
     } in
     let named : Shows (with_maps entries start used) transactions (statements ++ statement_start start many ∷ []) (record { done = k.done; current = Some (closed_by ms o) }) =
     subst (λ (ss : List PlacedStatement). Shows (with_maps entries start used) transactions (statements ++ statement_start start many ∷ [])
-        (record { done = k.done; current = Some (record { begin = o.begin; statements = ss; rows = [] }) })) (sym (behind_some o ms o.rows some)) closed in
+    (record { done = k.done; current = Some (record { begin = o.begin; statements = ss; rows = [] }) })) (sym (behind_some o ms o.rows some)) closed in
     let all = open_len (with_maps entries start used) transactions (statements ++ statement_start start many ∷ []) k.done (closed_by ms o) named in
     record { shows = named; marks = record { transaction_is = marks.transaction_is; first_is = marks.first_is; statement_is = omega arith } }

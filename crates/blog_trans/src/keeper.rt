@@ -120,7 +120,10 @@ impl<A: Allocator> Keeper<A> {
             return Ok(());
         }
         push(&mut self.entries, Entry { at, map: 0 })?;
-        push(&mut self.transactions, TransactionStart { entry, statement })?;
+        push(
+            &mut self.transactions,
+            TransactionStart { entry, statement },
+        )?;
         self.transaction_start = self.entries.len() as u32;
         Ok(())
     }

@@ -12,7 +12,7 @@ loop-event-init g c =
     let out = c.args.out.now in
     let groups = index_groups c.args.index.now in
     let left = ap (λ events. map (written_event c.args.order) (events_left events)) c.into_iter-event-iterator.ensures.into_iter_gives
-        ∙ ap (map (written_event c.args.order)) c.in_turn-event-items.ensures ∙ written-in-turn c.args.order groups in
+    ∙ ap (map (written_event c.args.order)) c.in_turn-event-items.ensures ∙ written-in-turn c.args.order groups in
     let all = group_events (transactions_of c.args.order groups) in
     record { next = tt; finite = tt; put = subst (λ es. IsPut out.items (vec_len out) all out.items (vec_len out) es) (sym left) (put-none _ _ _); capacity = omega arith }
 

@@ -11,12 +11,12 @@ pub loop-event-init : goal.loop-event-init
 loop-event-init g c =
     let index = c.args.index.now in
     let left = ap (λ events. flat_map event_lines (events_left events)) c.into_iter-event-iterator.ensures.into_iter_gives
-        ∙ ap (flat_map event_lines) c.in_turn-event-items.ensures ∙ printed-groups (index_bytes index) (index_selection index) in
+    ∙ ap (flat_map event_lines) c.in_turn-event-items.ensures ∙ printed-groups (index_bytes index) (index_selection index) in
     record { next = tt; finite = tt; text = ap (λ text. c.args.out.now.items ++ text) left; capacity = omega arith }
 
 pub returns-in_err-put_group_event-clause-room : goal.returns-in_err-put_group_event-clause-room
 returns-in_err-put_group_event-clause-room g c enough =
     let next = ap (flat_map event_lines) c.in-Some.ensures.steps.first in
     let fits = part-fits _ _ _ _ (event_lines (event_seen c.in-Some.event)) (flat_map event_lines (events_left c.next.new.self))
-        c.loop-event.out.len c.loop-event.out.cap c.args.out.now.len c.args.out.now.cap c.loop-event.invariant.text next c.loop-event.out.ok.0 c.args.out.now.ok.0 c.loop-event.invariant.capacity enough in
+    c.loop-event.out.len c.loop-event.out.cap c.args.out.now.len c.args.out.now.cap c.loop-event.invariant.text next c.loop-event.out.ok.0 c.args.out.now.ok.0 c.loop-event.invariant.capacity enough in
     not-refused _ _ c.in_err-put_group_event.was (c.put_group_event.ensures.room fits)

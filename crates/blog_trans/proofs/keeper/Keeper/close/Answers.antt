@@ -21,7 +21,7 @@ returns-clause-kept g c = λ k o ms same is_open holds.
     record {
       shows = subst (λ (xs : List Entry). Shows xs before.transactions.items c.push.new.list.items (record { done = k.done; current = Some (closed_by ms o) })) (sym list)
           (subst (λ (ss : List StatementStart). Shows (take start before.entries.items ++ (map_entries used ++ drop start before.entries.items)) before.transactions.items ss
-              (record { done = k.done; current = Some (closed_by ms o) })) (sym starts) closed.shows);
+          (record { done = k.done; current = Some (closed_by ms o) })) (sym starts) closed.shows);
       marked = λ other e. marks_at before.transaction_start before.first_statement c.len-2.result k.done (closed_by ms o) other e
           (record { transaction_is = closed.marks.transaction_is; first_is = closed.marks.first_is; statement_is = omega (arith, closed.marks.statement_is, ap length list) });
     }
