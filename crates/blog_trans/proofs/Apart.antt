@@ -1,10 +1,10 @@
 -- Spans and the statements cut from them lie apart in the events that they are taken of: whatever number each event has,
 -- the sum over them is no larger than that over the events.
-use Rattle.std.proofs.Common.{◌≡◌, ℕ, ◌+◌, ◌≤◌, Bool, true, false, List, [], ◌∷◌, find, not, Option, Some, None, refl, ap, arith}
+use Rattle.std.proofs.Common.{◌≡◌, ℕ, ◌+◌, ◌≤◌, Bool, true, false, List, [], ◌∷◌, find, not, Option, Some, None, ap, arith}
 use Rattle.std.specs.Prelude.{if◌then◌else◌, option_map}
 use Rattle.std.specs.Option.{option_map_or}
 use Rattle.blog_event.specs.declared.fault.Fault.TheVariants.{OutOfPlace}
-use Rattle.blog_event.specs.Fault.{Cause, needs, first_failing}
+use Rattle.blog_event.specs.Fault.{first_failing}
 use Rattle.blog_event.specs.File.{Placed}
 use Rattle.blog_event.specs.Format.{front_while}
 use Rattle.blog_trans.specs.declared.kind.EventKind.{EventKind}
@@ -18,6 +18,7 @@ use Rattle.blog_trans.specs.Acceptance.{checks}
 use Rattle.blog_trans.specs.Groups.{Span, cons_if, spans, onto_first, statements_of}
 use Rattle.blog_trans.specs.Passing.{Passes}
 use Rattle.blog_trans.proofs.Sums.{sum_of}
+use Rattle.blog_trans.proofs.ProgressSteps.{needs-passed, not-holds, outside-not-inside}
 
 -- ---- statements
 
@@ -77,22 +78,6 @@ opened-fits w p ps = by_end (find is_end ps)
 abbrev if_open : Bool → ℕ → ℕ
 if_open b n = if b then n else 0
 
--- a test that did not fail
-needed : (b : Bool) (cause : Cause) → first_failing (needs b cause ∷ []) ≡ None → b ≡ true
-needed true cause e = refl
-needed false cause e = absurd (cc)
-
--- of two opposites
-outside : (b : Bool) → not b ≡ true → b ≡ false
-outside true e = absurd (cc)
-outside false e = refl
-
--- a place outside is not inside
-outside-place : (place : Place) → is_outside place ≡ true → is_inside place ≡ false
-outside-place Outside e = refl
-outside-place Announced e = refl
-outside-place Inside e = absurd (cc)
-
 -- an open transaction takes at most what it would take
 open-most : (b : Bool) (n : ℕ) → if_open b n ≤ n
 open-most true n = omega arith
@@ -109,14 +94,14 @@ span-step : (w : Placed → ℕ) (sel : Selection) (earlier ps : List Placed) (p
     → sum_of (span_sum w) (if is_begin_kind k then opened p ps else spans ps) + if_open (is_inside (place earlier)) (open_sum_at w (is_end_kind k) p ps)
     ≤ w p + sum_of w ps
 span-step w sel earlier ps p kind.Begin e others =
-    let out = outside (is_inside (place earlier)) (needed (not (is_inside (place earlier))) OutOfPlace e) in
+    let out = not-holds (is_inside (place earlier)) (needs-passed (not (is_inside (place earlier))) OutOfPlace [] e).0 in
     let none : if_open (is_inside (place earlier)) (open_sum_at w false p ps) ≡ 0 = ap (λ (b : Bool). if_open b (open_sum_at w false p ps)) out in
     let own = opened-fits w p ps in
     omega arith
 span-step w sel earlier ps p kind.Commit e others = let own = open-most (is_inside (place earlier)) (open_sum_at w true p ps) in omega arith
 span-step w sel earlier ps p kind.Xid e others = let own = open-most (is_inside (place earlier)) (open_sum_at w true p ps) in omega arith
 span-step w sel earlier ps p kind.Announcement e others =
-    let out = outside-place (place earlier) (needed (is_outside (place earlier)) OutOfPlace e) in
+    let out = outside-not-inside (place earlier) (needs-passed (is_outside (place earlier)) OutOfPlace [] e).0 in
     let none : if_open (is_inside (place earlier)) (open_sum_at w false p ps) ≡ 0 = ap (λ (b : Bool). if_open b (open_sum_at w false p ps)) out in
     omega arith
 span-step w sel earlier ps p _ e others =

@@ -22,6 +22,7 @@ use Rattle.blog_trans.specs.declared.maps.MapSeen.{MapSeen}
 use Rattle.blog_trans.specs.StatementMaps.{used_maps}
 use Rattle.blog_trans.specs.CountsView.{AreCounts, counted, is_kept}
 use Rattle.blog_trans.proofs.Tables.{same-table, own-table, first_tables-more}
+use Rattle.blog_trans.proofs.PlacedParts.{all-at}
 
 -- ---- the place of an element
 
@@ -47,11 +48,6 @@ filled-same f x same (y ∷ xs) k (suc n) = filled-same f x same xs k n
 
 pub filled-up : {X : Type 0} (xs ys : List X) (x : X) (n k : ℕ) → length xs ≤ n → ys ≡ take n xs ++ replicate k x → ys ≡ xs ++ replicate k x
 filled-up xs ys x n k within filled = filled ∙ ap (λ zs. zs ++ replicate k x) (take_all n xs within)
-
-pub all-at : {X : Type 0} (P : X → Type 0) (xs : List X) (i : ℕ) (x : X) → AllByRecursion P xs → slice_get xs i ≡ Some x → P x
-all-at P [] i x all at = absurd (none-some x at)
-all-at P (y ∷ xs) zero x all at = subst P (same_Some y x at) all.0
-all-at P (y ∷ xs) (suc i) x all at = all-at P xs i x all.1 at
 
 -- ---- tables that differ
 

@@ -1,5 +1,5 @@
 -- What is known of an index: its lists, and that the events of its groups stand in its log.
-use Rattle.std.proofs.Common.{◌≡◌, ℕ, zero, suc, ◌+◌, ◌<◌, ◌≤◌, Bool, true, false, if◌then◌else◌, List, [], ◌∷◌, length, take, drop, filter, get_or, Option, Some, None, IsSome, bytes_eq, refl, sym, ap, ◌∙◌, zero-add, arith}
+use Rattle.std.proofs.Common.{◌≡◌, ℕ, zero, suc, ◌+◌, ◌<◌, ◌≤◌, Bool, true, false, if◌then◌else◌, List, [], ◌∷◌, length, take, drop, get_or, Option, Some, None, IsSome, bytes_eq, refl, sym, ap, ◌∙◌, zero-add, arith}
 use Rattle.std.specs.Option.{option_map_or}
 use Rattle.std.specs.List.{AllByRecursion, slice_get}
 use Rattle.std.proofs.lemmas.List.{drop-drop}
@@ -15,6 +15,7 @@ use Rattle.blog_trans.specs.Acceptance.{is_in_range, range}
 use Rattle.blog_trans.specs.Groups.{PlacedTransaction, placed_groups}
 use Rattle.blog_trans.specs.PlacedFacts.{IsPlacedTransaction}
 use Rattle.blog_trans.specs.IndexView.{index_bytes, index_groups, index_selection, placed}
+use Rattle.blog_trans.proofs.PlacedParts.{all-by, all-filter}
 use Rattle.blog_trans.proofs.PlacedFacts.{transaction-at}
 use Rattle.blog_trans.specs.Entries.{event_entry, statements_in, transaction_place, transaction_start, transaction_starts}
 use Rattle.blog_trans.proofs.Columns.{transactions_len, statements_len}
@@ -48,19 +49,11 @@ stand_read bytes stop =
     stand_step bytes (bytes_eq (take 4 bytes) magic) (event_at (drop 4 bytes)) 4 (λ e. events_from (length bytes) stop (4 + event_size e) (drop (event_size e) (drop 4 bytes)))
     (λ e found. (found, stand_from (length bytes) stop (4 + event_size e) (drop (event_size e) (drop 4 bytes)) bytes (drop-drop (event_size e) 4 bytes)))
 
-stand_filter : (bytes : List ℕ) (test : Placed → Bool) (ps : List Placed) → AllByRecursion (Stands bytes) ps → AllByRecursion (Stands bytes) (filter test ps)
-stand_filter bytes test [] all = tt
-stand_filter bytes test (p ∷ ps) all = by_case (test p) (stand_filter bytes test ps all.1)
-  where
-    by_case : (b : Bool) → AllByRecursion (Stands bytes) (filter test ps) → AllByRecursion (Stands bytes) (if b then p ∷ filter test ps else filter test ps)
-    by_case true rest = (all.0, rest)
-    by_case false rest = rest
-
 pub transaction_known : (bytes : List ℕ) (sel : Selection) (t : ℕ) (x : PlacedTransaction) → slice_get (placed_groups bytes sel) t ≡ Some x → IsPlacedTransaction (Stands bytes) sel x
 unfolding placed_groups
 transaction_known bytes sel t x at =
     transaction-at (Stands bytes) sel (range sel (placed_from 4 (read bytes sel.stop))) t x
-    (stand_filter bytes (is_in_range sel) (placed_from 4 (read bytes sel.stop)) (stand_read bytes sel.stop)) at
+    (all-by _ _ (λ p h. h.0) _ (all-filter (Stands bytes) (is_in_range sel) (placed_from 4 (read bytes sel.stop)) (stand_read bytes sel.stop))) at
 
 -- ---- of an index
 

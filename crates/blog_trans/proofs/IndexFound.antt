@@ -1,5 +1,5 @@
 -- What the entries of groups are, by the numbers of transactions and statements.
-use Rattle.std.proofs.Common.{◌≡◌, ℕ, ◌+◌, List, [], ◌∷◌, ◌++◌, map, length, take, Some, option_map, refl, sym, ap, ◌∙◌, add-one, length-append, arith}
+use Rattle.std.proofs.Common.{◌≡◌, ℕ, ◌+◌, List, [], ◌∷◌, ◌++◌, map, length, take, Some, option_map, refl, ap, ◌∙◌, add-one, length-append, arith}
 use Rattle.std.specs.List.{flat_map, slice_get}
 use Rattle.std.proofs.lemmas.List.{length-map, take_all}
 use Rattle.std.proofs.lemmas.Option.{slice_get-map}
@@ -34,9 +34,6 @@ next_statement ts t x s y at =
     let sum = length-append (flat_map statement_entries (take s x.statements)) (statement_entries y) in
     let both = statement_len y in
     omega arith
-
-pub last_transaction : (entries : List Entry) (ts : List PlacedTransaction) (n : ℕ) → entries ≡ entries_of ts → length ts ≡ n → transaction_place ts n ≡ length entries
-last_transaction entries ts n is all = ap (λ l. length (entries_of l)) (take_all n ts (omega (arith, all))) ∙ ap length (sym is)
 
 pub last_statements : (ts : List PlacedTransaction) (n : ℕ) → length ts ≡ n → statements_in (take n ts) ≡ statements_in ts
 last_statements ts n all = ap statements_in (take_all n ts (omega (arith, all)))

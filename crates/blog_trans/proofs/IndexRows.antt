@@ -1,5 +1,5 @@
 -- What an index shows of a rows event.
-use Rattle.std.proofs.Common.{◌≡◌, ℕ, ◌+◌, length, drop, get_or, List, Option, Some, Result, Ok, Err, IsSome, is_some, option_map, refl, sym, ap, ◌∙◌, arith}
+use Rattle.std.proofs.Common.{◌≡◌, ℕ, ◌+◌, length, drop, get_or, List, Option, Some, Result, Ok, IsSome, is_some, option_map, sym, ap, ◌∙◌, arith}
 use Rattle.std.specs.List.{slice_get}
 use Rattle.std.specs.Result.{IsOk, is_ok}
 use Rattle.std.proofs.lemmas.Option.{same_Some}
@@ -18,11 +18,11 @@ use Rattle.blog_trans.specs.declared.kind.EventKind.TheVariants as kind
 use Rattle.blog_trans.specs.Kinds.{kind_of}
 use Rattle.blog_trans.specs.Selection.{Selection}
 use Rattle.blog_trans.specs.PlacedFacts.{IsPlacedRows}
-use Rattle.blog_trans.specs.Acceptance.{rows_under}
 use Rattle.blog_trans.specs.Groups.{PlacedRows, PlacedTransaction}
 use Rattle.blog_trans.specs.Entries.{rows_entry, statement_place}
 use Rattle.blog_trans.specs.IndexView.{index_bytes, index_groups, placed, statement_at, rows_at}
 use Rattle.blog_trans.proofs.EntriesFound.{Finds}
+use Rattle.blog_trans.proofs.KeptRows.{under-found}
 use Rattle.blog_trans.proofs.IndexFacts.{some_at, placed_is}
 use Rattle.blog_trans.proofs.IndexStatements.{HasRows, has_rows, rows_read}
 
@@ -88,10 +88,6 @@ pub kind_same : (Member : Placed → Type 0) (sel : Selection) (maps : List Plac
 kind_same Member sel maps p event k facts is told = same_kind k p.kind (told ∙ kind_told Member sel maps p event facts is)
 
 -- the layout by which the body was read
-by_layout : (k : RowsKind) (l : Result Layout RowFault) (body : List ℕ) (b : RowsBody) → rows_under k l body ≡ Ok b → (x : Layout) × (l ≡ Ok x) × (rows_of k x body ≡ Ok b)
-by_layout k (Ok x) body b read = (x, refl, read)
-by_layout k (Err fault) body b read = absurd (cc)
-
 same_layout : (x y : Layout) → ◌≡◌ {A = Result Layout RowFault} (Ok x) (Ok y) → x ≡ y
 same_layout x y same = cc
 
@@ -99,15 +95,13 @@ same_body : (x y : RowsBody) → ◌≡◌ {A = Result RowsBody RowFault} (Ok x)
 same_body x y same = cc
 
 pub layout_ok : (Member : Placed → Type 0) (sel : Selection) (maps : List Placed) (p : PlacedRows) (map : read_event.Event) → IsPlacedRows Member sel maps p → placed map ≡ p.map → IsOk (layout_of map.body.now)
-layout_ok Member sel maps p map facts is =
-    let by = by_layout p.kind (layout_of p.map.event.body) p.event.event.body p.body facts.read in
-    ap (λ (q : Placed). is_ok (layout_of q.event.body)) is ∙ ap is_ok by.1
+layout_ok Member sel maps p map facts is = ap (λ (q : Placed). is_ok (layout_of q.event.body)) is ∙ ap is_ok facts.map.layout_is
 
 -- the body is read by the map's layout
 pub body_read : (Member : Placed → Type 0) (sel : Selection) (maps : List Placed) (p : PlacedRows) (event map : read_event.Event) (k : RowsKind) (columns : Layout) → IsPlacedRows Member sel maps p
     → placed event ≡ p.event → placed map ≡ p.map → k ≡ p.kind → layout_of map.body.now ≡ Ok columns → rows_of k columns event.body.now ≡ Ok p.body
 body_read Member sel maps p event map k columns facts event_same map_same kind_is layout =
-    let by = by_layout p.kind (layout_of p.map.event.body) p.event.event.body p.body facts.read in
+    let by = under-found p.kind (layout_of p.map.event.body) p.event.event.body p.body facts.read in
     let same : columns ≡ by.0 = same_layout columns by.0 (sym layout ∙ ap (λ (q : Placed). layout_of q.event.body) map_same ∙ by.1) in
     ap (λ (j : RowsKind). rows_of j columns event.body.now) kind_is ∙ ap (λ (l : Layout). rows_of p.kind l event.body.now) same
     ∙ ap (λ (q : Placed). rows_of p.kind by.0 q.event.body) event_same ∙ by.2

@@ -1,6 +1,6 @@
 -- What is known after one more event.
 use Rattle.std.proofs.Common.{◌≡◌, ℕ, Bool, true, false, List, [], ◌∷◌, ◌++◌, map, Option, Some, None, Ok, refl, sym, ap, ◌∙◌, subst}
-use Rattle.std.specs.Prelude.{◌&&◌, not, is_some, option_map}
+use Rattle.std.specs.Prelude.{not, is_some, option_map}
 use Rattle.std.specs.Option.{option_map_or}
 use Rattle.std.specs.List.{list_any, AllByRecursion}
 use Rattle.std.proofs.lemmas.List.{map-append}
@@ -28,6 +28,7 @@ use Rattle.blog_trans.specs.TablesView.{tables_known, HaveGrown, IsNumbered}
 use Rattle.blog_trans.specs.StatementMaps.{MapFacts, first_of_ids, facts_of, facts_held, is_used}
 use Rattle.blog_trans.specs.TakenView.{statement_with}
 use Rattle.blog_trans.specs.JudgeView.{Knows, LayoutsAgree, IsPassed, IsPassedStatement, is_rows_of, columns_known, column_checks}
+use Rattle.blog_trans.proofs.ProgressFirsts.{and-false}
 use Rattle.blog_trans.proofs.JudgingStatement.{facts-quiet, facts-kept, passed-quiet, passed-map}
 use Rattle.blog_trans.proofs.JudgingMaps.{all-snoc, maps-more}
 use Rattle.blog_trans.proofs.JudgingLayouts.{layouts-quiet}
@@ -72,10 +73,6 @@ end-passes sel p earlier judge is_end inside no_rows h =
 
 -- ---- maps
 
-right-false : (a : Bool) → (a && false) ≡ false
-right-false true = refl
-right-false false = refl
-
 -- the facts of a new map, which no rows event goes by yet
 pub new-facts : (sel : Selection) (p : Placed) (statement : List Placed) (k : ℕ) (v : MapSeen) → kind_at p ≡ kind.TableMap → IsPassedStatement sel statement
     → list_any (is_map_of (table_id p.event.body)) statement ≡ false → k ≡ little_number 6 (table_id p.event.body)
@@ -84,7 +81,7 @@ pub new-facts : (sel : Selection) (p : Placed) (statement : List Placed) (k : �
 new-facts sel p statement k v is passed new k_is at body layout used =
     let none : list_any (is_rows_of (table_id p.event.body)) statement ≡ false = passed.mapped (table_id p.event.body) new in
     let no_rows : is_rows p ≡ false = rw is refl in
-    let unused : false ≡ is_used sel (p ∷ statement) p = sym (rw (no_rows, none) (right-false (is_selected sel p.event.body))) in
+    let unused : false ≡ is_used sel (p ∷ statement) p = sym (rw (no_rows, none) (and-false (is_selected sel p.event.body))) in
     λ i. record { id = k_is i; at = at i; body = body i; layout = layout i; used = (used ∙ unused) i }
 
 -- a further map of a known id
@@ -144,11 +141,3 @@ map-fault-inside sel p earlier is inside = rw (is, inside) refl
 pub map-fault-named : (sel : Selection) (p : Placed) (earlier : List Placed) (n : Names) (clash : Bool) → kind_at p ≡ kind.TableMap → is_inside (place earlier) ≡ true → names_of p.event.body ≡ Some n
     → list_any (clashes_by_id p) (since earlier) ≡ clash → event_fault sel earlier p ≡ first_failing (needs (not clash) MapClash ∷ column_checks sel earlier p)
 map-fault-named sel p earlier n clash is inside names clash_is = map-fault-inside sel p earlier is inside ∙ rw (names, clash_is) refl
-
--- where it has none
-pub map-fault-bad : (sel : Selection) (p : Placed) (earlier : List Placed) → kind_at p ≡ kind.TableMap → is_inside (place earlier) ≡ true → names_of p.event.body ≡ None → event_fault sel earlier p ≡ Some BadBody
-map-fault-bad sel p earlier is inside names = map-fault-inside sel p earlier is inside ∙ rw names refl
-
--- outside
-pub map-fault-outside : (sel : Selection) (p : Placed) (earlier : List Placed) → kind_at p ≡ kind.TableMap → is_inside (place earlier) ≡ false → event_fault sel earlier p ≡ Some OutOfPlace
-map-fault-outside sel p earlier is outside = rw (is, outside) refl

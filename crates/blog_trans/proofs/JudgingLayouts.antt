@@ -1,7 +1,6 @@
 -- What one more map makes of the layouts that are known.
 use Rattle.std.proofs.Common.{◌≡◌, ℕ, Bool, true, false, List, [], ◌∷◌, Option, Some, None, Result, Ok, Err, refl, sym, ap, ◌∙◌, inl, inr}
 use Rattle.std.specs.Prelude.{◌⊎◌, ◌&&◌, ◌||◌, not, if◌then◌else◌, bytes_eq, option_map}
-use Rattle.std.specs.Option.{option_map_or}
 use Rattle.std.specs.List.{list_any}
 use Rattle.std.proofs.lemmas.Bool.{and_parts}
 use Rattle.std.proofs.lemmas.Slice.Eq.{bytes_eq-Decides}
@@ -14,11 +13,11 @@ use Rattle.blog_row.specs.declared.layout.Layout as told
 use Rattle.blog_row.specs.declared.fault.RowFault.{RowFault}
 use Rattle.blog_row.specs.Column.{Layout, types_of, metadata_of}
 use Rattle.blog_row.specs.LayoutView.{layout_columns}
-use Rattle.blog_row.specs.TableMap.{Table, Names, names_of, layout_of, is_same_layout}
+use Rattle.blog_row.specs.TableMap.{Names, names_of, layout_of, is_same_layout}
 use Rattle.blog_trans.specs.declared.table_name.TableName.{TableName}
 use Rattle.blog_trans.specs.Selection.{Selection, is_wanted}
 use Rattle.blog_trans.specs.Places.{is_map}
-use Rattle.blog_trans.specs.Acceptance.{is_selected, clashes_by_layout, is_same_table, are_of_same_table, have_same_layout, selected_map_checks}
+use Rattle.blog_trans.specs.Acceptance.{is_selected, clashes_by_layout, is_same_table, have_same_layout, selected_map_checks}
 use Rattle.blog_trans.specs.TableNameView.{table_named}
 use Rattle.blog_trans.specs.JudgeView.{LayoutsAgree, has_other_layout, is_same_name}
 use Rattle.blog_trans.proofs.JudgingStatement.{or-false, twice}
@@ -27,41 +26,6 @@ use Rattle.blog_trans.proofs.JudgingStatement.{or-false, twice}
 pub layouts-quiet : {S : Type 0} (sel : Selection) (p : Placed) (earlier : List Placed) (layouts : IndexMap TableName told.Layout S) → is_map p ≡ false
     → LayoutsAgree sel earlier layouts → LayoutsAgree sel (p ∷ earlier) layouts
 layouts-quiet sel p earlier layouts no_map h = λ q name selected table. rw no_map (h q name selected table)
-
--- ---- maps of tables that aren't selected
-
--- equal names are equal tables
-same-table : (t u : Table) → is_same_table t u ≡ true → t ≡ u
-same-table t u h =
-    let parts = and_parts (bytes_eq t.schema u.schema) (bytes_eq t.name u.name) h in
-    let schema : t.schema ≡ u.schema = (bytes_eq-Decides t.schema u.schema).0 parts.0 in
-    let name : t.name ≡ u.name = (bytes_eq-Decides t.name u.name).0 parts.1 in
-    λ i. record { schema = schema i; name = name i }
-
-apart : (sel : Selection) (m q : Option Names) (layouts : Bool) → option_map_or (λ (n : Names). is_wanted sel.database n.table.schema && is_wanted sel.table n.table.name) m false ≡ false
-    → option_map_or (λ (n : Names). is_wanted sel.database n.table.schema && is_wanted sel.table n.table.name) q false ≡ true → (are_of_same_table m q && layouts) ≡ false
-apart sel None q layouts not_m is_q = refl
-apart sel (Some m) None layouts not_m is_q = refl
-apart sel (Some m) (Some q) layouts not_m is_q = by (is_same_table m.table q.table) refl
-  where
-    by : (b : Bool) → is_same_table m.table q.table ≡ b → (b && layouts) ≡ false
-    by false e = refl
-    by true e =
-        let same : m.table ≡ q.table = same-table m.table q.table e in
-        let other : (is_wanted sel.database m.table.schema && is_wanted sel.table m.table.name) ≡ true =
-        ap (λ (t : Table). is_wanted sel.database t.schema && is_wanted sel.table t.name) same ∙ is_q in
-        absurd (cc)
-
-and-false : (a b : Bool) → b ≡ false → (a && b) ≡ false
-and-false true b h = h
-and-false false b h = refl
-
--- it clashes with no map of a selected one
-pub layouts-unselected : {S : Type 0} (sel : Selection) (m : Placed) (earlier : List Placed) (layouts : IndexMap TableName told.Layout S) → is_selected sel m.event.body ≡ false
-    → LayoutsAgree sel earlier layouts → LayoutsAgree sel (m ∷ earlier) layouts
-layouts-unselected sel m earlier layouts unselected h = λ q name selected table.
-    let none : clashes_by_layout q m ≡ false = and-false (is_map m) _ (apart sel (names_of m.event.body) (names_of q.event.body) _ unselected selected) in
-    rw none (h q name selected table)
 
 -- ---- maps of selected tables
 

@@ -1,15 +1,16 @@
 -- What is known of a rows event that is kept: its map is the first of its id, of a selected table, and its body is read.
-use Rattle.std.proofs.Common.{◌≡◌, Bool, true, false, if◌then◌else◌, List, Option, Some, None, Result, Ok, Err, refl, subst}
+use Rattle.std.proofs.Common.{◌≡◌, ℕ, Bool, true, false, if◌then◌else◌, List, Option, Some, None, Result, Ok, Err, refl, subst}
 use Rattle.std.proofs.lemmas.Option.{none-some, same_Some, option_and_then_some}
 use Rattle.blog_event.specs.File.{Placed}
 use Rattle.blog_row.specs.declared.fault.RowFault.{RowFault}
 use Rattle.blog_row.specs.declared.kind.RowsKind.{RowsKind}
-use Rattle.blog_row.specs.RowsEvent.{RowsBody, table_id}
+use Rattle.blog_row.specs.Column.{Layout}
+use Rattle.blog_row.specs.RowsEvent.{RowsBody, rows_of, table_id}
 use Rattle.blog_trans.specs.declared.kind.EventKind.{EventKind}
 use Rattle.blog_trans.specs.declared.kind.EventKind.TheVariants as kind
 use Rattle.blog_trans.specs.Selection.{Selection}
 use Rattle.blog_trans.specs.Places.{kind_at, map_in}
-use Rattle.blog_trans.specs.Acceptance.{is_selected, rows_by_map}
+use Rattle.blog_trans.specs.Acceptance.{is_selected, rows_under, rows_by_map}
 use Rattle.blog_trans.specs.Groups.{PlacedRows, rows_if, rows_by_kind, kept_rows}
 
 -- what is kept of an event of a statement
@@ -24,6 +25,11 @@ pub record IsKeptOf (sel : Selection) (events : List Placed) (p : Placed) (r : P
 chosen : {A : Type 0} (b : Bool) (o : Option A) (x : A) → (if b then o else None) ≡ Some x → (b ≡ true) × (o ≡ Some x)
 chosen true o x e = (refl, e)
 chosen false o x e = absurd (none-some x e)
+
+-- a body is read by a layout
+pub under-found : (k : RowsKind) (l : Result Layout RowFault) (body : List ℕ) (b : RowsBody) → rows_under k l body ≡ Ok b → (c : Layout) × (l ≡ Ok c) × (rows_of k c body ≡ Ok b)
+under-found k (Ok c) body b e = (c, refl, e)
+under-found k (Err fault) body b e = absurd (cc)
 
 pub kept-facts : (sel : Selection) (events : List Placed) (p : Placed) (r : PlacedRows) → kept_rows sel events p ≡ Some r → IsKeptOf sel events p r
 kept-facts sel events p r e =

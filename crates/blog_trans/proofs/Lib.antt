@@ -1,5 +1,6 @@
 pub mod Opening
 pub mod KindCode
+pub mod PlacedParts
 pub mod Tables
 mod CountsCode
 pub mod Growing
@@ -21,7 +22,6 @@ pub mod JudgingLayouts
 pub mod JudgingRows
 pub mod Judging
 mod WalkerCode
-pub mod PlacedParts
 pub mod PlacedFacts
 pub mod ProgressAccepted
 pub mod Sums

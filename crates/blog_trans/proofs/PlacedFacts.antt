@@ -1,22 +1,22 @@
 -- The facts of each group of events.
-use Rattle.std.proofs.Common.{◌≡◌, ℕ, Bool, true, false, ◌&&◌, ◌||◌, not, if◌then◌else◌, List, [], ◌∷◌, reverse, Option, Some, None, bytes_eq, refl, sym, ap, subst, ◌∙◌}
+use Rattle.std.proofs.Common.{◌≡◌, ℕ, Bool, true, false, ◌&&◌, ◌||◌, not, if◌then◌else◌, List, [], ◌∷◌, map, reverse, Option, Some, None, bytes_eq, refl, sym, ap, subst, ◌∙◌}
 use Rattle.std.specs.Option.{option_map_or}
-use Rattle.std.specs.List.{AllByRecursion, filter_map, slice_get, Contains}
+use Rattle.std.specs.List.{AllByRecursion, IsDistinct, filter_map, slice_get, list_any, Contains}
 use Rattle.std.proofs.lemmas.Bool.{and_parts, or_left, or_right, false≢true}
 use Rattle.std.proofs.lemmas.List.{reverse-reverse}
 use Rattle.std.proofs.lemmas.List.Elements.{All-contains_itself, recursion_from_All}
 use Rattle.std.proofs.lemmas.Option.{none-some, same_Some}
 use Rattle.blog_event.specs.File.{Placed}
-use Rattle.blog_row.specs.TableMap.{names_of}
+use Rattle.blog_row.specs.TableMap.{names_of, layout_of}
 use Rattle.blog_trans.specs.Selection.{Selection}
 use Rattle.blog_trans.specs.Places.{is_map, is_map_of, map_in}
-use Rattle.blog_trans.specs.Acceptance.{is_selected}
 use Rattle.blog_trans.specs.Groups.{PlacedRows, PlacedStatement, PlacedTransaction, Span, spans, statements_of, kept_rows, first_maps, statement_if, kept_statement, transaction_if, kept_transaction, placed_groups_in}
 use Rattle.blog_trans.specs.StatementMaps.{first_of_ids}
 use Rattle.blog_trans.specs.PlacedFacts.{IsPlacedMap, IsPlacedRows, IsPlacedStatement, IsPlacedTransaction}
-use Rattle.blog_trans.proofs.ProgressFirsts.{id_at, ids_of, is_id_among, without_id, IsFirst, bytes-own, bytes-same, among-without, all-by, first-filter, first-found}
-use Rattle.blog_trans.proofs.KeptRows.{IsKeptOf, kept-facts}
-use Rattle.blog_trans.proofs.PlacedParts.{all-filter, all-found, all-given, all-at, IsSpanOf, spans-all, statements-all}
+use Rattle.blog_trans.proofs.ProgressSteps.{not-holds}
+use Rattle.blog_trans.proofs.ProgressFirsts.{id_at, ids_of, is_id_among, without_id, IsFirst, bytes-own, bytes-same, among-without, first-filter, first-found}
+use Rattle.blog_trans.proofs.KeptRows.{IsKeptOf, under-found, kept-facts}
+use Rattle.blog_trans.proofs.PlacedParts.{all-by, all-both, all-map, all-filter, all-found, all-given, all-at, any-map, IsSpanOf, spans-all, statements-all}
 
 -- ---- maps
 
@@ -25,13 +25,21 @@ tested : {A : Type 0} (o : Option A) (test : A → Bool) → option_map_or test 
 tested None test e = absurd (false≢true e)
 tested (Some x) test e = (x, refl)
 
--- the map of a selected table that is found among such events
-map-placed : (Member : Placed → Type 0) (sel : Selection) (events : List Placed) (id : List ℕ) (m : Placed) → AllByRecursion Member events → map_in events id ≡ Some m
-    → is_selected sel m.event.body ≡ true → IsPlacedMap Member sel m
-map-placed Member sel events id m all found selected =
-    let at = all-found Member (is_map_of id) events m all found in
-    let names = tested (names_of m.event.body) _ selected in
-    record { member = at.0; is_one = (and_parts (is_map m) (bytes_eq (id_at m) id) at.1).0; selected = selected; names = names.0; names_are = names.1 }
+-- the map by which a kept rows event of such events goes
+map-placed : (Member : Placed → Type 0) (sel : Selection) (events : List Placed) (p : Placed) (r : PlacedRows) → AllByRecursion Member events → IsKeptOf sel events p r → IsPlacedMap Member sel r.map
+map-placed Member sel events p r all kept =
+    let at = all-found Member (is_map_of (id_at p)) events r.map all kept.found in
+    let names = tested (names_of r.map.event.body) _ kept.selected in
+    let layout = under-found r.kind (layout_of r.map.event.body) p.event.body r.body kept.read in
+    record {
+      member = at.0;
+      is_one = (and_parts (is_map r.map) (bytes_eq (id_at r.map) (id_at p)) at.1).0;
+      selected = kept.selected;
+      names = names.0;
+      names_are = names.1;
+      layout = layout.0;
+      layout_is = layout.1;
+    }
 
 -- the maps that are kept for ids are the first of their ids
 first-asked : (ids : List (List ℕ)) (events : List Placed) → AllByRecursion (λ m. (map_in events (id_at m) ≡ Some m) × (is_id_among ids (id_at m) ≡ true)) (first_maps ids events)
@@ -41,6 +49,25 @@ first-asked ids events =
     (all-filter (λ m. map_in events (id_at m) ≡ Some m) (λ m. is_id_among ids (id_at m)) (first_of_ids (reverse events))
     (all-by (IsFirst (reverse events)) (λ m. map_in events (id_at m) ≡ Some m) (λ m found. ap (λ l. map_in l (id_at m)) (sym (reverse-reverse events)) ∙ found)
     (first_of_ids (reverse events)) (first-found (reverse events))))
+
+-- no two of them have one id
+firsts-distinct : (ids : List (List ℕ)) (events : List Placed) → IsDistinct bytes_eq (map id_at (first_maps ids events))
+unfolding IsDistinct
+firsts-distinct ids [] = tt
+firsts-distinct ids (p ∷ ps) =
+    by_case (is_map p && is_id_among ids (id_at p)) (first-asked others ps) (firsts-distinct others ps) (firsts-distinct ids ps)
+  where
+    others : List (List ℕ)
+    others = without_id (id_at p) ids
+
+    differs : (m : Placed) → (map_in ps (id_at m) ≡ Some m) × (is_id_among others (id_at m) ≡ true) → bytes_eq (id_at p) (id_at m) ≡ false
+    differs m h = not-holds (bytes_eq (id_at p) (id_at m)) (and_parts (not (bytes_eq (id_at p) (id_at m))) (is_id_among ids (id_at m)) (sym (among-without (id_at p) (id_at m) ids) ∙ h.1)).0
+
+    by_case : (b : Bool) → AllByRecursion (λ m. (map_in ps (id_at m) ≡ Some m) × (is_id_among others (id_at m) ≡ true)) (first_maps others ps)
+        → IsDistinct bytes_eq (map id_at (first_maps others ps)) → IsDistinct bytes_eq (map id_at (first_maps ids ps))
+        → IsDistinct bytes_eq (map id_at (if b then p ∷ first_maps others ps else first_maps ids ps))
+    by_case true asked rest without = (all-map _ (λ id. bytes_eq (id_at p) id ≡ false) id_at differs (first_maps others ps) asked, rest)
+    by_case false asked rest without = without
 
 -- the map of an id that is asked for is among those that are kept
 asked-found : (ids : List (List ℕ)) (events : List Placed) (id : List ℕ) (p : Placed) → is_id_among ids id ≡ true → map_in events id ≡ Some p → map_in (first_maps ids events) id ≡ Some p
@@ -65,7 +92,7 @@ asked-found ids (q ∷ qs) id p asked e =
 row-placed : (Member : Placed → Type 0) (sel : Selection) (events maps : List Placed) (r : PlacedRows) → AllByRecursion Member events → Member r.event → IsKeptOf sel events r.event r
     → map_in maps (id_at r.event) ≡ Some r.map → IsPlacedRows Member sel maps r
 row-placed Member sel events maps r all member kept found =
-    record { member = member; kind_is = kept.kind_is; map = map-placed Member sel events (id_at r.event) r.map all kept.found kept.selected; found = found; read = kept.read }
+    record { member = member; kind_is = kept.kind_is; map = map-placed Member sel events r.event r all kept; found = found; read = kept.read }
 
 -- it is what is kept of itself
 abbrev IsOwn : (Placed → Type 0) → Selection → List Placed → PlacedRows → Type 0
@@ -97,10 +124,6 @@ rows-asked (r ∷ rows) = (
   all-by _ _ (λ s asked. or_right (bytes_eq (id_at s.event) (id_at r.event)) (is_id_among (ids_of rows) (id_at s.event)) asked) rows (rows-asked rows),
 )
 
-all-both : {A : Type 0} (P Q : A → Type 0) (xs : List A) → AllByRecursion P xs → AllByRecursion Q xs → AllByRecursion (λ x. P x × Q x) xs
-all-both P Q [] first second = tt
-all-both P Q (x ∷ xs) first second = ((first.0, second.0), all-both P Q xs first.1 second.1)
-
 -- ---- statements
 
 -- where one is found, there is one
@@ -113,6 +136,8 @@ statement-by : (Member : Placed → Type 0) (sel : Selection) (events : List Pla
 statement-by Member sel events [] s all own e = absurd (none-some s e)
 statement-by Member sel events (r ∷ rows) s all own e = subst (IsPlacedStatement Member sel) (same_Some (record { maps = maps; rows = r ∷ rows }) s e) (record {
   maps = all-by _ (IsPlacedMap Member sel) map_is maps (first-asked ids events);
+  distinct = firsts-distinct ids events;
+  used = all-by _ (λ m. list_any (λ x. bytes_eq (id_at m) (id_at x.event)) (r ∷ rows) ≡ true) (λ m h. sym (any-map (λ x. id_at x.event) (bytes_eq (id_at m)) (r ∷ rows)) ∙ h.1) maps (first-asked ids events);
   rows = all-by _ (IsPlacedRows Member sel maps) row_is (r ∷ rows) (all-both _ _ (r ∷ rows) (rows-asked (r ∷ rows)) own);
   some_map = found-some maps (id_at r.event) r.map (asked-found ids events (id_at r.event) r.map (rows-asked (r ∷ rows)).0 own.0.1.found);
   some_rows = (r, rows, refl);
@@ -128,7 +153,7 @@ statement-by Member sel events (r ∷ rows) s all own e = subst (IsPlacedStateme
     map_is m h =
         let row = row-of (IsOwn Member sel events) (r ∷ rows) (id_at m) h.1 own in
         let same : row.0.map ≡ m = same_Some row.0.map m (sym row.2.1.found ∙ ap (map_in events) (sym row.1) ∙ h.0) in
-        map-placed Member sel events (id_at m) m all h.0 (ap (λ (x : Placed). is_selected sel x.event.body) (sym same) ∙ row.2.1.selected)
+        subst (IsPlacedMap Member sel) same (map-placed Member sel events row.0.event row.0 all row.2.1)
 
     row_is : (x : PlacedRows) → (is_id_among ids (id_at x.event) ≡ true) × IsOwn Member sel events x → IsPlacedRows Member sel maps x
     row_is x h = row-placed Member sel events maps x all h.1.0 h.1.1 (asked-found ids events (id_at x.event) x.map h.0 h.1.1.found)

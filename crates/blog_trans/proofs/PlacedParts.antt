@@ -1,13 +1,34 @@
 -- What holds of each of some events holds of those of their spans and statements.
-use Rattle.std.proofs.Common.{◌≡◌, ℕ, zero, suc, Bool, true, false, not, if◌then◌else◌, List, [], ◌∷◌, filter, find, Option, Some, None, option_map, refl, sym, ap, subst, ◌∙◌}
-use Rattle.std.specs.List.{AllByRecursion, filter_map, cons_option, slice_get}
+use Rattle.std.proofs.Common.{◌≡◌, ℕ, zero, suc, Bool, true, false, not, ◌||◌, if◌then◌else◌, List, [], ◌∷◌, map, filter, find, flat_map, Option, Some, None, option_map, refl, sym, ap, subst, ◌∙◌}
+use Rattle.std.specs.List.{AllByRecursion, filter_map, cons_option, slice_get, list_any}
 use Rattle.std.proofs.lemmas.Option.{none-some, same_Some}
 use Rattle.blog_event.specs.File.{Placed}
 use Rattle.blog_event.specs.Format.{front_while}
+use Rattle.blog_row.proofs.ReversedRows.{all-append}
 use Rattle.blog_trans.specs.Places.{is_begin, is_end, is_last_rows}
 use Rattle.blog_trans.specs.Groups.{Span, cons_if, spans, onto_first, statements_of}
 
 -- ---- lists
+
+-- what follows for each element
+pub all-by : {A : Type 0} (P Q : A → Type 0) → ((x : A) → P x → Q x) → (xs : List A) → AllByRecursion P xs → AllByRecursion Q xs
+all-by P Q by [] all = tt
+all-by P Q by (x ∷ xs) all = (by x all.0, all-by P Q by xs all.1)
+
+-- of two facts both
+pub all-both : {A : Type 0} (P Q : A → Type 0) (xs : List A) → AllByRecursion P xs → AllByRecursion Q xs → AllByRecursion (λ x. P x × Q x) xs
+all-both P Q [] first second = tt
+all-both P Q (x ∷ xs) first second = ((first.0, second.0), all-both P Q xs first.1 second.1)
+
+-- of the elements of a map
+pub all-map : {A B : Type 0} (P : A → Type 0) (Q : B → Type 0) (f : A → B) → ((x : A) → P x → Q (f x)) → (xs : List A) → AllByRecursion P xs → AllByRecursion Q (map f xs)
+all-map P Q f by [] all = tt
+all-map P Q f by (x ∷ xs) all = (by x all.0, all-map P Q f by xs all.1)
+
+-- of the elements of lists that are joined
+pub all-joined : {A B : Type 0} (P : A → Type 0) (Q : B → Type 0) (f : A → List B) → ((x : A) → P x → AllByRecursion Q (f x)) → (xs : List A) → AllByRecursion P xs → AllByRecursion Q (flat_map f xs)
+all-joined P Q f by [] all = tt
+all-joined P Q f by (x ∷ xs) all = all-append Q (f x) (flat_map f xs) (by x all.0) (all-joined P Q f by xs all.1)
 
 -- of the elements that pass a test, and the test too
 pub all-filter : {A : Type 0} (P : A → Type 0) (test : A → Bool) (xs : List A) → AllByRecursion P xs → AllByRecursion (λ x. P x × (test x ≡ true)) (filter test xs)
@@ -51,6 +72,11 @@ pub all-at : {A : Type 0} (P : A → Type 0) (xs : List A) (k : ℕ) (x : A) →
 all-at P [] k x all e = absurd (none-some x e)
 all-at P (y ∷ xs) zero x all e = subst P (same_Some y x e) all.0
 all-at P (y ∷ xs) (suc k) x all e = all-at P xs k x all.1 e
+
+-- whether some element of a map passes a test
+pub any-map : {A B : Type 0} (f : A → B) (test : B → Bool) (xs : List A) → list_any test (map f xs) ≡ list_any (λ x. test (f x)) xs
+any-map f test [] = refl
+any-map f test (x ∷ xs) = ap (λ b. test (f x) || b) (any-map f test xs)
 
 -- ---- spans and statements
 

@@ -10,22 +10,23 @@ use Rattle.blog_trans.specs.Places.{place, is_inside, is_outside}
 use Rattle.blog_trans.specs.Acceptance.{event_fault, range, is_in_range, is_start_inside, read_fault, first_read_fault, lines, fault, IsAccepted}
 use Rattle.blog_trans.specs.Groups.{placed_groups}
 use Rattle.blog_trans.specs.Progress.{progress}
-use Rattle.blog_trans.specs.Passing.{HavePassed, Passes}
+use Rattle.blog_trans.specs.Passing.{Passes}
 use Rattle.blog_trans.proofs.ProgressSteps.{outside-not-inside}
-use Rattle.blog_trans.proofs.ProgressGroups.{all-passed, progress-is-groups}
+use Rattle.blog_trans.proofs.ProgressGroups.{progress-is-groups}
 
 -- where no check fails, each passes
-none-failing : {A : Type 0} (checks : List (Option A)) → first_failing checks ≡ None → AllByRecursion (λ c. c ≡ None) checks
+pub none-failing : {A : Type 0} (checks : List (Option A)) → first_failing checks ≡ None → AllByRecursion (λ c. c ≡ None) checks
 none-failing [] e = tt
 none-failing (None ∷ checks) e = (refl, none-failing checks e)
 none-failing (Some failure ∷ checks) e = absurd (cc)
 
 -- a check with no fault at a position has none
-no-fault-at : (pos : ℕ) (check : Option Cause) → fault_at pos check ≡ None → check ≡ None
+pub no-fault-at : (pos : ℕ) (check : Option Cause) → fault_at pos check ≡ None → check ≡ None
 no-fault-at pos None e = refl
 no-fault-at pos (Some cause) e = absurd (cc)
 
-needed : (b : Bool) (cause : Cause) → needs b cause ≡ None → b ≡ true
+-- a check that passes has its test
+pub needed : (b : Bool) (cause : Cause) → needs b cause ≡ None → b ≡ true
 needed true cause e = refl
 needed false cause e = absurd (cc)
 
@@ -46,7 +47,7 @@ read-passes sel earlier (p ∷ ps) e =
     passes-by-range sel (is_in_range sel p) (range sel earlier) (range sel ps) p own.1.0 (read-passes sel (p ∷ earlier) ps parts.1.0)
 
 -- of an accepted log no line has a fault
-accepted-lines : (bytes : List ℕ) (sel : Selection) → IsAccepted bytes sel → AllByRecursion (λ c. c ≡ None) (lines bytes sel (read bytes sel.stop))
+pub accepted-lines : (bytes : List ℕ) (sel : Selection) → IsAccepted bytes sel → AllByRecursion (λ c. c ≡ None) (lines bytes sel (read bytes sel.stop))
 unfolding fault
 accepted-lines bytes sel accepted = none-failing (lines bytes sel (read bytes sel.stop)) accepted
 
@@ -55,10 +56,6 @@ pub accepted-passes : (bytes : List ℕ) (sel : Selection) → IsAccepted bytes 
 accepted-passes bytes sel accepted =
     let parts = accepted-lines bytes sel accepted in
     read-passes sel [] (placed_from 4 (read bytes sel.stop)) parts.1.1.1.1.0
-
--- they have passed
-pub accepted-passed : (bytes : List ℕ) (sel : Selection) → IsAccepted bytes sel → HavePassed sel (reverse (range sel (placed_from 4 (read bytes sel.stop))))
-accepted-passed bytes sel accepted = all-passed sel (range sel (placed_from 4 (read bytes sel.stop))) (accepted-passes bytes sel accepted)
 
 -- they end outside of a transaction
 pub accepted-outside : (bytes : List ℕ) (sel : Selection) → IsAccepted bytes sel → is_inside (place (reverse (range sel (placed_from 4 (read bytes sel.stop))))) ≡ false

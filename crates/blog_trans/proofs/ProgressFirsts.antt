@@ -13,6 +13,7 @@ use Rattle.blog_row.specs.RowsEvent.{table_id}
 use Rattle.blog_trans.specs.Places.{is_map, is_map_of, map_in}
 use Rattle.blog_trans.specs.Groups.{PlacedRows, first_maps}
 use Rattle.blog_trans.specs.StatementMaps.{first_of_ids}
+use Rattle.blog_trans.proofs.PlacedParts.{all-by}
 use Rattle.blog_trans.proofs.ProgressSteps.{reverse-latest}
 use Rattle.blog_trans.proofs.ProgressRows.{found-stays}
 
@@ -146,10 +147,6 @@ find-none test (x ∷ xs) e = by_case (test x) e (find-none test xs)
 all-with : {A : Type 0} (P Q : A → Type 0) → ((x : A) → P x → Q x) → (xs : List A) → AllByRecursion P xs → (y : A) → Q y → AllByRecursion Q (xs ++ y ∷ [])
 all-with P Q each [] all y last = (last, tt)
 all-with P Q each (x ∷ xs) all y last = (each x all.0, all-with P Q each xs all.1 y last)
-
-pub all-by : {A : Type 0} (P Q : A → Type 0) → ((x : A) → P x → Q x) → (xs : List A) → AllByRecursion P xs → AllByRecursion Q xs
-all-by P Q each [] all = tt
-all-by P Q each (x ∷ xs) all = (each x all.0, all-by P Q each xs all.1)
 
 -- each is found by its id
 abbrev pub IsFirst : List Placed → Placed → Type 0

@@ -272,10 +272,6 @@ passed-passes sel [] left passed pass = pass
 passed-passes sel (p ∷ earlier) left passed pass =
     subst (Passes sel []) (sym (reverse-behind p earlier left)) (passed-passes sel earlier (p ∷ left) passed.1 (passed.0, pass))
 
--- events that have passed pass
-pub all-pass : (sel : Selection) (earlier : List Placed) → HavePassed sel earlier → Passes sel [] (reverse earlier)
-all-pass sel earlier passed = subst (Passes sel []) (append-nil (reverse earlier)) (passed-passes sel earlier [] passed tt)
-
 -- the progress of events that pass and end outside of a transaction has their groups
 pub progress-is-groups : (sel : Selection) (es : List Placed) → Passes sel [] es → is_inside (place (reverse es)) ≡ false → placed_groups_in sel es ≡ (progress sel (reverse es)).done
 progress-is-groups sel es pass out =

@@ -1,6 +1,6 @@
 -- The open transaction of the progress: whether there is one, and the kept rows events of its open statement.
 use Rattle.std.proofs.Common.{◌≡◌, Bool, true, false, ◌&&◌, ◌||◌, not, if◌then◌else◌, List, [], ◌∷◌, reverse, Option, Some, None, is_some, refl, sym, ap, subst, ◌∙◌}
-use Rattle.std.specs.List.{list_any, filter_map}
+use Rattle.std.specs.List.{list_any}
 use Rattle.std.proofs.lemmas.Bool.{false≢true}
 use Rattle.blog_event.specs.File.{Placed}
 use Rattle.blog_row.specs.RowsEvent.{has_end_flag}
@@ -10,7 +10,7 @@ use Rattle.blog_trans.specs.Groups.{PlacedTransaction, kept_rows}
 use Rattle.blog_trans.specs.Progress.{Open, Progress, appended_if, ended_if, rows_taken, advance, progress}
 use Rattle.blog_trans.specs.Passing.{HavePassed}
 use Rattle.blog_trans.proofs.ProgressSteps.{Begins, Ends, IsRowsStep, IsOther, Step, begins, ends, rows, other, step-of}
-use Rattle.blog_trans.proofs.ProgressRows.{kept_so_far, no-rows-kept, since-checked, statement-keeps, none-kept}
+use Rattle.blog_trans.proofs.ProgressRows.{kept_so_far, no-rows-kept, none-kept}
 
 -- the kept rows events of a transaction that is open are those of the statement
 abbrev pub HasRows : Selection → List Placed → Option Open → Type 0
@@ -89,11 +89,6 @@ open-inside sel earlier passed = (state-of sel earlier passed).inside
 -- its kept rows events are those of the open statement, each kept as it came
 pub open-kept : (sel : Selection) (earlier : List Placed) (o : Open) → HavePassed sel earlier → (progress sel earlier).current ≡ Some o → o.rows ≡ kept_so_far sel (since earlier)
 open-kept sel earlier o passed is = subst (HasRows sel (since earlier)) is (state-of sel earlier passed).rows
-
--- and those that the open statement keeps
-pub open-rows : (sel : Selection) (earlier : List Placed) (o : Open) → HavePassed sel earlier → (progress sel earlier).current ≡ Some o
-    → o.rows ≡ filter_map (kept_rows sel (reverse (since earlier))) (reverse (since earlier))
-open-rows sel earlier o passed is = open-kept sel earlier o passed is ∙ sym (statement-keeps sel (since earlier) (since-checked sel earlier passed))
 
 -- none, where the open statement has no rows event
 pub open-no-rows : (sel : Selection) (earlier : List Placed) (o : Open) → HavePassed sel earlier → (progress sel earlier).current ≡ Some o

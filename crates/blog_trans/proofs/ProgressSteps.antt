@@ -48,6 +48,11 @@ pub not-holds : (b : Bool) → not b ≡ true → b ≡ false
 not-holds false e = refl
 not-holds true e = absurd (false≢true e)
 
+-- the kind of a `BEGIN`
+pub begin-kind : (k : EventKind) → is_begin_kind k ≡ true → k ≡ kind.Begin
+begin-kind kind.Begin e = refl
+begin-kind k e = absurd (false≢true e)
+
 -- what lies outside isn't inside
 pub outside-not-inside : (at : Place) → is_outside at ≡ true → is_inside at ≡ false
 outside-not-inside Outside e = refl

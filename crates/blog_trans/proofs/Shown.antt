@@ -1,5 +1,5 @@
 -- Groups have events of the range, and none of them twice.
-use Rattle.std.proofs.Common.{◌≡◌, ℕ, ◌+◌, ◌≤◌, ◌<◌, Bool, true, false, ◌&&◌, if◌then◌else◌, List, [], ◌∷◌, ◌++◌, length, map, take, filter, not, bytes_eq, Option, Some, None, Result, Ok, Err, refl, sym, ap, ap₂, ◌∙◌, subst, arith}
+use Rattle.std.proofs.Common.{◌≡◌, ℕ, ◌+◌, ◌≤◌, ◌<◌, Bool, true, false, ◌&&◌, if◌then◌else◌, List, [], ◌∷◌, ◌++◌, length, map, take, filter, not, bytes_eq, Option, Some, None, refl, sym, ap, ap₂, ◌∙◌, subst, arith}
 use Rattle.std.specs.Prelude.{◌==◌, Contains}
 use Rattle.std.specs.List.{AllByRecursion, IsDistinct, cons_option, filter_map, flat_map, list_any}
 use Rattle.std.proofs.lemmas.Bool.{eqb-true, eq-eqb, false_from_ne_true}
@@ -14,16 +14,15 @@ use Rattle.blog_event.specs.Opening.{opening_fault}
 use Rattle.blog_event.proofs.Going.{opened-reads-on}
 use Rattle.blog_row.specs.declared.kind.RowsKind.{RowsKind}
 use Rattle.blog_row.specs.declared.fault.RowFault.{RowFault}
-use Rattle.blog_row.specs.RowsEvent.{RowsBody, table_id}
-use Rattle.blog_row.proofs.Cutting.{and_then_found}
+use Rattle.blog_row.specs.RowsEvent.{table_id}
 use Rattle.blog_row.proofs.ReversedRows.{all-append}
 use Rattle.blog_trans.specs.declared.kind.EventKind.{EventKind}
 use Rattle.blog_trans.specs.declared.kind.EventKind.TheVariants as kind
 use Rattle.blog_trans.specs.Selection.{Selection}
 use Rattle.blog_trans.specs.Kinds.{is_map_kind}
-use Rattle.blog_trans.specs.Places.{kind_at, is_map, map_in}
-use Rattle.blog_trans.specs.Acceptance.{is_selected, rows_by_map, range, is_in_range, fault, IsAccepted}
-use Rattle.blog_trans.specs.Groups.{PlacedRows, PlacedStatement, PlacedTransaction, Span, spans, statements_of, rows_if, rows_by_kind, kept_rows, first_maps, statement_if, kept_statement, transaction_if, kept_transaction, placed_groups_in, placed_groups}
+use Rattle.blog_trans.specs.Places.{is_map}
+use Rattle.blog_trans.specs.Acceptance.{range, is_in_range, IsAccepted}
+use Rattle.blog_trans.specs.Groups.{PlacedRows, PlacedStatement, PlacedTransaction, Span, spans, statements_of, kept_rows, first_maps, statement_if, kept_statement, transaction_if, kept_transaction, placed_groups_in, placed_groups}
 use Rattle.blog_trans.specs.PlacedFacts.{IsPlacedMap, IsPlacedRows, IsPlacedStatement, IsPlacedTransaction}
 use Rattle.blog_trans.specs.Passing.{Passes}
 use Rattle.blog_trans.specs.declared.entry.Entry.{Entry}
@@ -34,33 +33,14 @@ use Rattle.blog_trans.proofs.Apart.{statements-fit, span_sum, spans-fit}
 use Rattle.blog_trans.proofs.Opening.{opening-refused}
 use Rattle.blog_trans.proofs.PlacedFacts.{groups-among}
 use Rattle.blog_trans.proofs.ProgressAccepted.{accepted-passes}
-use Rattle.blog_trans.proofs.ProgressFirsts.{all-by}
+use Rattle.blog_trans.proofs.PlacedParts.{all-by, all-map, all-joined}
+use Rattle.blog_trans.proofs.KeptRows.{kept-facts}
 
 -- ---- rows events that are kept
 
--- the event is the one that it was read of
-row-own : (p m : Placed) (rows : RowsKind) (o : Result RowsBody RowFault) (r : PlacedRows) → rows_if p m rows o ≡ Some r → r.event ≡ p
-row-own p m rows (Err fault) r e = absurd (cc)
-row-own p m rows (Ok b) r e =
-    let made : PlacedRows = record { event = p; map = m; kind = rows; body = b } in
-    let same : made ≡ r = cc in
-    ap (λ (x : PlacedRows). x.event) (sym same)
-
--- and is no map
-kind-own : (p m : Placed) (k : EventKind) (r : PlacedRows) → rows_by_kind p m k ≡ Some r → (is_map_kind k ≡ false) × (r.event ≡ p)
-kind-own p m (kind.Rows rows) r e = (refl, row-own p m rows (rows_by_map rows m.event.body p.event.body) r e)
-kind-own p m _ r e = absurd (cc)
-
--- what is chosen only where a test holds
-chosen : {A : Type 0} (b : Bool) (o : Option A) (x : A) → (if b then o else None) ≡ Some x → o ≡ Some x
-chosen true o x e = e
-chosen false o x e = absurd (cc)
-
--- both hold of each rows event that a statement keeps
-pub kept-own : (sel : Selection) (s : List Placed) (p : Placed) (r : PlacedRows) → kept_rows sel s p ≡ Some r → (is_map p ≡ false) × (r.event ≡ p)
-kept-own sel s p r e =
-    let found = and_then_found (λ (m : Placed). if is_selected sel m.event.body then rows_by_kind p m (kind_at p) else None) (map_in s (table_id p.event.body)) r e in
-    kind-own p found.0 (kind_at p) r (chosen (is_selected sel found.0.event.body) (rows_by_kind p found.0 (kind_at p)) r found.2)
+-- it is no map, and the event is the one that it was read of
+kept-own : (sel : Selection) (s : List Placed) (p : Placed) (r : PlacedRows) → kept_rows sel s p ≡ Some r → (is_map p ≡ false) × (r.event ≡ p)
+kept-own sel s p r e = let kept = kept-facts sel s p r e in (ap is_map_kind kept.kind_is, kept.event_is)
 
 -- ---- sums over what is kept: whatever number each event has
 
@@ -134,16 +114,6 @@ groups-once w sel ps passes =
 
 -- ---- what holds of events holds of those of their groups
 
--- of the elements of a map
-all-map : {A B : Type 0} (P : A → Type 0) (Q : B → Type 0) (f : A → B) → ((x : A) → P x → Q (f x)) → (xs : List A) → AllByRecursion P xs → AllByRecursion Q (map f xs)
-all-map P Q f by [] all = tt
-all-map P Q f by (x ∷ xs) all = (by x all.0, all-map P Q f by xs all.1)
-
--- of the elements of lists that are joined
-all-joined : {A B : Type 0} (P : A → Type 0) (Q : B → Type 0) (f : A → List B) → ((x : A) → P x → AllByRecursion Q (f x)) → (xs : List A) → AllByRecursion P xs → AllByRecursion Q (flat_map f xs)
-all-joined P Q f by [] all = tt
-all-joined P Q f by (x ∷ xs) all = all-append Q (f x) (flat_map f xs) (by x all.0) (all-joined P Q f by xs all.1)
-
 -- of a statement
 statement-within : (Member : Placed → Type 0) (sel : Selection) (s : PlacedStatement) → IsPlacedStatement Member sel s → AllByRecursion Member (statement_shown s)
 statement-within Member sel s placed =
@@ -209,7 +179,7 @@ positions-distinct (p ∷ ps) each =
 -- ---- sizes
 
 -- how long an event is
-abbrev own_size : Placed → ℕ
+abbrev pub own_size : Placed → ℕ
 own_size p = event_size p.event
 
 -- events that follow each other end so far behind the position at which they begin
@@ -237,7 +207,7 @@ unfolding shown placed_groups
 shown-sum w bytes sel accepted = groups-once w sel (events_in_range bytes sel) (accepted-passes bytes sel accepted)
 
 -- the sizes of an accepted log's shown events
-shown-sizes : (bytes : List ℕ) (sel : Selection) → IsAccepted bytes sel → end_of 4 (take 1 (read bytes sel.stop)) + sum_of own_size (shown bytes sel) ≤ length bytes
+pub shown-sizes : (bytes : List ℕ) (sel : Selection) → IsAccepted bytes sel → end_of 4 (take 1 (read bytes sel.stop)) + sum_of own_size (shown bytes sel) ≤ length bytes
 shown-sizes bytes sel accepted =
     let on : ReadsOn bytes sel.stop = opened-reads-on bytes sel.stop (accepted-opens bytes sel accepted) in
     let format : Event = on.first in

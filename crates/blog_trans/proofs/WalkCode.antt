@@ -45,10 +45,6 @@ fault-first check others f is = ap (λ c. first_failing (c ∷ others)) is
 
 -- ---- the event at 4
 
--- no position lies behind itself
-outside-range : (sel : Selection) (e : Event) → is_in_range sel (record { pos = 4; event = e }) ≡ false
-outside-range sel e = refl
-
 format-fault : (sel : Selection) (e : Event) → is_start_inside sel (record { pos = 4; event = e }) ≡ false → read_fault sel [] (record { pos = 4; event = e }) ≡ None
 format-fault sel e out = ap (λ b. first_failing (fault_at sel.start (needs (not b) NoEventAt) ∷ None ∷ [])) out
 

@@ -31,7 +31,7 @@ use Rattle.indexmap.specs.IndexMap.{values}
 use Rattle.blog_trans.specs.declared.maps.MapSeen.{MapSeen}
 use Rattle.blog_trans.specs.declared.layouts.SelectedTable.{SelectedTable}
 use Rattle.blog_trans.proofs.Growing.{counts-grown}
-use Rattle.blog_trans.proofs.ProgressSteps.{Step, begins, ends, rows, other, step-of, needs-passed, not-holds}
+use Rattle.blog_trans.proofs.ProgressSteps.{begin-kind, Step, begins, ends, rows, other, step-of, needs-passed, not-holds}
 use Rattle.blog_trans.proofs.ProgressState.{open-inside, since-other, since-rows, since-last}
 use Rattle.blog_trans.proofs.ProgressMaps.{used_statement, taken-maps, taken-closed}
 use Rattle.blog_trans.proofs.ProgressFirsts.{ids_of}
@@ -47,10 +47,6 @@ other-kind kind.Commit e = absurd (false≢true e)
 other-kind kind.Xid e = absurd (false≢true e)
 other-kind (kind.Rows rows_kind) e = absurd (false≢true e)
 other-kind k e = (refl, refl, λ sel earlier p x. refl)
-
-begin-kind : (k : EventKind) → is_begin_kind k ≡ true → k ≡ kind.Begin
-begin-kind kind.Begin e = refl
-begin-kind k e = absurd (false≢true e)
 
 end-kind : (k : EventKind) → is_end_kind k ≡ true → (is_begin_kind k ≡ false) × (is_some (rows_of_kind k) ≡ false)
     × ((sel : Selection) (earlier : List Placed) (p : Placed) (x : Progress) → advance_by k sel earlier p x ≡ ended_if p x)
