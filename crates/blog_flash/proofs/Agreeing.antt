@@ -1,7 +1,8 @@
 -- The kept maps of an accepted log agree on layouts: of two maps of a table the later one was checked against the earlier.
-use Rattle.std.proofs.Common.{◌≡◌, ℕ, Bool, true, false, not, if◌then◌else◌, List, [], ◌∷◌, Option, Some, None, is_some, Ok, bytes_eq, ◌⊎◌, inl, inr, refl, sym, subst, ap, ◌∙◌}
-use Rattle.std.specs.List.{list_any}
-use Rattle.std.proofs.lemmas.Bool.{and_parts, and_from, or_parts, not-true, not-false, false≢true}
+use Rattle.std.proofs.Common.{◌≡◌, ℕ, zero, suc, arith, Bool, true, false, not, if◌then◌else◌, List, [], ◌∷◌, Option, Some, None, is_some, Ok, bytes_eq, ◌⊎◌, inl, inr, refl, sym, subst, ap, ◌∙◌}
+use Rattle.std.specs.List.{Contains, list_any}
+use Rattle.std.proofs.lemmas.List.Folds.{list_any_at}
+use Rattle.std.proofs.lemmas.Bool.{and_parts, and_from, not-true, not-false, false≢true, false_from_ne_true}
 use Rattle.std.proofs.lemmas.Slice.Eq.{bytes_eq-Decides}
 use Rattle.blog_event.specs.declared.fault.Fault.TheVariants.{OutOfPlace, MapClash, BadBody}
 use Rattle.blog_event.specs.Fault.{Cause, needs, first_failing}
@@ -16,20 +17,17 @@ use Rattle.blog_trans.specs.Kinds.{is_map_kind}
 use Rattle.blog_trans.specs.Places.{kind_at, is_map, place, is_inside, since}
 use Rattle.blog_trans.specs.Acceptance.{is_selected, is_same_table, clashes_by_id, clashes_by_layout, selected_map_checks, checks, event_fault, range, IsAccepted}
 use Rattle.blog_trans.specs.Groups.{event_value}
+use Rattle.blog_trans.specs.Passing.{Passes}
+use Rattle.blog_trans.proofs.ProgressAccepted.{none-failing, needed, accepted-passes}
+use Rattle.blog_trans.proofs.Tables.{same-table, own-table}
 use Rattle.blog_flash.proofs.Formed.{Agree}
-use Rattle.blog_flash.proofs.Passed.{PassBy, none_failing, accepted-passes}
 
 -- ---- what is asked of kept maps
-
--- it is one of the events
-abbrev pub Among : Placed → List Placed → Type 0
-Among p [] = ⊥
-Among p (q ∷ qs) = (p ≡ q) ⊎ Among p qs
 
 -- the value of a map of these events whose table is selected
 pub record IsChosen (events : List Placed) (sel : Selection) (e : Event) : Type 0 where
   pub at : Placed
-  pub among : Among at events
+  pub among : Contains events at
   pub a_map : is_map at ≡ true
   pub selected : is_selected sel at.event.body ≡ true
   pub value : e ≡ event_value at
@@ -41,15 +39,8 @@ Chosen bytes sel e = IsChosen (range sel (placed_from 4 (read bytes sel.stop))) 
 -- ---- checks
 
 -- a test that no element passes
-any-none : (test : Placed → Bool) (ps : List Placed) (p : Placed) → list_any test ps ≡ false → Among p ps → test p ≡ false
-any-none test [] p e among = absurd among
-any-none test (q ∷ qs) p e (inl same) = ap test same ∙ (or_parts (test q) (list_any test qs) e).0
-any-none test (q ∷ qs) p e (inr more) = any-none test qs p (or_parts (test q) (list_any test qs) e).1 more
-
--- a check that passes has its test
-pub needed : (b : Bool) (cause : Cause) → needs b cause ≡ None → b ≡ true
-needed true cause e = refl
-needed false cause e = absurd (cc)
+any-none : (test : Placed → Bool) (ps : List Placed) (p : Placed) → list_any test ps ≡ false → Contains ps p → test p ≡ false
+any-none test ps p e among = false_from_ne_true (test p) (λ passes. false≢true (sym e ∙ list_any_at test ps among.0 p among.1 (ap test among.2 ∙ passes)))
 
 -- a map's kind
 pub map-kind : (k : EventKind) → is_map_kind k ≡ true → k ≡ kind.TableMap
@@ -65,7 +56,7 @@ map-checked sel earlier p is chosen e =
     λ others. needs (is_inside (place earlier)) OutOfPlace ∷ needs (is_some (names_of p.event.body)) BadBody ∷ needs (not (list_any (clashes_by_id p) (since earlier))) MapClash ∷ others in
     let by_table : first_failing (front (selected_map_checks earlier p)) ≡ None =
     subst (λ (b : Bool). first_failing (front (if b then selected_map_checks earlier p else [])) ≡ None) chosen by_kind in
-    let each = none_failing (front (selected_map_checks earlier p)) by_table in
+    let each = none-failing (front (selected_map_checks earlier p)) by_table in
     not-true (list_any (clashes_by_layout p) earlier) (needed _ MapClash each.1.1.1.1.0)
 
 -- a map of a selected table doesn't clash with an earlier one
@@ -73,19 +64,23 @@ abbrev pub IsChecked : Selection → Placed → Placed → Type 0
 IsChecked sel p other = is_map p ≡ true → is_selected sel p.event.body ≡ true → clashes_by_layout p other ≡ false
 
 -- each event was checked against those that stand before all of them
-checked-in : (sel : Selection) (earlier ps : List Placed) → PassBy sel earlier ps → (p other : Placed) → Among p ps → Among other earlier → IsChecked sel p other
-checked-in sel earlier [] pass p other among before = absurd among
-checked-in sel earlier (x ∷ ps) pass p other (inl same) before =
-    λ is chosen. any-none (clashes_by_layout p) earlier other (map-checked sel earlier p is chosen (subst (λ (q : Placed). event_fault sel earlier q ≡ None) (sym same) pass.0)) before
-checked-in sel earlier (x ∷ ps) pass p other (inr more) before = checked-in sel (x ∷ earlier) ps pass.1 p other more (inr before)
+checked-in : (sel : Selection) (earlier ps : List Placed) → Passes sel earlier ps → (p other : Placed) → Contains ps p → Contains earlier other → IsChecked sel p other
+checked-in sel earlier [] pass p other (k, below, is) before = absurd (omega (arith, below))
+checked-in sel earlier (x ∷ ps) pass p other (zero, below, same) before =
+    λ is chosen. any-none (clashes_by_layout p) earlier other (map-checked sel earlier p is chosen (subst (λ (q : Placed). event_fault sel earlier q ≡ None) same pass.0)) before
+checked-in sel earlier (x ∷ ps) pass p other (suc k, below, is) (j, within, before) =
+    checked-in sel (x ∷ earlier) ps pass.1 p other (k, omega (arith, below), is) (suc j, omega (arith, within), before)
 
 -- of two events that pass the later one was checked against the earlier
-pub agree-in : (sel : Selection) (earlier ps : List Placed) → PassBy sel earlier ps → (p q : Placed) → Among p ps → Among q ps → (p ≡ q) ⊎ (IsChecked sel p q ⊎ IsChecked sel q p)
-agree-in sel earlier [] pass p q first second = absurd first
-agree-in sel earlier (x ∷ ps) pass p q (inl first) (inl second) = inl (first ∙ sym second)
-agree-in sel earlier (x ∷ ps) pass p q (inl first) (inr second) = inr (inr (checked-in sel (x ∷ earlier) ps pass.1 q p second (inl first)))
-agree-in sel earlier (x ∷ ps) pass p q (inr first) (inl second) = inr (inl (checked-in sel (x ∷ earlier) ps pass.1 p q first (inl second)))
-agree-in sel earlier (x ∷ ps) pass p q (inr first) (inr second) = agree-in sel (x ∷ earlier) ps pass.1 p q first second
+pub agree-in : (sel : Selection) (earlier ps : List Placed) → Passes sel earlier ps → (p q : Placed) → Contains ps p → Contains ps q → (p ≡ q) ⊎ (IsChecked sel p q ⊎ IsChecked sel q p)
+agree-in sel earlier [] pass p q (j, below, first) second = absurd (omega (arith, below))
+agree-in sel earlier (x ∷ ps) pass p q (zero, below, first) (zero, within, second) = inl (sym first ∙ second)
+agree-in sel earlier (x ∷ ps) pass p q (zero, below, first) (suc k, within, second) =
+    inr (inr (checked-in sel (x ∷ earlier) ps pass.1 q p (k, omega (arith, within), second) (zero, omega arith, first)))
+agree-in sel earlier (x ∷ ps) pass p q (suc j, below, first) (zero, within, second) =
+    inr (inl (checked-in sel (x ∷ earlier) ps pass.1 p q (j, omega (arith, below), first) (zero, omega arith, second)))
+agree-in sel earlier (x ∷ ps) pass p q (suc j, below, first) (suc k, within, second) =
+    agree-in sel (x ∷ earlier) ps pass.1 p q (j, omega (arith, below), first) (k, omega (arith, within), second)
 
 -- ---- the same table, the same layout
 
@@ -95,9 +90,7 @@ bytes-turned xs ys e = (bytes_eq-Decides ys xs).1 (sym ((bytes_eq-Decides xs ys)
 
 -- the test of tables in the other order
 table-turned : (t u : Table) → is_same_table t u ≡ true → is_same_table u t ≡ true
-table-turned t u e =
-    let parts = and_parts (bytes_eq t.schema u.schema) (bytes_eq t.name u.name) e in
-    and_from (bytes_eq u.schema t.schema) (bytes_eq u.name t.name) (bytes-turned t.schema u.schema parts.0) (bytes-turned t.name u.name parts.1)
+table-turned t u e = ap (λ (v : Table). is_same_table v t) (sym (same-table t u e)) ∙ own-table t
 
 -- and of layouts
 layout-turned : (c d : Layout) → is_same_layout c d ≡ true → is_same_layout d c ≡ true

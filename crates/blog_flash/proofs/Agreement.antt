@@ -1,8 +1,9 @@
 -- The table maps of an accepted log's groups have names and layouts, and those of one table the same layout.
-use Rattle.std.proofs.Common.{◌≡◌, ℕ, zero, suc, ◌<◌, true, List, [], ◌∷◌, length, Ok, bytes_eq, sym, ap, ap₂, ◌∙◌, subst, arith}
-use Rattle.std.specs.Prelude.{Contains, slice_index_or}
+use Rattle.std.proofs.Common.{◌≡◌, ℕ, true, List, [], Ok, bytes_eq, sym, ap, ap₂, ◌∙◌, subst, arith}
+use Rattle.std.specs.Prelude.{Contains}
 use Rattle.std.specs.List.{AllByRecursion, list_all, flat_map}
-use Rattle.std.proofs.lemmas.Bool.{and_parts, and_from}
+use Rattle.std.proofs.lemmas.Bool.{and_parts}
+use Rattle.std.proofs.lemmas.List.Elements.{All-contains, All-from_recursion}
 use Rattle.blog_event.specs.Event.{Event}
 use Rattle.blog_event.specs.File.{AreBytes}
 use Rattle.blog_row.specs.Column.{Layout, is_column, types_of, metadata_of, columns_of}
@@ -15,9 +16,10 @@ use Rattle.blog_trans.specs.Groups.{Statement, Transaction, groups}
 use Rattle.blog_trans.specs.Changes.{table_of}
 use Rattle.blog_flash.specs.Agreement.{maps_of, MapsAgree}
 use Rattle.blog_flash.proofs.Formed.{IsMapEvent, IsStatement, IsTransaction, AreGroups}
-use Rattle.blog_flash.proofs.Forming.{all-flat_map}
+use Rattle.blog_trans.proofs.PlacedParts.{all-joined}
+use Rattle.blog_trans.proofs.ProgressFirsts.{bytes-same}
+use Rattle.blog_trans.proofs.Tables.{own-table}
 use Rattle.blog_flash.proofs.Agreeing.{Chosen, source-agree}
-use Rattle.blog_flash.proofs.Kept.{bytes-own, bytes-same}
 use Rattle.blog_flash.proofs.Source.{source-groups}
 
 -- ---- layouts
@@ -38,27 +40,17 @@ same-columns c d c_known d_known e =
     let metadata = bytes-same (metadata_of c) (metadata_of d) parts.1 in
     sym (spread c c_known).back ∙ ap₂ columns_of types metadata ∙ (spread d d_known).back
 
--- a table is itself
-table-own : (t : Table) → is_same_table t t ≡ true
-table-own t = and_from (bytes_eq t.schema t.schema) (bytes_eq t.name t.name) (bytes-own t.schema) (bytes-own t.name)
-
 -- ---- maps of groups
 
 -- the maps of well-formed groups are well-formed
 maps-formed : (Known : Event → Type 0) (ts : List Transaction) → AreGroups Known ts → AllByRecursion (IsMapEvent Known) (maps_of ts)
 maps-formed Known ts h =
-    all-flat_map (IsTransaction Known) (IsMapEvent Known) (λ (t : Transaction). flat_map (λ (s : Statement). s.maps) t.statements) (λ t formed.
-    all-flat_map (IsStatement Known) (IsMapEvent Known) (λ (s : Statement). s.maps) (λ s formed_s. formed_s.maps_formed) t.statements formed.statements_formed) ts h
+    all-joined (IsTransaction Known) (IsMapEvent Known) (λ (t : Transaction). flat_map (λ (s : Statement). s.maps) t.statements) (λ t formed.
+    all-joined (IsStatement Known) (IsMapEvent Known) (λ (s : Statement). s.maps) (λ s formed_s. formed_s.maps_formed) t.statements formed.statements_formed) ts h
 
--- what holds of all elements holds of the one at a place
-at-place : {A : Type 0} (P : A → Type 0) (xs : List A) (k : ℕ) (x : A) → AllByRecursion P xs → k < length xs → slice_index_or xs k x ≡ x → P x
-at-place P [] k x all below is = absurd (omega (arith, below))
-at-place P (y ∷ xs) zero x all below is = subst P is all.0
-at-place P (y ∷ xs) (suc k) x all below is = at-place P xs k x all.1 (omega (arith, below)) is
-
--- and so of one that is contained
+-- what holds of all elements holds of one that is contained
 contained : {A : Type 0} (P : A → Type 0) (xs : List A) (x : A) → AllByRecursion P xs → Contains xs x → P x
-contained P xs x all h = at-place P xs h.0 x all h.1 h.2
+contained P xs x all among = All-contains P xs x (All-from_recursion P xs all) among
 
 -- two maps of a table
 two-agree : (bytes : List ℕ) (sel : Selection) → IsAccepted bytes sel → (a b : Event) → IsMapEvent (Chosen bytes sel) a → IsMapEvent (Chosen bytes sel) b
@@ -69,7 +61,7 @@ two-agree bytes sel accepted a b a_formed b_formed table =
     let c : Layout = a_formed.layout.0 in
     let d : Layout = b_formed.layout.0 in
     let same_table : n.table ≡ o.table = rw (a_formed.names.1, b_formed.names.1) at table in
-    let named : is_same_table n.table o.table ≡ true = subst (λ (t : Table). is_same_table n.table t ≡ true) same_table (table-own n.table) in
+    let named : is_same_table n.table o.table ≡ true = subst (λ (t : Table). is_same_table n.table t ≡ true) same_table (own-table n.table) in
     let alike = source-agree bytes sel accepted a b a_formed.known b_formed.known n o a_formed.names.1 b_formed.names.1 named c d a_formed.layout.1 b_formed.layout.1 in
     let same = same-columns c d (layout-known a.body c a_formed.layout.1) (layout-known b.body d b_formed.layout.1) alike in
     a_formed.layout.1 ∙ ap (λ (l : Layout). Ok l) same ∙ sym b_formed.layout.1

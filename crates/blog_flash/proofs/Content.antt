@@ -1,5 +1,5 @@
 -- The content of a rows event: the body that is written is read again, and reversed rows are content too.
-use Rattle.std.proofs.Common.{◌≡◌, ℕ, ◌+◌, ◌%◌, ◌<◌, ◌^◌, Bool, true, false, eqb, List, [], ◌∷◌, ◌++◌, length, Ok, refl, sym, ap, ◌∙◌, subst, arith, length-append, append-nil, take_at, drop_at, le-leb, eq-eqb}
+use Rattle.std.proofs.Common.{◌≡◌, ℕ, ◌+◌, ◌%◌, ◌<◌, ◌^◌, Bool, true, false, eqb, List, [], ◌++◌, length, Ok, refl, sym, ap, ◌∙◌, subst, arith, length-append, append-nil, take_at, drop_at, le-leb, eq-eqb}
 use Rattle.std.specs.Prelude.{nat_le}
 use Rattle.std.specs.List.{AllByRecursion, concat}
 use Rattle.std.proofs.lemmas.List.{length-reverse}
@@ -17,13 +17,6 @@ use Rattle.blog_row.proofs.Images.{images_found, images_again}
 use Rattle.blog_row.proofs.Bodies.{rows_again}
 use Rattle.blog_row.proofs.ReversedRows.{all-reverse, all-exchanged, images-reversed, length-exchanged, none-extra, same-number}
 use Rattle.blog_flash.proofs.Formed.{IsContent}
-
--- ---- what holds of each element
-
--- what follows for each element, holds of each
-pub all-by : {A : Type 0} (P Q : A → Type 0) → ((x : A) → P x → Q x) → (xs : List A) → AllByRecursion P xs → AllByRecursion Q xs
-all-by P Q by [] all = tt
-all-by P Q by (x ∷ xs) all = (by x all.0, all-by P Q by xs all.1)
 
 -- ---- content
 

@@ -22,7 +22,8 @@ use Rattle.blog_trans.specs.Groups.{RowsEvent, Statement, Transaction}
 use Rattle.blog_flash.specs.Reversal.{reversed_rows, reversed_statement, reversed_transaction, reversed}
 use Rattle.blog_flash.specs.Texts.{rows_event, rows_events, statement_events, transaction_events, group_events}
 use Rattle.blog_flash.proofs.Formed.{Fits, IsMapEvent, IsRowsEvent, IsUsed, IsStatement, IsTransaction, AreGroups}
-use Rattle.blog_flash.proofs.Content.{all-by, content-reversed, body-again}
+use Rattle.blog_trans.proofs.PlacedParts.{all-by, all-map, all-joined}
+use Rattle.blog_flash.proofs.Content.{content-reversed, body-again}
 
 -- ---- the events of groups
 
@@ -76,16 +77,6 @@ reads maps last r h =
     ap (λ (l : Result Layout RowFault). rows_under r.content.kind l (written_body last r.content)) h.content.1 ∙ body-again last r.content h.content.0 h.id h.content.2
 
 -- ---- lists
-
--- what holds of the elements of a map
-pub all-map : {A B : Type 0} (P : A → Type 0) (Q : B → Type 0) (f : A → B) → ((x : A) → P x → Q (f x)) → (xs : List A) → AllByRecursion P xs → AllByRecursion Q (map f xs)
-all-map P Q f by [] all = tt
-all-map P Q f by (x ∷ xs) all = (by x all.0, all-map P Q f by xs all.1)
-
--- what holds of the elements of lists that are joined
-pub all-flat_map : {A B : Type 0} (P : A → Type 0) (Q : B → Type 0) (f : A → List B) → ((x : A) → P x → AllByRecursion Q (f x)) → (xs : List A) → AllByRecursion P xs → AllByRecursion Q (flat_map f xs)
-all-flat_map P Q f by [] all = tt
-all-flat_map P Q f by (x ∷ xs) all = all-append Q (f x) (flat_map f xs) (by x all.0) (all-flat_map P Q f by xs all.1)
 
 -- what holds of the elements, each changed and in reverse order
 all-turned : {A : Type 0} (P : A → Type 0) (f : A → A) → ((x : A) → P x → P (f x)) → (xs : List A) → AllByRecursion P xs → AllByRecursion P (reverse (map f xs))
@@ -180,9 +171,9 @@ statement-fits Known s h =
 -- those of a transaction
 transaction-fits : (Known : Event → Type 0) (t : Transaction) → IsTransaction Known t → AllByRecursion Fits (transaction_events t)
 transaction-fits Known t h =
-    let inside = all-flat_map (IsStatement Known) Fits statement_events (statement-fits Known) t.statements h.statements_formed in
+    let inside = all-joined (IsStatement Known) Fits statement_events (statement-fits Known) t.statements h.statements_formed in
     (h.begin_fits, all-append Fits (flat_map statement_events t.statements) (t.end ∷ []) inside (h.end_fits, tt))
 
 -- the headers of the events of groups fit
 pub events-fit : (Known : Event → Type 0) (ts : List Transaction) → AreGroups Known ts → AllByRecursion Fits (group_events ts)
-events-fit Known ts h = all-flat_map (IsTransaction Known) Fits transaction_events (transaction-fits Known) ts h
+events-fit Known ts h = all-joined (IsTransaction Known) Fits transaction_events (transaction-fits Known) ts h

@@ -16,10 +16,10 @@ use Rattle.blog_flash.specs.Theorems.{Undoes, IsNormal}
 use Rattle.blog_flash.proofs.Formed.{IsRowsEvent, IsStatement, IsTransaction, AreGroups}
 use Rattle.blog_flash.proofs.Undoing.{undo_all}
 use Rattle.blog_flash.proofs.Reversing.{reversed-twice, IsPairedRows, IsPairedStatement, IsPairedTransaction, paired-from-mod, reversed-changes}
-use Rattle.blog_flash.proofs.Content.{all-by}
 use Rattle.blog_flash.proofs.Forming.{groups-reversed}
-use Rattle.blog_flash.proofs.Passed.{no_fault_at, accepted-lines}
-use Rattle.blog_flash.proofs.Agreeing.{Chosen, needed, source-agree}
+use Rattle.blog_trans.proofs.PlacedParts.{all-by}
+use Rattle.blog_trans.proofs.ProgressAccepted.{no-fault-at, needed, accepted-lines}
+use Rattle.blog_flash.proofs.Agreeing.{Chosen, source-agree}
 use Rattle.blog_flash.proofs.Source.{source-groups, source-format, format-event}
 use Rattle.blog_flash.proofs.Totals.{no-longer}
 use Rattle.blog_flash.proofs.Written.{IsWritable, written-read, written-accepted, written-groups}
@@ -71,7 +71,7 @@ pub record IsSource (Known : Event → Type 0) (bytes : List ℕ) (sel : Selecti
 
 -- it is shorter than 4 GiB
 accepted-short : (bytes : List ℕ) (sel : Selection) → IsAccepted bytes sel → length bytes < 2 ^ 32
-accepted-short bytes sel accepted = ltb-true (length bytes) (2 ^ 32) (needed _ TooLong (no_fault_at 0 _ (accepted-lines bytes sel accepted).0))
+accepted-short bytes sel accepted = ltb-true (length bytes) (2 ^ 32) (needed _ TooLong (no-fault-at 0 _ (accepted-lines bytes sel accepted).0))
 
 -- of each accepted log
 pub is-source : (bytes : List ℕ) (sel : Selection) → AreBytes bytes → IsAccepted bytes sel → IsSource (Chosen bytes sel) bytes sel
@@ -82,7 +82,7 @@ is-source bytes sel are accepted =
     let event = format-event bytes sel format rest are first.2 in
     let formed = source-groups bytes sel are accepted in
     let agree = source-agree bytes sel accepted in
-    let lengths = no-longer bytes sel format rest are accepted first.2 in
+    let lengths = no-longer bytes sel format rest accepted first.2 in
     let short = accepted-short bytes sel accepted in
     record {
       accepted = accepted;

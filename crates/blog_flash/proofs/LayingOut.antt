@@ -65,12 +65,12 @@ pub laid-within : (order : Order) (bytes : List ℕ) (sel : Selection) (e : Even
 laid-within Forward bytes sel e h =
     let is = read-first bytes sel.stop e ((bytes_eq-Decides (take 4 bytes) magic).0 h.mark) h.stands in
     let laid = ap length (first-laid bytes sel.stop e (groups bytes sel) h.mark h.stands) in
-    let fits = (no-longer bytes sel e _ h.are h.accepted is).0 in
+    let fits = (no-longer bytes sel e _ h.accepted is).0 in
     omega arith
 laid-within Backward bytes sel e h =
     let is = read-first bytes sel.stop e ((bytes_eq-Decides (take 4 bytes) magic).0 h.mark) h.stands in
     let laid = ap length (first-laid bytes sel.stop e (groups_in Backward (groups bytes sel)) h.mark h.stands) in
-    let fits = (no-longer bytes sel e _ h.are h.accepted is).1 in
+    let fits = (no-longer bytes sel e _ h.accepted is).1 in
     omega arith
 
 -- as long in either order

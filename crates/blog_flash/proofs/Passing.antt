@@ -1,12 +1,7 @@
 -- The events of groups that can be laid out pass every check, and leave the place outside.
-use Rattle.std.proofs.Common.{◌≡◌, ℕ, ◌+◌, Bool, true, false, not, ◌&&◌, ◌||◌, List, [], ◌∷◌, ◌++◌, length, reverse, flat_map, bytes_eq, Some, None, inl, inr, refl, sym, ap, subst, ◌∙◌, append_assoc, append-nil}
-use Rattle.std.specs.Option.{option_or}
+use Rattle.std.proofs.Common.{◌≡◌, ℕ, ◌+◌, Bool, true, false, not, ◌&&◌, ◌||◌, List, [], ◌∷◌, ◌++◌, length, reverse, flat_map, bytes_eq, Some, None, inl, inr, refl, sym, ap, subst, ◌∙◌, append-nil}
 use Rattle.std.specs.List.{AllByRecursion, list_any}
-use Rattle.std.proofs.lemmas.List.{reverse-append}
-use Rattle.std.proofs.lemmas.List.Folds.{find-append}
-use Rattle.std.proofs.lemmas.Bool.{false≢true, cases_Bool}
-use Rattle.std.proofs.lemmas.Option.{none-some, same_Some}
-use Rattle.std.proofs.lemmas.Slice.Eq.{bytes_eq-Decides}
+use Rattle.std.proofs.lemmas.Bool.{false≢true}
 use Rattle.blog_event.specs.Event.{Event, event_size, unplaced}
 use Rattle.blog_event.specs.File.{Placed, end_of}
 use Rattle.blog_row.specs.TableMap.{names_of, layout_of, is_same_layout}
@@ -16,22 +11,22 @@ use Rattle.blog_trans.specs.declared.kind.EventKind.TheVariants as kind
 use Rattle.blog_trans.specs.declared.place.Place.TheVariants.{Outside, Inside}
 use Rattle.blog_trans.specs.Selection.{Selection, all}
 use Rattle.blog_trans.specs.Kinds.{is_map_kind}
-use Rattle.blog_trans.specs.Places.{kind_at, is_begin, is_map, is_last_rows, leads_to, place, since, is_map_of, map_in}
+use Rattle.blog_trans.specs.Places.{kind_at, is_begin, is_map, is_last_rows, leads_to, place, since, map_in}
 use Rattle.blog_trans.specs.Acceptance.{is_same_table, are_of_same_table, have_same_layout, clashes_by_id, clashes_by_layout, event_fault}
 use Rattle.blog_trans.specs.Groups.{RowsEvent, Statement, Transaction}
+use Rattle.blog_trans.specs.Passing.{Passes}
+use Rattle.blog_trans.proofs.ProgressFirsts.{bytes-differ}
+use Rattle.blog_trans.proofs.ProgressRows.{found-stays}
+use Rattle.blog_trans.proofs.ProgressSteps.{reverse-latest, reverse-behind}
 use Rattle.blog_row.specs.RowsWriting.{written_body}
 use Rattle.blog_flash.specs.Texts.{rows_event, rows_events, statement_events, transaction_events, group_events}
-use Rattle.blog_flash.proofs.Formed.{is_map_of_id, map_among, IsMapEvent, Agree, IsRowsEvent, AreDistinct, IsStatement, IsEndEvent, IsTransaction, AreGroups}
+use Rattle.blog_flash.proofs.Formed.{IsMapEvent, Agree, IsRowsEvent, AreDistinct, IsStatement, IsEndEvent, IsTransaction, AreGroups}
 use Rattle.blog_flash.proofs.Standing.{stood, stood-append}
+use Rattle.blog_flash.proofs.Spans.{stands_at, maps-stand}
 use Rattle.blog_flash.proofs.Content.{body-id, body-ends, body-long}
 use Rattle.blog_flash.proofs.Forming.{kind-placed, rows_event-kind, rows_event-body, reads}
 
 -- ---- events that pass
-
--- each event passes its checks; earlier has the events before, the latest first
-abbrev pub Pass : Selection → List Placed → List Placed → Type 0
-Pass sel earlier [] = Unit {0}
-Pass sel earlier (p ∷ ps) = (event_fault sel earlier p ≡ None) × Pass sel (p ∷ earlier) ps
 
 -- what stands before, the latest first, behind these events
 abbrev pub pushed : List Placed → List Placed → List Placed
@@ -43,30 +38,24 @@ pub pushed-append : (earlier xs ys : List Placed) → pushed earlier (xs ++ ys) 
 pushed-append earlier [] ys = refl
 pushed-append earlier (x ∷ xs) ys = pushed-append (x ∷ earlier) xs ys
 
--- the latest comes last in file order
-reverse-one : (p : Placed) (earlier : List Placed) → reverse (p ∷ earlier) ≡ reverse earlier ++ p ∷ []
-reverse-one p earlier = reverse-append (p ∷ []) earlier
-
 -- they come last in file order
 pub reverse-pushed : (earlier xs : List Placed) → reverse (pushed earlier xs) ≡ reverse earlier ++ xs
 reverse-pushed earlier [] = sym (append-nil (reverse earlier))
-reverse-pushed earlier (x ∷ xs) =
-    reverse-pushed (x ∷ earlier) xs ∙ ap (λ before. before ++ xs) (reverse-one x earlier) ∙ append_assoc (reverse earlier) (x ∷ []) xs
+reverse-pushed earlier (x ∷ xs) = reverse-pushed (x ∷ earlier) xs ∙ reverse-behind x earlier xs
 
 -- they stand in front of those before, in reverse order
 pub pushed-is : (earlier xs : List Placed) → pushed earlier xs ≡ reverse xs ++ earlier
 pushed-is earlier [] = refl
-pushed-is earlier (x ∷ xs) =
-    pushed-is (x ∷ earlier) xs ∙ sym (append_assoc (reverse xs) (x ∷ []) earlier) ∙ ap (λ before. before ++ earlier) (sym (reverse-one x xs))
+pushed-is earlier (x ∷ xs) = pushed-is (x ∷ earlier) xs ∙ sym (reverse-behind x xs earlier)
 
 -- two lists pass, one behind the other
-pub pass-append : (sel : Selection) (earlier xs ys : List Placed) → Pass sel earlier xs → Pass sel (pushed earlier xs) ys → Pass sel earlier (xs ++ ys)
+pub pass-append : (sel : Selection) (earlier xs ys : List Placed) → Passes sel earlier xs → Passes sel (pushed earlier xs) ys → Passes sel earlier (xs ++ ys)
 pass-append sel earlier [] ys first second = second
 pass-append sel earlier (x ∷ xs) ys first second = (first.0, pass-append sel (x ∷ earlier) xs ys first.1 second)
 
 -- the events pass under the whole selection, and lead to where Q holds
 abbrev Leads : List Placed → List Placed → (List Placed → Type 0) → Type 0
-Leads earlier ps Q = Pass all earlier ps × Q (pushed earlier ps)
+Leads earlier ps Q = Passes all earlier ps × Q (pushed earlier ps)
 
 -- and from there others lead further
 leads-append : (earlier xs ys : List Placed) (Q R : List Placed → Type 0) → Leads earlier xs Q → ((later : List Placed) → Q later → Leads later ys R)
@@ -82,10 +71,6 @@ leads-stood pos earlier xs ys Q R first others =
     subst (λ ps. Leads earlier ps R) (sym (stood-append pos xs ys)) (leads-append earlier (stood pos xs) (stood (end_of pos xs) ys) Q R first others)
 
 -- ---- what is known of the events before
-
--- an event that stands at a position
-abbrev standing : ℕ → Event → Placed
-standing pos e = record { pos = pos; event = record e { log_pos = pos + event_size e } }
 
 -- if it is a map, it is one of groups
 abbrev pub IsKnown : (Event → Type 0) → Placed → Type 0
@@ -129,18 +114,18 @@ begin-leads : (Known : Event → Type 0) (earlier : List Placed) (p : Placed) �
 begin-leads Known earlier p is h = record { inside = rw is refl; statement_is = rw is refl; known = (no-map Known p kind.Begin is refl, h.known) }
 
 -- the end passes where no statement is open
-end-passes : (Known : Event → Type 0) (earlier : List Placed) (pos : ℕ) (e : Event) → IsEndEvent e → IsAmid Known [] earlier → event_fault all earlier (standing pos e) ≡ None
+end-passes : (Known : Event → Type 0) (earlier : List Placed) (pos : ℕ) (e : Event) → IsEndEvent e → IsAmid Known [] earlier → event_fault all earlier (stands_at pos e) ≡ None
 end-passes Known earlier pos e (inl commit) h = rw (kind-placed e (pos + event_size e), commit, h.inside, h.statement_is) refl
 end-passes Known earlier pos e (inr xid) h = rw (kind-placed e (pos + event_size e), xid.0, xid.1, h.inside, h.statement_is) refl
 
 -- and leads outside
-end-leads : (Known : Event → Type 0) (earlier : List Placed) (pos : ℕ) (e : Event) → IsEndEvent e → IsAmid Known [] earlier → IsOutside Known (standing pos e ∷ earlier)
+end-leads : (Known : Event → Type 0) (earlier : List Placed) (pos : ℕ) (e : Event) → IsEndEvent e → IsAmid Known [] earlier → IsOutside Known (stands_at pos e ∷ earlier)
 end-leads Known earlier pos e (inl commit) h =
     let is = kind-placed e (pos + event_size e) ∙ commit in
-    record { outside = rw is refl; known = (no-map Known (standing pos e) kind.Commit is refl, h.known) }
+    record { outside = rw is refl; known = (no-map Known (stands_at pos e) kind.Commit is refl, h.known) }
 end-leads Known earlier pos e (inr xid) h =
     let is = kind-placed e (pos + event_size e) ∙ xid.0 in
-    record { outside = rw is refl; known = (no-map Known (standing pos e) kind.Xid is refl, h.known) }
+    record { outside = rw is refl; known = (no-map Known (stands_at pos e) kind.Xid is refl, h.known) }
 
 -- ---- maps
 
@@ -195,19 +180,12 @@ map-leads : (Known : Event → Type 0) (statement earlier : List Placed) (p : Pl
     → IsAmid Known statement earlier → IsAmid Known (p ∷ statement) (p ∷ earlier)
 map-leads Known statement earlier p is m h = amid-on Known statement earlier p h (rw is refl) (rw is refl) (λ map. m)
 
--- ids differ both ways
-other-way : (a b : List ℕ) → bytes_eq a b ≡ false → bytes_eq b a ≡ false
-other-way a b differ = elim (cases_Bool (bytes_eq b a)) [
-  | inl same ↦ absurd (false≢true (sym differ ∙ (bytes_eq-Decides a b).1 (sym ((bytes_eq-Decides b a).0 same))))
-  | inr differs ↦ differs
-]
-
 -- ids apart from one more map
 new-on : (statement : List Placed) (p : Placed) (ms : List Event) → AllByRecursion (λ o. bytes_eq (table_id o.body) (table_id p.event.body) ≡ false) ms
     → AllByRecursion (IsNew statement) ms → AllByRecursion (IsNew (p ∷ statement)) ms
 new-on statement p [] apart new = tt
 new-on statement p (m ∷ ms) apart new =
-    ((other-way (table_id m.body) (table_id p.event.body) apart.0, new.0), new-on statement p ms apart.1 new.1)
+    ((bytes-differ (table_id m.body) (table_id p.event.body) apart.0, new.0), new-on statement p ms apart.1 new.1)
 
 -- where a statement begins, each id is new
 all-new : (ms : List Event) → AllByRecursion (IsNew []) ms
@@ -219,7 +197,7 @@ maps-lead : (Known : Event → Type 0) → Agree Known → (pos : ℕ) (ms : Lis
     → AllByRecursion (IsNew statement) ms → IsAmid Known statement earlier → Leads earlier (stood pos ms) (IsAmid Known (pushed statement (stood pos ms)))
 maps-lead Known agree pos [] statement earlier formed distinct new h = (tt, h)
 maps-lead Known agree pos (m ∷ ms) statement earlier formed distinct new h =
-    let p = standing pos m in
+    let p = stands_at pos m in
     let is : kind_at p ≡ kind.TableMap = kind-placed m (pos + event_size m) ∙ formed.0.kind in
     let own : IsMapEvent Known (unplaced p.event) = subst (IsMapEvent Known) (sym formed.0.unplaced) formed.0 in
     let others = maps-lead Known agree (pos + event_size m) ms (p ∷ statement) (p ∷ earlier) formed.1 distinct.1
@@ -232,38 +210,24 @@ maps-lead Known agree pos (m ∷ ms) statement earlier formed distinct new h =
 abbrev Finds : List Placed → RowsEvent → Type 0
 Finds statement r = (q : Placed) × (map_in (reverse statement) r.content.id ≡ Some q) × (q.event.body ≡ r.map)
 
--- the map that is found among maps is found where they stand
-map-stands : (pos : ℕ) (ms : List Event) (id : List ℕ) (m : Event) → map_among ms id ≡ Some m → (q : Placed) × (map_in (stood pos ms) id ≡ Some q) × (q.event.body ≡ m.body)
-map-stands pos [] id m found = absurd (none-some m found)
-map-stands pos (x ∷ ms) id m found = by_case (is_map_of_id id x) refl (map-stands (pos + event_size x) ms id m) where
-  same : is_map_of id (standing pos x) ≡ is_map_of_id id x
-  same = ap (λ k. is_map_kind k && bytes_eq (table_id x.body) id) (kind-placed x (pos + event_size x))
-
-  by_case : (b : Bool) → is_map_of_id id x ≡ b
-      → (map_among ms id ≡ Some m → (q : Placed) × (map_in (stood (pos + event_size x) ms) id ≡ Some q) × (q.event.body ≡ m.body))
-      → (q : Placed) × (map_in (stood pos (x ∷ ms)) id ≡ Some q) × (q.event.body ≡ m.body)
-  by_case true e others = (standing pos x, rw (same, e) refl, ap (λ (o : Event). o.body) (same_Some x m (rw e at found)))
-  by_case false e others =
-      let rest = others (rw e at found) in
-      (rest.0, rw (same, e) rest.1, rest.2)
-
 -- the maps of rows events stand in the statement
 finds-all : (pos : ℕ) (ms : List Event) (rows : List RowsEvent) → AllByRecursion (IsRowsEvent ms) rows → AllByRecursion (Finds (pushed [] (stood pos ms))) rows
 finds-all pos ms [] formed = tt
 finds-all pos ms (r ∷ rows) formed =
-    let found = map-stands pos ms r.content.id formed.0.found.0 formed.0.found.1 in
-    ((found.0, rw (reverse-pushed [] (stood pos ms)) found.1, found.2 ∙ formed.0.found.2), finds-all pos ms rows formed.1)
+    let found = maps-stand pos ms [] r.content.id formed.0.found.0 formed.0.found.1 in
+    let stands = reverse-pushed [] (stood pos ms) ∙ sym (append-nil (stood pos ms)) in
+    ((found.0, ap (λ ps. map_in ps r.content.id) stands ∙ found.1, found.2 ∙ formed.0.found.2), finds-all pos ms rows formed.1)
 
 -- also behind one more event
 finds-on : (statement : List Placed) (p : Placed) (rows : List RowsEvent) → AllByRecursion (Finds statement) rows → AllByRecursion (Finds (p ∷ statement)) rows
 finds-on statement p [] found = tt
 finds-on statement p (r ∷ rows) found =
     let still : map_in (reverse (p ∷ statement)) r.content.id ≡ Some found.0.0 =
-    ap (λ ps. map_in ps r.content.id) (reverse-one p statement) ∙ find-append (is_map_of r.content.id) (reverse statement) (p ∷ []) ∙ ap (λ o. option_or o (map_in (p ∷ []) r.content.id)) found.0.1 in
+    ap (λ ps. map_in ps r.content.id) (reverse-latest p statement) ∙ found-stays (reverse statement) (p ∷ []) r.content.id found.0.0 found.0.1 in
     ((found.0.0, still, found.0.2), finds-on statement p rows found.1)
 
 -- the kind of a rows event, wherever it stands
-rows-kind : (pos : ℕ) (last : Bool) (r : RowsEvent) → kind_at (standing pos (rows_event last r)) ≡ kind.Rows r.content.kind
+rows-kind : (pos : ℕ) (last : Bool) (r : RowsEvent) → kind_at (stands_at pos (rows_event last r)) ≡ kind.Rows r.content.kind
 rows-kind pos last r = kind-placed (rows_event last r) (pos + event_size (rows_event last r)) ∙ rows_event-kind last r
 
 -- a rows event passes, if its map stands in the statement
@@ -282,14 +246,14 @@ rows-lead : (Known : Event → Type 0) (ms : List Event) (pos : ℕ) (r : RowsEv
     → AllByRecursion (IsRowsEvent ms) (r ∷ rows) → AllByRecursion (Finds statement) (r ∷ rows) → IsAmid Known statement earlier
     → Leads earlier (stood pos (rows_events (r ∷ rows))) (IsAmid Known [])
 rows-lead Known ms pos r [] statement earlier formed found h =
-    let p = standing pos (rows_event true r) in
+    let p = stands_at pos (rows_event true r) in
     let is = rows-kind pos true r in
     let ends = rows-closes true r p is (rows_event-body true r) formed.0.id (body-ends true r.content formed.0.id formed.0.flags formed.0.even) in (
       (rows-passes Known ms statement earlier true r p is (rows_event-body true r) formed.0 found.0 h, tt),
       amid-anew Known statement earlier p h (rw is refl) ends (no-map Known p (kind.Rows r.content.kind) is refl),
     )
 rows-lead Known ms pos r (s ∷ rows) statement earlier formed found h =
-    let p = standing pos (rows_event false r) in
+    let p = stands_at pos (rows_event false r) in
     let is = rows-kind pos false r in
     let goes_on = rows-closes false r p is (rows_event-body false r) formed.0.id (body-ends false r.content formed.0.id formed.0.flags formed.0.even) in
     let others = rows-lead Known ms (pos + event_size (rows_event false r)) s rows (p ∷ statement) (p ∷ earlier) formed.1 (finds-on statement p (s ∷ rows) found.1)
@@ -324,7 +288,7 @@ statements-pass Known agree earlier pos (s ∷ ss) h formed =
 transaction-passes : (Known : Event → Type 0) → Agree Known → (earlier : List Placed) (pos : ℕ) (t : Transaction) → IsOutside Known earlier → IsTransaction Known t
     → Leads earlier (stood pos (transaction_events t)) (IsOutside Known)
 transaction-passes Known agree earlier pos t h formed =
-    let p = standing pos t.begin in
+    let p = stands_at pos t.begin in
     let is = kind-placed t.begin (pos + event_size t.begin) ∙ formed.begin_kind in
     let within = flat_map statement_events t.statements in
     let from = pos + event_size t.begin in
@@ -335,7 +299,7 @@ transaction-passes Known agree earlier pos t h formed =
 
 -- the events of groups pass, and leave the place outside
 pub groups-pass : (Known : Event → Type 0) → Agree Known → (earlier : List Placed) (pos : ℕ) (ts : List Transaction) → IsOutside Known earlier → AreGroups Known ts
-    → Pass all earlier (stood pos (group_events ts)) × IsOutside Known (pushed earlier (stood pos (group_events ts)))
+    → Passes all earlier (stood pos (group_events ts)) × IsOutside Known (pushed earlier (stood pos (group_events ts)))
 groups-pass Known agree earlier pos [] h formed = (tt, h)
 groups-pass Known agree earlier pos (t ∷ ts) h formed =
     leads-stood pos earlier (transaction_events t) (group_events ts) (IsOutside Known) (IsOutside Known) (transaction-passes Known agree earlier pos t h formed.0)

@@ -1,7 +1,6 @@
 -- Grouping the events of groups gives the groups back, wherever the events stand.
-use Rattle.std.proofs.Common.{◌≡◌, ℕ, ◌+◌, List, [], ◌∷◌, ◌++◌, map, filter, if◌then◌else◌, Bool, true, false, ◌&&◌, ◌||◌, not, bytes_eq, Option, Some, None, Ok, option_and_then, refl, ap, sym, ◌∙◌}
-use Rattle.std.specs.List.{AllByRecursion, flat_map, filter_map, list_any}
-use Rattle.std.proofs.lemmas.Slice.Eq.{bytes_eq-Decides}
+use Rattle.std.proofs.Common.{◌≡◌, ℕ, ◌+◌, List, [], ◌∷◌, ◌++◌, map, if◌then◌else◌, Bool, true, false, ◌&&◌, not, bytes_eq, Option, Some, None, Ok, option_and_then, refl, ap, ◌∙◌}
+use Rattle.std.specs.List.{AllByRecursion, flat_map, filter_map}
 use Rattle.blog_event.specs.Event.{Event, event_size}
 use Rattle.blog_event.specs.File.{Placed, end_of}
 use Rattle.blog_row.specs.TableMap.{Names, names_of}
@@ -9,23 +8,21 @@ use Rattle.blog_row.specs.RowsEvent.{table_id}
 use Rattle.blog_row.specs.RowsWriting.{content_of, written_fields, written_body}
 use Rattle.blog_trans.specs.declared.kind.EventKind.TheVariants as kind
 use Rattle.blog_trans.specs.Selection.{all}
-use Rattle.blog_trans.specs.Kinds.{kind_of, is_map_kind}
-use Rattle.blog_trans.specs.Places.{kind_at, is_map_of, map_in}
+use Rattle.blog_trans.specs.Kinds.{is_map_kind}
+use Rattle.blog_trans.specs.Places.{kind_at, map_in}
 use Rattle.blog_trans.specs.Acceptance.{is_selected, rows_by_map}
 use Rattle.blog_trans.specs.Groups.{PlacedRows, PlacedStatement, PlacedTransaction, Span, spans, statements_of, rows_by_kind, rows_if, kept_rows, first_maps, statement_if, kept_statement, transaction_if, kept_transaction, placed_groups_in}
 use Rattle.blog_trans.specs.Groups.{RowsEvent, Statement, Transaction, rows_value, event_value, statement_value, transaction_value}
+use Rattle.blog_trans.proofs.PlacedParts.{all-by, any-map}
+use Rattle.blog_trans.proofs.ProgressFirsts.{is_id_among, without_id, bytes-differ, among-without}
 use Rattle.blog_flash.specs.Texts.{rows_event, rows_events, statement_events, transaction_events, group_events}
-use Rattle.blog_flash.proofs.Formed.{map_among, is_map_of_id, IsMapEvent, IsRowsEvent, AreDistinct, IsUsed, IsStatement, IsTransaction, AreGroups}
+use Rattle.blog_flash.proofs.Formed.{IsMapEvent, IsRowsEvent, AreDistinct, IsUsed, IsStatement, IsTransaction, AreGroups}
 use Rattle.blog_flash.proofs.Standing.{stood, stood-append}
-use Rattle.blog_flash.proofs.Content.{all-by, body-id, content-again}
+use Rattle.blog_flash.proofs.Content.{body-id, content-again}
 use Rattle.blog_flash.proofs.Forming.{rows_event-kind, rows_event-body, reads}
-use Rattle.blog_flash.proofs.Spans.{stands_at, by-kind, span_at, span-first, cut-first}
+use Rattle.blog_flash.proofs.Spans.{stands_at, by-kind, HasValue, HasMaps, maps-stand, span_at, span-first, cut-first}
 
 -- ---- what is kept
-
--- an answer of this value
-abbrev HasValue : {A B : Type 0} → Option A → (A → B) → B → Type 0
-HasValue {A = A} o value y = (x : A) × (o ≡ Some x) × (value x ≡ y)
 
 kept-more : {A B C : Type 0} (f : A → Option B) (value : B → C) (x : A) (xs : List A) (y : C) (ys : List C) → HasValue (f x) value y → map value (filter_map f xs) ≡ ys
     → map value (filter_map f (x ∷ xs)) ≡ y ∷ ys
@@ -92,25 +89,6 @@ record IsKept (rows : List RowsEvent) (kept : List PlacedRows) : Type 0 where
   values : map rows_value kept ≡ rows
   ids : map (λ x. table_id x.event.event.body) kept ≡ map (λ r. r.content.id) rows
 
--- each map of these is found among the events
-abbrev HasMaps : List Placed → List Event → Type 0
-HasMaps events maps = (id : List ℕ) (m : Event) → map_among maps id ≡ Some m → HasValue (map_in events id) (λ map. map.event.body) m.body
-
-maps-stand : (pos : ℕ) (maps : List Event) (more : List Placed) → HasMaps (stood pos maps ++ more) maps
-maps-stand pos [] more id m found = cc
-maps-stand pos (x ∷ maps) more id m found = by_case (is_map_of_id id x) refl (maps-stand (pos + event_size x) maps more id m)
-  where
-    others : List Placed
-    others = stood (pos + event_size x) maps ++ more
-
-    same : is_map_of id (stands_at pos x) ≡ is_map_of_id id x
-    same = by-kind (λ k. is_map_kind k && bytes_eq (table_id x.body) id) pos x (kind_of x) refl
-
-    by_case : (b : Bool) → is_map_of_id id x ≡ b → (map_among maps id ≡ Some m → HasValue (map_in others id) (λ map. map.event.body) m.body)
-        → HasValue (map_in (stands_at pos x ∷ others) id) (λ map. map.event.body) m.body
-    by_case true e later = let it = rw e at found in (stands_at pos x, rw (same ∙ e) refl, cc)
-    by_case false e later = rw (same ∙ e) (later (rw e at found))
-
 kept-front : (maps : List Event) (events ps : List Placed) (pos : ℕ) (last : Bool) (r : RowsEvent) (rows : List RowsEvent) → IsRowsEvent maps r → HasMaps events maps
     → IsKept rows (filter_map (kept_rows all events) ps) → IsKept (r ∷ rows) (filter_map (kept_rows all events) (stands_at pos (rows_event last r) ∷ ps))
 kept-front maps events ps pos last r rows h found others = record {
@@ -143,37 +121,17 @@ all-kept maps events pos (r ∷ s ∷ rows) h found =
 
 -- ---- the first maps of the table ids are the maps
 
-any-map : {A : Type 0} (f : A → List ℕ) (test : List ℕ → Bool) (xs : List A) → list_any test (map f xs) ≡ list_any (λ x. test (f x)) xs
-any-map f test [] = refl
-any-map f test (x ∷ xs) = ap (λ b. test (f x) || b) (any-map f test xs)
-
--- what passes a test is left by a filter that leaves all such
-pub any-filter : (p q : List ℕ → Bool) → ((x : List ℕ) → p x ≡ true → q x ≡ true) → (xs : List (List ℕ)) → list_any p xs ≡ true → list_any p (filter q xs) ≡ true
-any-filter p q implied [] h = h
-any-filter p q implied (x ∷ xs) h = by_case (p x) (q x) refl refl (any-filter p q implied xs)
-  where
-    by_case : (b c : Bool) → p x ≡ b → q x ≡ c → (list_any p xs ≡ true → list_any p (filter q xs) ≡ true) → list_any p (filter q (x ∷ xs)) ≡ true
-    by_case true true passes left others = rw left (rw passes refl)
-    by_case true false passes left others = cc (implied x passes)
-    by_case false true passes left others = rw left (rw passes (others (rw passes at h)))
-    by_case false false passes left others = rw left (others (rw passes at h))
-
 -- one of the ids is the map's
 abbrev HasIdOf : List (List ℕ) → Event → Type 0
-HasIdOf ids m = list_any (bytes_eq (table_id m.body)) ids ≡ true
+HasIdOf ids m = is_id_among ids (table_id m.body) ≡ true
 
-other-id : (a b id : List ℕ) → bytes_eq a b ≡ false → bytes_eq a id ≡ true → not (bytes_eq b id) ≡ true
-other-id a b id differ e = by_case (bytes_eq b id) refl
-  where
-    by_case : (t : Bool) → bytes_eq b id ≡ t → not t ≡ true
-    by_case false f = refl
-    by_case true f = let same = (bytes_eq-Decides a b).1 ((bytes_eq-Decides a id).0 e ∙ sym ((bytes_eq-Decides b id).0 f)) in cc
-
+-- another one of the ids stays among them
 ids-left : (id : List ℕ) (ids : List (List ℕ)) (maps : List Event) → AllByRecursion (HasIdOf ids) maps → AllByRecursion (λ m. bytes_eq (table_id m.body) id ≡ false) maps
-    → AllByRecursion (HasIdOf (filter (λ x. not (bytes_eq id x)) ids)) maps
+    → AllByRecursion (HasIdOf (without_id id ids)) maps
 ids-left id ids [] has differ = tt
 ids-left id ids (m ∷ maps) has differ =
-    (any-filter (bytes_eq (table_id m.body)) (λ x. not (bytes_eq id x)) (λ x. other-id (table_id m.body) id x differ.0) ids has.0, ids-left id ids maps has.1 differ.1)
+    let own : List ℕ = table_id m.body in
+    (among-without id own ids ∙ ap (λ t. not t && is_id_among ids own) (bytes-differ own id differ.0) ∙ has.0, ids-left id ids maps has.1 differ.1)
 
 no-maps : (ids : List (List ℕ)) (pos : ℕ) (rows : List RowsEvent) → first_maps ids (stood pos (rows_events rows)) ≡ []
 no-maps ids pos [] = refl
@@ -186,7 +144,7 @@ maps-first : (Known : Event → Type 0) (ids : List (List ℕ)) (pos : ℕ) (map
 maps-first Known ids pos [] ps h distinct has none = none ids
 maps-first Known ids pos (m ∷ maps) ps h distinct has none =
     let id = table_id m.body in
-    let left = filter (λ x. not (bytes_eq id x)) ids in
+    let left = without_id id ids in
     let others = maps-first Known left (pos + event_size m) maps ps h.1 distinct.1 (ids-left id ids maps has.1 distinct.0) none in
     rw (by-kind is_map_kind pos m kind.TableMap h.0.kind) (rw has.0 (ap (λ l. stands_at pos m ∷ l) others))
 

@@ -11,20 +11,18 @@ use Rattle.blog_row.proofs.ReversedRows.{images-reversed, content-twice}
 use Rattle.blog_row.specs.TableMap.{Table, layout_of}
 use Rattle.blog_trans.specs.Changes.{Change, Inserted, Deleted, Updated, table_of, row_by, updates, changes_by_action, changes_of_rows, changes_of_statement, changes_of_transaction, changes_of}
 use Rattle.blog_trans.specs.Groups.{RowsEvent, Statement, Transaction}
+use Rattle.blog_trans.proofs.PlacedParts.{all-by}
+use Rattle.blog_trans.proofs.ProgressSteps.{reverse-latest}
 use Rattle.blog_flash.specs.States.{inverse, inverse_all}
 use Rattle.blog_flash.specs.Reversal.{reversed_rows, reversed_statement, reversed_transaction, reversed}
 
 -- ---- lists in reverse order
 
--- reverse, one element at a time
-pub reverse-cons : {A : Type 0} (x : A) (xs : List A) → reverse (x ∷ xs) ≡ reverse xs ++ x ∷ []
-reverse-cons x xs = reverse-append (x ∷ []) xs
-
 -- map and reverse in either order
 pub map-reverse : {A B : Type 0} (f : A → B) (xs : List A) → map f (reverse xs) ≡ reverse (map f xs)
 map-reverse f [] = refl
 map-reverse f (x ∷ xs) =
-    ap (map f) (reverse-cons x xs) ∙ map-append f (reverse xs) (x ∷ []) ∙ ap (λ ys. ys ++ f x ∷ []) (map-reverse f xs) ∙ sym (reverse-cons (f x) (map f xs))
+    ap (map f) (reverse-latest x xs) ∙ map-append f (reverse xs) (x ∷ []) ∙ ap (λ ys. ys ++ f x ∷ []) (map-reverse f xs) ∙ sym (reverse-latest (f x) (map f xs))
 
 map-twice : {A : Type 0} (g : A → A) → ((x : A) → g (g x) ≡ x) → (xs : List A) → map g (map g xs) ≡ xs
 map-twice g twice [] = refl
@@ -58,21 +56,12 @@ reversed-twice = turned-twice reversed_transaction transaction-twice
 pub inverse_all-append : (cs ds : List Change) → inverse_all (cs ++ ds) ≡ inverse_all ds ++ inverse_all cs
 inverse_all-append cs ds = ap reverse (map-append inverse cs ds) ∙ reverse-append (map inverse cs) (map inverse ds)
 
-inverse-twice : (c : Change) → inverse (inverse c) ≡ c
-inverse-twice (Inserted t r) = refl
-inverse-twice (Deleted t r) = refl
-inverse-twice (Updated t before after) = refl
-
--- the inverse of the inverse changes are the changes
-pub inverse_all-twice : (cs : List Change) → inverse_all (inverse_all cs) ≡ cs
-inverse_all-twice = turned-twice inverse inverse-twice
-
 -- the changes of parts that are reversed, in reverse order, where each part's are the inverse
 pub joined_inverse : {X : Type 0} (f : X → List Change) (g : X → X) (xs : List X) → AllByRecursion (λ x. f (g x) ≡ inverse_all (f x)) xs
     → flat_map f (reverse (map g xs)) ≡ inverse_all (flat_map f xs)
 joined_inverse f g [] each = refl
 joined_inverse f g (x ∷ xs) each =
-    ap (flat_map f) (reverse-cons (g x) (map g xs))
+    ap (flat_map f) (reverse-latest (g x) (map g xs))
     ∙ flat_map-append f (reverse (map g xs)) (g x ∷ [])
     ∙ ap₂ ◌++◌ (joined_inverse f g xs each.1) (append-nil (f (g x)) ∙ each.0)
     ∙ sym (inverse_all-append (f x) (flat_map f xs))
@@ -157,7 +146,7 @@ updates-reverse t (x ∷ y ∷ rows) even =
     ap (updates t) (reverse-pair x y rows)
     ∙ updates-push t (reverse rows) y x (even-reverse rows even)
     ∙ ap (λ cs. cs ++ Updated t y x ∷ []) (updates-reverse t rows even)
-    ∙ sym (reverse-cons (Updated t y x) (map inverse (updates t rows)))
+    ∙ sym (reverse-latest (Updated t y x) (map inverse (updates t rows)))
 
 map-inverse : {A : Type 0} (f g : A → Change) → ((x : A) → inverse (f x) ≡ g x) → (xs : List A) → map inverse (map f xs) ≡ map g xs
 map-inverse f g same [] = refl
@@ -179,19 +168,14 @@ rows-changes r paired =
     row : List ℕ → Row
     row = row_by (layout_of r.map)
 
--- what follows from a fact of each element
-pub all_by : {A : Type 0} (P Q : A → Type 0) → ((x : A) → P x → Q x) → (xs : List A) → AllByRecursion P xs → AllByRecursion Q xs
-all_by P Q each [] all = all
-all_by P Q each (x ∷ xs) all = (each x all.0, all_by P Q each xs all.1)
-
 -- the changes of a reversed statement
 pub statement-changes : (s : Statement) → IsPairedStatement s → changes_of_statement (reversed_statement s) ≡ inverse_all (changes_of_statement s)
-statement-changes s paired = joined_inverse changes_of_rows reversed_rows s.rows (all_by IsPairedRows _ rows-changes s.rows paired)
+statement-changes s paired = joined_inverse changes_of_rows reversed_rows s.rows (all-by IsPairedRows _ rows-changes s.rows paired)
 
 -- the changes of a reversed transaction
 pub transaction-changes : (t : Transaction) → IsPairedTransaction t → changes_of_transaction (reversed_transaction t) ≡ inverse_all (changes_of_transaction t)
-transaction-changes t paired = joined_inverse changes_of_statement reversed_statement t.statements (all_by IsPairedStatement _ statement-changes t.statements paired)
+transaction-changes t paired = joined_inverse changes_of_statement reversed_statement t.statements (all-by IsPairedStatement _ statement-changes t.statements paired)
 
 -- the changes of reversed groups are the inverse
 pub reversed-changes : (ts : List Transaction) → AllByRecursion IsPairedTransaction ts → changes_of (reversed ts) ≡ inverse_all (changes_of ts)
-reversed-changes ts paired = joined_inverse changes_of_transaction reversed_transaction ts (all_by IsPairedTransaction _ transaction-changes ts paired)
+reversed-changes ts paired = joined_inverse changes_of_transaction reversed_transaction ts (all-by IsPairedTransaction _ transaction-changes ts paired)

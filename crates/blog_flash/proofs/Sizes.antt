@@ -10,8 +10,8 @@ use Rattle.blog_row.proofs.WrittenBody.{body-len}
 use Rattle.blog_trans.specs.Groups.{RowsEvent, Statement, Transaction}
 use Rattle.blog_flash.specs.Reversal.{reversed_rows, reversed_statement, reversed_transaction, reversed}
 use Rattle.blog_flash.specs.Texts.{rows_event, rows_events, statement_events, transaction_events, group_events, with_log_pos, laid_out}
-use Rattle.blog_flash.proofs.Reversing.{reverse-cons}
-pub use Rattle.blog_trans.proofs.Sums.{sum_of, sum-append, sum-map, sum-joined, sum-filter, sum-kept}
+use Rattle.blog_trans.proofs.ProgressSteps.{reverse-latest}
+use Rattle.blog_trans.proofs.Sums.{sum_of, sum-append, sum-joined}
 
 -- ---- sums
 
@@ -19,7 +19,7 @@ pub use Rattle.blog_trans.proofs.Sums.{sum_of, sum-append, sum-map, sum-joined, 
 pub sum-turned : {A : Type 0} (f : A → ℕ) (g : A → A) → ((x : A) → f (g x) ≡ f x) → (xs : List A) → sum_of f (reverse (map g xs)) ≡ sum_of f xs
 sum-turned f g same [] = refl
 sum-turned f g same (x ∷ xs) =
-    let joined = ap (sum_of f) (reverse-cons (g x) (map g xs)) ∙ sum-append f (reverse (map g xs)) (g x ∷ []) in
+    let joined = ap (sum_of f) (reverse-latest (g x) (map g xs)) ∙ sum-append f (reverse (map g xs)) (g x ∷ []) in
     let others = sum-turned f g same xs in
     let own = same x in
     omega arith
@@ -28,7 +28,7 @@ sum-turned f g same (x ∷ xs) =
 pub sum-reverse : {A : Type 0} (f : A → ℕ) (xs : List A) → sum_of f (reverse xs) ≡ sum_of f xs
 sum-reverse f [] = refl
 sum-reverse f (x ∷ xs) =
-    let joined = ap (sum_of f) (reverse-cons x xs) ∙ sum-append f (reverse xs) (x ∷ []) in
+    let joined = ap (sum_of f) (reverse-latest x xs) ∙ sum-append f (reverse xs) (x ∷ []) in
     let others = sum-reverse f xs in
     omega arith
 

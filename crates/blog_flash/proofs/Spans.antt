@@ -1,5 +1,5 @@
 -- Where the events of groups stand: each transaction is one span, and each statement is one cut of its inside.
-use Rattle.std.proofs.Common.{◌≡◌, ℕ, ◌+◌, List, [], ◌∷◌, ◌++◌, find, Bool, true, false, ◌&&◌, not, Some, is_some, refl, ap, ◌∙◌, inl, inr, append_assoc}
+use Rattle.std.proofs.Common.{◌≡◌, ℕ, ◌+◌, List, [], ◌∷◌, ◌++◌, find, Bool, true, false, ◌&&◌, not, bytes_eq, Option, Some, is_some, refl, ap, ◌∙◌, inl, inr, append_assoc}
 use Rattle.std.specs.List.{AllByRecursion, flat_map}
 use Rattle.blog_event.specs.Event.{Event, event_size}
 use Rattle.blog_event.specs.File.{Placed, end_of}
@@ -8,14 +8,16 @@ use Rattle.blog_row.specs.RowsEvent.{has_end_flag}
 use Rattle.blog_row.proofs.ReversedRows.{all-append}
 use Rattle.blog_trans.specs.declared.kind.EventKind.{EventKind}
 use Rattle.blog_trans.specs.declared.kind.EventKind.TheVariants as kind
-use Rattle.blog_trans.specs.Kinds.{kind_of, is_begin_kind, is_end_kind, rows_of_kind}
-use Rattle.blog_trans.specs.Places.{kind_at, is_begin, is_end, is_last_rows}
+use Rattle.blog_row.specs.RowsEvent.{table_id}
+use Rattle.blog_trans.specs.Kinds.{kind_of, is_begin_kind, is_end_kind, is_map_kind, rows_of_kind}
+use Rattle.blog_trans.specs.Places.{kind_at, is_begin, is_end, is_last_rows, is_map_of, map_in}
 use Rattle.blog_trans.specs.Groups.{Span, spans, onto_first, statements_of, RowsEvent, Statement, Transaction}
+use Rattle.blog_trans.proofs.PlacedParts.{all-by, all-joined}
 use Rattle.blog_flash.specs.Texts.{rows_event, rows_events, statement_events, transaction_events}
-use Rattle.blog_flash.proofs.Formed.{IsMapEvent, IsRowsEvent, IsStatement, IsEndEvent, IsTransaction}
+use Rattle.blog_flash.proofs.Formed.{map_among, is_map_of_id, IsMapEvent, IsRowsEvent, IsStatement, IsEndEvent, IsTransaction}
 use Rattle.blog_flash.proofs.Standing.{stood, stood-append}
-use Rattle.blog_flash.proofs.Content.{all-by, body-ends}
-use Rattle.blog_flash.proofs.Forming.{all-flat_map, kind-placed, rows_event-kind, rows_event-body}
+use Rattle.blog_flash.proofs.Content.{body-ends}
+use Rattle.blog_flash.proofs.Forming.{kind-placed, rows_event-kind, rows_event-body}
 
 -- ---- kinds
 
@@ -26,6 +28,34 @@ stands_at pos e = record { pos = pos; event = record e { log_pos = pos + event_s
 -- what is asked of an event's kind is answered as before it was laid out
 pub by-kind : {A : Type 0} (f : EventKind → A) (pos : ℕ) (e : Event) (k : EventKind) → kind_of e ≡ k → f (kind_at (stands_at pos e)) ≡ f k
 by-kind f pos e k h = ap f (kind-placed e (pos + event_size e) ∙ h)
+
+-- ---- maps where they stand
+
+-- an answer of this value
+abbrev pub HasValue : {A B : Type 0} → Option A → (A → B) → B → Type 0
+HasValue {A = A} o value y = (x : A) × (o ≡ Some x) × (value x ≡ y)
+
+-- each map of these is found among the events
+abbrev pub HasMaps : List Placed → List Event → Type 0
+HasMaps events maps = (id : List ℕ) (m : Event) → map_among maps id ≡ Some m → HasValue (map_in events id) (λ map. map.event.body) m.body
+
+-- they are found where they stand
+pub maps-stand : (pos : ℕ) (maps : List Event) (more : List Placed) → HasMaps (stood pos maps ++ more) maps
+maps-stand pos [] more id m found = cc
+maps-stand pos (x ∷ maps) more id m found = by_case (is_map_of_id id x) refl (maps-stand (pos + event_size x) maps more id m)
+  where
+    others : List Placed
+    others = stood (pos + event_size x) maps ++ more
+
+    same : is_map_of id (stands_at pos x) ≡ is_map_of_id id x
+    same = by-kind (λ k. is_map_kind k && bytes_eq (table_id x.body) id) pos x (kind_of x) refl
+
+    by_case : (b : Bool) → is_map_of_id id x ≡ b → (map_among maps id ≡ Some m → HasValue (map_in others id) (λ map. map.event.body) m.body)
+        → HasValue (map_in (stands_at pos x ∷ others) id) (λ map. map.event.body) m.body
+    by_case true e later = let it = rw e at found in (stands_at pos x, rw (same ∙ e) refl, cc)
+    by_case false e later = rw (same ∙ e) (later (rw e at found))
+
+-- ---- inside of a transaction
 
 -- neither a begin nor an end
 pub record IsInner (e : Event) : Type 0 where
@@ -48,7 +78,7 @@ statement-inner Known s h = all-append IsInner s.maps (rows_events s.rows) (all-
 
 -- the events of statements neither begin nor end a transaction
 pub statements-inner : (Known : Event → Type 0) (ss : List Statement) → AllByRecursion (IsStatement Known) ss → AllByRecursion IsInner (flat_map statement_events ss)
-statements-inner Known ss h = all-flat_map (IsStatement Known) IsInner statement_events (statement-inner Known) ss h
+statements-inner Known ss h = all-joined (IsStatement Known) IsInner statement_events (statement-inner Known) ss h
 
 -- nor do events where they stand
 pub inner-stood : (pos : ℕ) (es : List Event) → AllByRecursion IsInner es → AllByRecursion (λ p. IsInner p.event) (stood pos es)

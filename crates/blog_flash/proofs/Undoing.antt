@@ -3,12 +3,13 @@ use Rattle.std.proofs.Common.{◌≡◌, ℕ, ◌+◌, ◌-◌, Bool, true, fals
 use Rattle.std.proofs.lemmas.Bool.{false≢true, cond-true, cond-false, eqb-false}
 use Rattle.std.proofs.lemmas.Bool.Decides.{Decides-and, Decides-like}
 use Rattle.std.proofs.lemmas.List.{reverse-append}
-use Rattle.std.proofs.lemmas.Option.{none-some, same_Some, option_and_then_some}
+use Rattle.std.proofs.lemmas.Option.{none-some, same_Some}
 use Rattle.std.proofs.lemmas.Slice.Eq.{bytes_eq-Decides, slice_eq-Decides}
 use Rattle.blog_row.specs.Image.{Row}
 use Rattle.blog_row.specs.TableMap.{Table}
-use Rattle.blog_trans.specs.Acceptance.{is_same_table}
+use Rattle.blog_row.proofs.Cutting.{and_then_found}
 use Rattle.blog_trans.specs.Changes.{Change, Inserted, Deleted, Updated}
+use Rattle.blog_trans.proofs.Tables.{is_same_table-Decides}
 use Rattle.blog_flash.specs.States.{State, is_same_value, is_row, with_copies, insert_row, delete_row, apply, apply_all, inverse, inverse_all}
 use mathlib.Core.Path.{fun_ext}
 
@@ -19,11 +20,6 @@ is_same_value-Decides None None = (λ _. refl, λ _. refl)
 is_same_value-Decides None (Some y) = (λ e. absurd (false≢true e), λ e. absurd (none-some y e))
 is_same_value-Decides (Some x) None = (λ e. absurd (false≢true e), λ e. absurd (none-some x (sym e)))
 is_same_value-Decides (Some x) (Some y) = Decides-like (bytes_eq x y) (ap Some) (same_Some x y) (bytes_eq-Decides x y)
-
-is_same_table-Decides : (t u : Table) → Decides (is_same_table t u) (t ≡ u)
-is_same_table-Decides t u =
-    Decides-like (is_same_table t u) (λ p. λ i. record { schema = p.0 i; name = p.1 i }) (λ e. (ap (λ (x : Table). x.schema) e, ap (λ (x : Table). x.name) e))
-    (Decides-and _ _ (bytes_eq-Decides t.schema u.schema) (bytes_eq-Decides t.name u.name))
 
 is_row-Decides : (t : Table) (r : Row) (u : Table) (s : Row) → Decides (is_row t r u s) ((t ≡ u) × (r ≡ s))
 is_row-Decides t r u s = Decides-and _ _ (is_same_table-Decides t u) (slice_eq-Decides is_same_value-Decides r s _ refl)
@@ -87,16 +83,12 @@ insert-delete t r state left = by_case (state t r == 0) refl
 
 -- ---- changes
 
--- the parts of a step that did not fail
-pub chained : {A B : Type 0} (f : A → Option B) (o : Option A) (y : B) → option_and_then f o ≡ Some y → (x : A) × (o ≡ Some x) × (f x ≡ Some y)
-chained f o y e = option_and_then_some f o y e (λ x p q. (x, p, q))
-
 -- a change is undone by its inverse
 pub undo_one : (c : Change) (before after : State) → apply c before ≡ Some after → apply (inverse c) after ≡ Some before
 undo_one (Inserted t r) before after e = ap (delete_row t r) (sym (same_Some _ _ e)) ∙ delete-insert t r before
 undo_one (Deleted t r) before after e = ap Some (insert-delete t r before after e)
 undo_one (Updated t old new) before after e =
-    let (left, taken, put) = chained (λ (left : State). Some (insert_row t new left)) (delete_row t old before) after e in
+    let (left, taken, put) = and_then_found (λ (left : State). Some (insert_row t new left)) (delete_row t old before) after e in
     ap (option_and_then (λ (x : State). Some (insert_row t old x))) (ap (delete_row t new) (sym (same_Some _ _ put)) ∙ delete-insert t new left)
     ∙ ap Some (insert-delete t old before left taken)
 
@@ -117,7 +109,7 @@ inverse_all-cons c cs = reverse-append (inverse c ∷ []) (map inverse cs)
 pub undo_all : (cs : List Change) (before after : State) → apply_all cs before ≡ Some after → apply_all (inverse_all cs) after ≡ Some before
 undo_all [] before after e = sym e
 undo_all (c ∷ cs) before after e =
-    let (between, first, others) = chained (apply_all cs) (apply c before) after e in
+    let (between, first, others) = and_then_found (apply_all cs) (apply c before) after e in
     ap (λ (ds : List Change). apply_all ds after) (inverse_all-cons c cs)
     ∙ apply_all-append (inverse_all cs) (inverse c ∷ []) after
     ∙ ap (option_and_then (apply_all (inverse c ∷ []))) (undo_all cs between after others)
@@ -127,5 +119,5 @@ undo_all (c ∷ cs) before after e =
 pub undo_last : (cs ds : List Change) (before after : State) → apply_all (cs ++ ds) before ≡ Some after
     → (between : State) × (apply_all cs before ≡ Some between) × (apply_all (inverse_all ds) after ≡ Some between)
 undo_last cs ds before after e =
-    let (between, first, last) = chained (apply_all ds) (apply_all cs before) after (sym (apply_all-append cs ds before) ∙ e) in
+    let (between, first, last) = and_then_found (apply_all ds) (apply_all cs before) after (sym (apply_all-append cs ds before) ∙ e) in
     (between, first, undo_all ds between after last)

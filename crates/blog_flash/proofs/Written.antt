@@ -20,7 +20,8 @@ use Rattle.blog_flash.specs.Texts.{group_events, with_log_pos, laid_out}
 use Rattle.blog_flash.proofs.Formed.{Fits, Agree, AreGroups}
 use Rattle.blog_flash.proofs.Standing.{stood}
 use Rattle.blog_flash.proofs.Forming.{events-fit}
-use Rattle.blog_flash.proofs.Passing.{Pass, pushed-is, groups-pass}
+use Rattle.blog_trans.specs.Passing.{Passes}
+use Rattle.blog_flash.proofs.Passing.{pushed-is, groups-pass}
 use Rattle.blog_flash.proofs.Regrouping.{groups-again}
 use Rattle.blog_flash.proofs.Sizes.{end-total, total-placed}
 
@@ -109,7 +110,7 @@ passes-read : (p : Placed) (earlier before : List Placed) → range all before �
 passes-read p earlier before is behind passes = rw (in-range p behind, le-ltb p.pos 4 (omega arith), is, passes) refl
 
 -- so have events that pass
-pub pass-read : (pos : ℕ) (es : List Event) (earlier before : List Placed) → range all before ≡ earlier → 4 < pos → Pass all earlier (placed_from pos es)
+pub pass-read : (pos : ℕ) (es : List Event) (earlier before : List Placed) → range all before ≡ earlier → 4 < pos → Passes all earlier (placed_from pos es)
     → first_read_fault all before (placed_from pos es) ≡ None
 pass-read pos [] earlier before is behind pass = refl
 pass-read pos (e ∷ es) earlier before is behind pass =

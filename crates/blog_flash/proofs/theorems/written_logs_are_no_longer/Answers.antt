@@ -8,7 +8,7 @@ use Rattle.blog_flash.proofs.theorems.written_logs_are_no_longer.Goals as goal
 pub returns : goal.returns
 returns c bytes sel are accepted =
     let source = is-source bytes sel are accepted in
-    let short = no-longer bytes sel source.format source.rest are accepted source.read_is in
+    let short = no-longer bytes sel source.format source.rest accepted source.read_is in
     let fits : List ℕ → Type 0 = λ text. length text ≤ length bytes in
     record {
       flashback = subst fits (sym (flashback-is (Chosen bytes sel) bytes sel source)) short.1;
