@@ -18,6 +18,7 @@ use Rattle.blog_trans.specs.Places.{kind_at, is_map, place, is_inside, since}
 use Rattle.blog_trans.specs.Acceptance.{is_selected, is_same_table, clashes_by_id, clashes_by_layout, selected_map_checks, checks, event_fault, range, IsAccepted}
 use Rattle.blog_trans.specs.Groups.{event_value}
 use Rattle.blog_trans.specs.Passing.{Passes}
+use Rattle.blog_trans.proofs.JudgingLayouts.{same-itself}
 use Rattle.blog_trans.proofs.ProgressAccepted.{none-failing, needed, accepted-passes}
 use Rattle.blog_trans.proofs.Tables.{same-table, own-table}
 use Rattle.blog_flash.proofs.Formed.{Agree}
@@ -98,11 +99,6 @@ layout-turned c d e =
     let parts = and_parts (bytes_eq (types_of c) (types_of d)) (bytes_eq (metadata_of c) (metadata_of d)) e in
     and_from (bytes_eq (types_of d) (types_of c)) (bytes_eq (metadata_of d) (metadata_of c)) (bytes-turned (types_of c) (types_of d) parts.0) (bytes-turned (metadata_of c) (metadata_of d) parts.1)
 
--- a layout has its own columns
-layout-own : (c : Layout) → is_same_layout c c ≡ true
-layout-own c =
-    and_from (bytes_eq (types_of c) (types_of c)) (bytes_eq (metadata_of c) (metadata_of c)) ((bytes_eq-Decides (types_of c) (types_of c)).1 refl) ((bytes_eq-Decides (metadata_of c) (metadata_of c)).1 refl)
-
 -- maps of a table that don't clash have the same layout
 no-clash : (p other : Placed) (n o : Names) (c d : Layout) → is_map other ≡ true → names_of other.event.body ≡ Some n → names_of p.event.body ≡ Some o → is_same_table n.table o.table ≡ true
     → layout_of other.event.body ≡ Ok c → layout_of p.event.body ≡ Ok d → clashes_by_layout p other ≡ false → is_same_layout c d ≡ true
@@ -117,7 +113,7 @@ placed-agree : (sel : Selection) (p q : Placed) → (p ≡ q) ⊎ (IsChecked sel
 placed-agree sel p q (inl same) p_map p_chosen q_map q_chosen n o p_names q_names table c d p_layout q_layout =
     let body : p.event.body ≡ q.event.body = ap (λ (x : Placed). x.event.body) same in
     let layout : c ≡ d = cc in
-    subst (λ (l : Layout). is_same_layout c l ≡ true) layout (layout-own c)
+    subst (λ (l : Layout). is_same_layout c l ≡ true) layout (same-itself c)
 placed-agree sel p q (inr (inl later)) p_map p_chosen q_map q_chosen n o p_names q_names table c d p_layout q_layout =
     layout-turned d c (no-clash p q o n d c q_map q_names p_names (table-turned n.table o.table table) q_layout p_layout (later p_map p_chosen))
 placed-agree sel p q (inr (inr later)) p_map p_chosen q_map q_chosen n o p_names q_names table c d p_layout q_layout =

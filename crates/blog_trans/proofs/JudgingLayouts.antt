@@ -94,7 +94,8 @@ get-same layouts name q h =
     ap (λ (s : List ℕ). lookup (λ (k : TableName). bytes_eq s k.schema.now && bytes_eq q.table.now k.table.now) layouts.entries) (sym schema)
     ∙ ap (λ (s : List ℕ). lookup (λ (k : TableName). bytes_eq name.schema.now k.schema.now && bytes_eq s k.table.now) layouts.entries) (sym table)
 
-same-itself : (a : Layout) → is_same_layout a a ≡ true
+-- a layout has its own columns
+pub same-itself : (a : Layout) → is_same_layout a a ≡ true
 same-itself a = rw ((bytes_eq-Decides (types_of a) (types_of a)).1 refl, (bytes_eq-Decides (metadata_of a) (metadata_of a)).1 refl) refl
 
 -- a map is inserted whose table's layout is known
