@@ -10,7 +10,7 @@ use Rattle.blog_trans.specs.declared.maps.MapSeen.{MapSeen}
 use Rattle.blog_trans.specs.Groups.{PlacedRows, PlacedStatement, PlacedTransaction}
 use Rattle.blog_trans.specs.Progress.{Open, Progress}
 use Rattle.blog_trans.specs.Entries.{entry_at, event_entry, rows_entry, statement_entries, entries_of, map_entries, statement_start, starts_in, statement_starts, Shows}
-use Rattle.blog_trans.specs.KeeperView.{AreMarks, closed_by, statement_behind}
+use Rattle.blog_trans.specs.ListsView.{AreMarks, closed_by, statement_behind}
 use Rattle.blog_trans.proofs.EntriesMarked.{Opened, shows_at, open_len}
 use Rattle.blog_trans.proofs.Columns.{flat_push, starts_push}
 

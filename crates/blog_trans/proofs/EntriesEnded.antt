@@ -9,7 +9,7 @@ use Rattle.blog_trans.specs.declared.entry.TransactionStart.{TransactionStart}
 use Rattle.blog_trans.specs.Groups.{PlacedRows, PlacedStatement, PlacedTransaction, transaction_if}
 use Rattle.blog_trans.specs.Progress.{Open, Progress, appended_if, ended}
 use Rattle.blog_trans.specs.Entries.{event_entry, statement_entries, entries_of, transaction_start, starts_in, statement_starts, statements_in, Shows}
-use Rattle.blog_trans.specs.KeeperView.{AreMarks}
+use Rattle.blog_trans.specs.ListsView.{AreMarks}
 use Rattle.blog_trans.proofs.EntriesMarked.{shows_at, open_statements}
 use Rattle.blog_trans.proofs.Columns.{entries_push, transaction_starts_push, statement_starts_push}
 

@@ -9,7 +9,7 @@ use Rattle.blog_trans.specs.declared.entry.TransactionStart.{TransactionStart}
 use Rattle.blog_trans.specs.Groups.{PlacedTransaction}
 use Rattle.blog_trans.specs.Progress.{Open, Progress}
 use Rattle.blog_trans.specs.Entries.{event_entry, rows_entry, statement_entries, entries_of, statement_starts, starts_in, statements_in, Shows}
-use Rattle.blog_trans.specs.KeeperView.{AreMarks}
+use Rattle.blog_trans.specs.ListsView.{AreMarks}
 use Rattle.blog_trans.proofs.Columns.{starts_len, statements_len}
 
 -- the same, with the open transaction named

@@ -1,4 +1,4 @@
--- A log that was walked through: its fault, and what the walker kept of it.
+-- A log that was walked through: its fault, and what the builder kept of it.
 use Rattle.std.proofs.Common.{◌≡◌, ℕ, ◌^◌, not, ◌&&◌, nat_lt, List, [], ◌∷◌, length, reverse, take, Option, Some, None, refl, sym, ap, ◌∙◌, inl, inr}
 use Rattle.std.proofs.lemmas.Bool.{lt-ltb}
 use Rattle.std.proofs.lemmas.Option.{same_Some}

@@ -16,18 +16,18 @@ pub mod EntriesMarked
 pub mod EntriesClosed
 pub mod EntriesEnded
 pub mod TableNumbers
-pub mod JudgingStatement
-pub mod JudgingMaps
-pub mod JudgingLayouts
-pub mod JudgingRows
-pub mod Judging
-mod WalkerCode
+pub mod CheckingStatement
+pub mod CheckingMaps
+pub mod CheckingLayouts
+pub mod CheckingRows
+pub mod Checking
+mod BuilderCode
 pub mod PlacedFacts
 pub mod ProgressAccepted
 pub mod Sums
 pub mod Apart
 pub mod Shown
-mod WalkerSteps
+mod BuilderSteps
 mod WalkCode
 pub mod EntriesFound
 pub mod IndexTables

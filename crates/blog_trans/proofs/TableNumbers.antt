@@ -16,7 +16,7 @@ use Rattle.blog_trans.specs.declared.maps.MapSeen.{MapSeen}
 use Rattle.blog_trans.specs.declared.table_name.TableName.{TableName}
 use Rattle.blog_trans.specs.Acceptance.{is_same_table}
 use Rattle.blog_trans.specs.Changes.{table_of}
-use Rattle.blog_trans.specs.JudgeView.{is_same_name}
+use Rattle.blog_trans.specs.CheckerView.{is_same_name}
 use Rattle.blog_trans.specs.TableNameView.{table_named}
 use Rattle.blog_trans.specs.TablesView.{tables_known, HaveGrown, IsNumbered}
 use Rattle.blog_trans.proofs.Growing.{front-place}

@@ -13,21 +13,21 @@ use Rattle.blog_event.specs.Going.{EndsAt, AreRead}
 use Rattle.blog_event.proofs.Headers.{event-at-short}
 use Rattle.blog_event.proofs.Going.{left-more, left-none}
 use Rattle.blog_event.proofs.Opened.{LogReads}
-use Rattle.blog_trans.specs.declared.walker.Walker.{Walker}
+use Rattle.blog_trans.specs.declared.builder.IndexBuilder.{IndexBuilder}
 use Rattle.blog_trans.specs.Selection.{Selection}
 use Rattle.blog_trans.specs.Acceptance.{is_in_range, range, is_start_inside, read_fault, first_read_fault}
 use Rattle.blog_trans.specs.Refusals.{IsRefusal}
-use Rattle.blog_trans.specs.WalkerView.{Walks, IsWithin}
+use Rattle.blog_trans.specs.BuilderView.{HasTaken, IsWithin}
 use Rattle.blog_trans.specs.WalkView.{walk_fault}
 use Rattle.blog_trans.proofs.CountsCode.{few-upto}
 use Rattle.blog_trans.proofs.ProgressSteps.{reverse-latest, reverse-behind}
 
 -- the events that were read, the latest first, and those that are left
-pub record Left {A : Type 0} (bytes : List ℕ) (sel : Selection) (at : ℕ) (walker : Walker A) : Type 0 where
+pub record Left {A : Type 0} (bytes : List ℕ) (sel : Selection) (at : ℕ) (builder : IndexBuilder A) : Type 0 where
   pub earlier : List Placed
   pub left : List Event
   pub are : AreRead bytes sel.stop at left
-  pub walks : Walks sel (range sel earlier) walker
+  pub walks : HasTaken sel (range sel earlier) builder
   pub same : first_read_fault sel [] (placed_from 4 (read bytes sel.stop)) ≡ first_read_fault sel earlier (placed_from at left)
   pub whole : reverse earlier ++ placed_from at left ≡ placed_from 4 (read bytes sel.stop)
   pub ends : end_of at left ≡ end_of 4 (read bytes sel.stop)
@@ -48,9 +48,9 @@ fault-first check others f is = ap (λ c. first_failing (c ∷ others)) is
 format-fault : (sel : Selection) (e : Event) → is_start_inside sel (record { pos = 4; event = e }) ≡ false → read_fault sel [] (record { pos = 4; event = e }) ≡ None
 format-fault sel e out = ap (λ b. first_failing (fault_at sel.start (needs (not b) NoEventAt) ∷ None ∷ [])) out
 
-pub left-start : {A : Type 0} (walker : Walker A) (bytes : List ℕ) (sel : Selection) (at : ℕ) (first : Event) → LogReads bytes sel.stop at → event_at (drop 4 bytes) ≡ Some first
-    → is_start_inside sel (record { pos = 4; event = first }) ≡ false → Walks sel [] walker → Left bytes sel at walker
-left-start walker bytes sel at first reads stands out walks =
+pub left-start : {A : Type 0} (builder : IndexBuilder A) (bytes : List ℕ) (sel : Selection) (at : ℕ) (first : Event) → LogReads bytes sel.stop at → event_at (drop 4 bytes) ≡ Some first
+    → is_start_inside sel (record { pos = 4; event = first }) ≡ false → HasTaken sel [] builder → Left bytes sel at builder
+left-start builder bytes sel at first reads stands out walks =
     let here : reads.first ≡ first = same_Some reads.first first (sym reads.stands ∙ stands) in
     let read_is : read bytes sel.stop ≡ first ∷ reads.later = reads.read_is ∙ ap (λ (e : Event). e ∷ reads.later) here in
     let starts : 4 + event_size first ≡ at = ap (λ (e : Event). 4 + event_size e) (sym here) ∙ reads.starts in
@@ -79,7 +79,7 @@ inside-format bytes sel at first reads stands inside =
 
 -- ---- one more event
 
-module _ {A : Type 0} (bytes : List ℕ) (sel : Selection) (at : ℕ) (before : Walker A) (l : Left bytes sel at before) (e : Event)
+module _ {A : Type 0} (bytes : List ℕ) (sel : Selection) (at : ℕ) (before : IndexBuilder A) (l : Left bytes sel at before) (e : Event)
     (below : is_below at sel.stop ≡ true) (stands : event_at (drop at bytes) ≡ Some e) where
   abbrev pub latest : Placed
   latest = record { pos = at; event = e }
@@ -89,7 +89,7 @@ module _ {A : Type 0} (bytes : List ℕ) (sel : Selection) (at : ℕ) (before : 
   fault-here = l.same ∙ ap (λ (es : List Event). first_read_fault sel l.earlier (placed_from at es)) (left-more bytes sel.stop at l.left e l.are below stands).1
 
   -- it passed
-  pub left-on : (after : Walker A) (n : ℕ) → at + event_size e ≡ n → read_fault sel l.earlier latest ≡ None → Walks sel (range sel (latest ∷ l.earlier)) after → Left bytes sel n after
+  pub left-on : (after : IndexBuilder A) (n : ℕ) → at + event_size e ≡ n → read_fault sel l.earlier latest ≡ None → HasTaken sel (range sel (latest ∷ l.earlier)) after → Left bytes sel n after
   left-on after n next passed walks =
       let more = left-more bytes sel.stop at l.left e l.are below stands in
       record {
@@ -110,7 +110,7 @@ module _ {A : Type 0} (bytes : List ℕ) (sel : Selection) (at : ℕ) (before : 
 
 -- ---- the end
 
-module _ {A : Type 0} (bytes : List ℕ) (sel : Selection) (at : ℕ) (walker : Walker A) (l : Left bytes sel at walker) (ends : EndsAt bytes sel.stop at) where
+module _ {A : Type 0} (bytes : List ℕ) (sel : Selection) (at : ℕ) (builder : IndexBuilder A) (l : Left bytes sel at builder) (ends : EndsAt bytes sel.stop at) where
   none : l.left ≡ []
   none = left-none bytes sel.stop at l.left l.are ends
 
@@ -132,10 +132,10 @@ module _ {A : Type 0} (bytes : List ℕ) (sel : Selection) (at : ℕ) (walker : 
 
   -- all is read
   pub left-over : is_below at sel.stop && not (at == length bytes) ≡ false
-      → (walk_fault bytes sel ≡ None) × (at ≡ end_of 4 (read bytes sel.stop)) × Walks sel (reverse (range sel (placed_from 4 (read bytes sel.stop)))) walker
+      → (walk_fault bytes sel ≡ None) × (at ≡ end_of 4 (read bytes sel.stop)) × HasTaken sel (reverse (range sel (placed_from 4 (read bytes sel.stop)))) builder
   left-over is =
       let read_all : reverse l.earlier ≡ placed_from 4 (read bytes sel.stop) = sym (append-nil (reverse l.earlier)) ∙ ap (λ (es : List Event). reverse l.earlier ++ placed_from at es) (sym none) ∙ l.whole in
-      (fault-is false is, end-is, subst (λ (ps : List Placed). Walks sel ps walker) (range-reverse l.earlier ∙ ap (λ (ps : List Placed). reverse (range sel ps)) read_all) l.walks)
+      (fault-is false is, end-is, subst (λ (ps : List Placed). HasTaken sel ps builder) (range-reverse l.earlier ∙ ap (λ (ps : List Placed). reverse (range sel ps)) read_all) l.walks)
     where
       range-reverse : (ps : List Placed) → range sel ps ≡ reverse (range sel (reverse ps))
       range-reverse ps = sym (reverse-reverse (range sel ps)) ∙ ap reverse (sym (filter-reverse ps))
@@ -150,8 +150,8 @@ module _ {A : Type 0} (bytes : List ℕ) (sel : Selection) (at : ℕ) (walker : 
 
 -- ---- small facts
 
-pub within-more : {A : Type 0} (walker : Walker A) (n m : ℕ) → n ≤ m → IsWithin n walker → IsWithin m walker
-within-more walker n m le few = record { entries = omega (arith, le, few.entries); tables = omega (arith, le, few.tables); numbers = few-upto n m walker.counts.rows.items le few.numbers }
+pub within-more : {A : Type 0} (builder : IndexBuilder A) (n m : ℕ) → n ≤ m → IsWithin n builder → IsWithin m builder
+within-more builder n m le few = record { entries = omega (arith, le, few.entries); tables = omega (arith, le, few.tables); numbers = few-upto n m builder.counts.rows.items le few.numbers }
 
 pub both : {a b : Bool} → a ≡ true → b ≡ true → a && b ≡ true
 both p q = λ i. p i && q i

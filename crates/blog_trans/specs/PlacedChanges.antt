@@ -3,7 +3,7 @@ use Rattle.std.specs.Prelude.{List, None}
 use Rattle.blog_row.specs.TableMap.{Table}
 use Rattle.blog_trans.specs.Groups.{PlacedTransaction}
 use Rattle.blog_trans.specs.Changes.{Change}
-use Rattle.blog_trans.specs.WalkerView.{progress_changes, progress_tables}
+use Rattle.blog_trans.specs.BuilderView.{progress_changes, progress_tables}
 
 -- the changes of their rows events
 abbrev pub placed_changes : List PlacedTransaction → List Change

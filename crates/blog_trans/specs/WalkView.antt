@@ -4,17 +4,17 @@ use Rattle.blog_event.specs.declared.fault.Fault.{Fault}
 use Rattle.blog_event.specs.declared.fault.Fault.TheVariants.{CutEvent, NoEventAt, Unended}
 use Rattle.blog_event.specs.Fault.{needs, first_failing, fault_at}
 use Rattle.blog_event.specs.File.{Placed, placed_from, end_of, is_below, read}
-use Rattle.blog_trans.specs.declared.walker.Walker.{Walker}
+use Rattle.blog_trans.specs.declared.builder.IndexBuilder.{IndexBuilder}
 use Rattle.blog_trans.specs.declared.place.Place.{Place}
 use Rattle.blog_trans.specs.Selection.{Selection}
 use Rattle.blog_trans.specs.Places.{is_outside}
 use Rattle.blog_trans.specs.Acceptance.{range, first_read_fault, is_cut}
 use Rattle.blog_trans.specs.Refusals.{IsRefusal}
-use Rattle.blog_trans.specs.WalkerView.{Walks}
+use Rattle.blog_trans.specs.BuilderView.{HasTaken}
 
 -- an event is read: it passed and is walked, or the log is refused at it. `read` has it and the events before it.
-abbrev pub IsRead : {A : Type 0} → Option Fault → Selection → List Placed → Result Unit Fault → Walker A → Type 0
-IsRead wanted sel read result walker = MatchResult result (λ done. (wanted ≡ None) × Walks sel (range sel read) walker) (IsRefusal wanted)
+abbrev pub IsRead : {A : Type 0} → Option Fault → Selection → List Placed → Result Unit Fault → IndexBuilder A → Type 0
+IsRead wanted sel read result builder = MatchResult result (λ done. (wanted ≡ None) × HasTaken sel (range sel read) builder) (IsRefusal wanted)
 
 -- the fault of the events that are read, or of a rest behind them
 abbrev pub walk_fault : List ℕ → Selection → Option Fault
@@ -23,10 +23,10 @@ walk_fault bytes sel =
     first_failing (first_read_fault sel [] (placed_from 4 events) ∷ fault_at (end_of 4 events) (needs (not (is_cut bytes sel events)) CutEvent) ∷ [])
 
 -- all events are read, which ends at this position, or the log is refused at the first that fails
-abbrev pub IsThrough : {A : Type 0} → List ℕ → Selection → Result ℕ Fault → Walker A → Type 0
-IsThrough bytes sel result walker =
+abbrev pub IsThrough : {A : Type 0} → List ℕ → Selection → Result ℕ Fault → IndexBuilder A → Type 0
+IsThrough bytes sel result builder =
     let events = read bytes sel.stop in
-    MatchResult result (λ at. (walk_fault bytes sel ≡ None) × (at ≡ end_of 4 events) × Walks sel (reverse (range sel (placed_from 4 events))) walker) (IsRefusal (walk_fault bytes sel))
+    MatchResult result (λ at. (walk_fault bytes sel ≡ None) × (at ≡ end_of 4 events) × HasTaken sel (reverse (range sel (placed_from 4 events))) builder) (IsRefusal (walk_fault bytes sel))
 
 -- the fault of a range that ends at a position and in a place, of a log of so many bytes
 abbrev pub end_fault : ℕ → Selection → Place → ℕ → Option Fault

@@ -14,9 +14,9 @@ ghost use Rattle.blog_trans.specs.Entries.{entries_of, statement_starts, stateme
 
 use crate::counts::Counts;
 use crate::entry::{Entry, StatementStart, TransactionStart};
-use crate::keeper::Keeper;
 use crate::kind::{EventKind, event_kind};
 use crate::layouts::Layouts;
+use crate::lists::IndexLists;
 use crate::selection::Selection;
 use blog_event::{Event, Log};
 use blog_row::{Layout, RowsEvent, TableMap};
@@ -75,12 +75,12 @@ impl<'a, 's, A: Allocator> Index<'a, 's, A> {
     pub(crate) fn new(
         log: Log<'a>,
         sel: Selection<'s>,
-        keeper: Keeper<A>,
+        lists: IndexLists<A>,
         layouts: Layouts<'a, A>,
         counts: Counts<A>,
     ) -> Self
         requires accepted { fault (log_bytes log) (selection_of sel) ≡ None }
-        requires kept { ShowsGroups keeper.entries.items keeper.transactions.items keeper.statements.items (placed_groups (log_bytes log) (selection_of sel)) }
+        requires kept { ShowsGroups lists.entries.items lists.transactions.items lists.statements.items (placed_groups (log_bytes log) (selection_of sel)) }
         requires counted { AreCounts (tables_known layouts) (placed_changes (placed_groups (log_bytes log) (selection_of sel)))
             (placed_tables (placed_groups (log_bytes log) (selection_of sel))) counts }
         ensures bytes { index_bytes result ≡ log_bytes log.entry }
@@ -89,9 +89,9 @@ impl<'a, 's, A: Allocator> Index<'a, 's, A> {
         Index {
             log,
             sel,
-            entries: keeper.entries,
-            transactions: keeper.transactions,
-            statements: keeper.statements,
+            entries: lists.entries,
+            transactions: lists.transactions,
+            statements: lists.statements,
             layouts,
             counts,
         }

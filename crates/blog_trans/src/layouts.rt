@@ -7,7 +7,7 @@ ghost use Rattle.blog_event.specs.File.{Placed};
 ghost use Rattle.blog_row.specs.TableMap.{names_of};
 ghost use Rattle.blog_row.specs.TableMapView.{map_names};
 ghost use Rattle.blog_trans.specs.Acceptance.{cause_of_row, is_selected};
-ghost use Rattle.blog_trans.specs.JudgeView.{LayoutsAgree, AreSelectedColumns, AreColumns};
+ghost use Rattle.blog_trans.specs.CheckerView.{LayoutsAgree, AreSelectedColumns, AreColumns};
 ghost use Rattle.blog_trans.specs.Kinds.{kind_of};
 ghost use Rattle.blog_trans.specs.declared.kind.EventKind.TheVariants as kind;
 ghost use Rattle.blog_trans.specs.Selection.{Selection as Sel, selection_of, is_wanted};

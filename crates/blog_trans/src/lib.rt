@@ -1,22 +1,22 @@
 //! The index of a log: its transactions under a selection, or its first fault.
 #![tactic(auto)]
 
+mod builder;
+mod checker;
 mod counts;
 mod entry;
 mod group_events;
 mod groups;
-mod judge;
-mod keeper;
 mod kind;
 mod laws;
 mod layouts;
+mod lists;
 mod maps;
 mod place;
 mod selection;
 mod table_ids;
 mod table_name;
 mod taken;
-mod walker;
 mod walking;
 
 pub use entry::Entry;

@@ -7,15 +7,15 @@ ghost use Rattle.blog_event.specs.LogView.{log_bytes};
 ghost use Rattle.blog_trans.specs.Selection.{selection_of};
 ghost use Rattle.blog_trans.specs.Acceptance.{IsAccepted, fault, is_start_inside, range, read_fault};
 ghost use Rattle.blog_trans.specs.Refusals.{IsRefusal};
-ghost use Rattle.blog_trans.specs.WalkerView.{Walks, IsWithin, placed};
+ghost use Rattle.blog_trans.specs.BuilderView.{HasTaken, IsWithin, placed};
 ghost use Rattle.blog_trans.specs.WalkView.{IsRead, IsThrough, end_fault};
 ghost use Rattle.blog_trans.specs.IndexView.{index_bytes, index_selection};
 ghost use Rattle.blog_trans.specs.Shown.{ShowsEachOnce};
 
+use crate::builder::IndexBuilder;
 use crate::groups::Index;
 use crate::place::Place;
 use crate::selection::Selection;
-use crate::walker::Walker;
 use blog_event::{Event, Fault, Log};
 use std::alloc::Allocator;
 
@@ -41,37 +41,37 @@ pub(crate) fn is_start_inside(sel: &Selection<'_>, event: &Event<'_>) -> bool
 
 /// One more event that is read: before the range nothing is asked of it but that the start isn't inside it.
 fn read<'a, A: Allocator + Copy>(
-    walker: &mut Walker<'a, A>,
+    builder: &mut IndexBuilder<'a, A>,
     sel: &Selection<'_>,
     event: &Event<'a>,
 ) -> Result<(), Fault>
     requires behind { 4 < event.now.pos }
     requires size { event.now.header.size ≡ event_size (event_of event.now) }
     requires ends { event.now.pos + event_size (event_of event.now) < 2 ^ 32 }
-    requires within { IsWithin event.now.pos walker.old }
-    ensures walks { (earlier : List Placed) → Walks (selection_of sel.now) (range (selection_of sel.now) earlier) walker.old
-        → IsRead (read_fault (selection_of sel.now) earlier (placed event.now)) (selection_of sel.now) (placed event.now ∷ earlier) result walker.new }
-    ensures within { OnOk result (IsWithin (event.now.pos + event_size (event_of event.now)) walker.new) }
+    requires within { IsWithin event.now.pos builder.old }
+    ensures walks { (earlier : List Placed) → HasTaken (selection_of sel.now) (range (selection_of sel.now) earlier) builder.old
+        → IsRead (read_fault (selection_of sel.now) earlier (placed event.now)) (selection_of sel.now) (placed event.now ∷ earlier) result builder.new }
+    ensures within { OnOk result (IsWithin (event.now.pos + event_size (event_of event.now)) builder.new) }
 {
     if is_start_inside(sel, event) {
         return Err(Fault::NoEventAt { pos: sel.start });
     }
     if event.pos >= sel.start {
-        walker.step(sel, event)?;
+        builder.step(sel, event)?;
     }
     Ok(())
 }
 
-/// Walks through the events of a log behind its format description, as far as they are read. Answers where the last one
+/// HasTaken through the events of a log behind its format description, as far as they are read. Answers where the last one
 /// ends.
 pub(crate) fn walk<'a, A: Allocator + Copy>(
-    walker: &mut Walker<'a, A>,
+    builder: &mut IndexBuilder<'a, A>,
     log: &Log<'a>,
     sel: &Selection<'_>,
 ) -> Result<u32, Fault>
-    requires begins { IsWithin 0 walker.old }
-    requires walks { Walks (selection_of sel.now) [] walker.old }
-    ensures through { IsThrough (log_bytes log.now) (selection_of sel.now) result walker.new }
+    requires begins { IsWithin 0 builder.old }
+    requires walks { HasTaken (selection_of sel.now) [] builder.old }
+    ensures through { IsThrough (log_bytes log.now) (selection_of sel.now) result builder.new }
 {
     if is_start_inside(sel, &log.format()) {
         return Err(Fault::NoEventAt { pos: sel.start });
@@ -81,7 +81,7 @@ pub(crate) fn walk<'a, A: Allocator + Copy>(
         let Ok(event) = log.event_at(at) else {
             return Err(Fault::CutEvent { pos: at });
         };
-        match read(walker, sel, &event) {
+        match read(builder, sel, &event) {
             Ok(()) => at += event.header.size,
             Err(fault) => return Err(fault),
         }
@@ -118,18 +118,18 @@ pub fn index<'a, 's, A: Allocator + Copy>(
     ensures shown { OnOk result (ShowsEachOnce (log_bytes log.now) (selection_of sel.now)) }
     ensures refused { IfErr result (IsRefusal (fault (log_bytes log.now) (selection_of sel.now))) }
 {
-    let mut walker = Walker::new(alloc);
-    let at = match walk(&mut walker, log, sel) {
+    let mut builder = IndexBuilder::new(alloc);
+    let at = match walk(&mut builder, log, sel) {
         Ok(at) => at,
         Err(fault) => return Err(fault),
     };
-    if let Some(fault) = end_fault(log.end(), sel, walker.judge.place(), at) {
+    if let Some(fault) = end_fault(log.end(), sel, builder.checker.place(), at) {
         return Err(fault);
     }
-    let Walker {
-        judge,
-        keeper,
+    let IndexBuilder {
+        checker,
+        lists,
         counts,
-    } = walker;
-    Ok(Index::new(*log, *sel, keeper, judge.into_layouts(), counts))
+    } = builder;
+    Ok(Index::new(*log, *sel, lists, checker.into_layouts(), counts))
 }

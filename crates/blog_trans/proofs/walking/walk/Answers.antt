@@ -6,7 +6,7 @@ use Rattle.blog_event.proofs.Opened.{log-reads}
 use Rattle.blog_trans.specs.Selection.{selection_of}
 use Rattle.blog_trans.specs.Acceptance.{is_start_inside, range, read_fault}
 use Rattle.blog_trans.specs.Refusals.{IsRefusal}
-use Rattle.blog_trans.specs.WalkerView.{Walks, placed}
+use Rattle.blog_trans.specs.BuilderView.{HasTaken, placed}
 use Rattle.blog_trans.proofs.WalkCode.{within-more, below-the-end, at-the-end, none-at-end, left-start, inside-format, left-on, left-refused, left-cut, left-over}
 use Rattle.blog_trans.proofs.walking.walk.Goals as goal
 
@@ -17,10 +17,10 @@ events-init g c =
     ap (λ (n : ℕ). is_start_inside sel (record { pos = n; event = event_of c.format.result })) (sym c.format.ensures.pos) ∙ sym c.is_start_inside.ensures ∙ c.if-is_start_inside.false in
     let reads = log-reads c.args.log.now c.args.sel.now.stop c.first-at.result c.first-at.ensures.event in
     record {
-      left = left-start c.args.walker.now (log_bytes c.args.log.now) sel c.first-at.result (event_of c.format.result) reads c.format.ensures.event out c.requires.walks;
+      left = left-start c.args.builder.now (log_bytes c.args.log.now) sel c.first-at.result (event_of c.format.result) reads c.format.ensures.event out c.requires.walks;
       behind = omega (arith, reads.starts);
       inside = c.first-at.ensures.within;
-      few = within-more c.args.walker.now 0 c.first-at.result (omega arith) c.requires.begins;
+      few = within-more c.args.builder.now 0 c.first-at.result (omega arith) c.requires.begins;
     }
 
 pub returns-then-is_start_inside : goal.returns-then-is_start_inside
@@ -34,7 +34,7 @@ pub returns-in_default : goal.returns-in_default
 returns-in_default g c =
     let sel = selection_of c.args.sel.now in
     let below : is_below c.events.at sel.stop ≡ true = sym c.is_below.ensures ∙ c.events-test.true in
-    record { through = inr (left-cut (log_bytes c.args.log.now) sel c.events.at c.events.walker c.events.invariant.left (inr (sym c.in_default.ensures.event)) (below-the-end _ _ below (λ e. omega (arith, e, c.if-at-end.true, c.end.ensures.len)))) }
+    record { through = inr (left-cut (log_bytes c.args.log.now) sel c.events.at c.events.builder c.events.invariant.left (inr (sym c.in_default.ensures.event)) (below-the-end _ _ below (λ e. omega (arith, e, c.if-at-end.true, c.end.ensures.len)))) }
 
 pub returns-in-Err : goal.returns-in-Err
 returns-in-Err g c =
@@ -45,7 +45,7 @@ returns-in-Err g c =
     let below : is_below c.events.at sel.stop ≡ true = sym c.is_below.ensures ∙ c.events-test.true in
     let at : placed c.in-Ok.event ≡ record { pos = c.events.at; event = e } = ap (λ (n : ℕ). record { pos = n; event = e }) c.in-Ok.ensures.pos in
     record {
-      through = left-refused bytes sel c.events.at c.events.walker l e below (sym c.in-Ok.ensures.event) c.in-Err.fault
+      through = left-refused bytes sel c.events.at c.events.builder l e below (sym c.in-Ok.ensures.event) c.in-Err.fault
           (subst (λ (p : Placed). IsRefusal (read_fault sel l.earlier p) c.in-Err.fault) at (c.in-Err.ensures.walks l.earlier l.walks));
     }
 
@@ -60,11 +60,11 @@ events-preserved g c =
     let at : placed c.in-Ok.event ≡ record { pos = c.events.at; event = e } = ap (λ (n : ℕ). record { pos = n; event = e }) c.in-Ok.ensures.pos in
     let read = c.in-Ok-read.ensures.walks l.earlier l.walks in
     record {
-      left = left-on bytes sel c.events.at c.events.walker l e below stands c.read.new.walker _ (ap (λ (n : ℕ). c.events.at + n) (sym c.in-Ok.ensures.size))
-          (ap (read_fault sel l.earlier) (sym at) ∙ read.0) (subst (λ (p : Placed). Walks sel (range sel (p ∷ l.earlier)) c.read.new.walker) at read.1);
+      left = left-on bytes sel c.events.at c.events.builder l e below stands c.read.new.builder _ (ap (λ (n : ℕ). c.events.at + n) (sym c.in-Ok.ensures.size))
+          (ap (read_fault sel l.earlier) (sym at) ∙ read.0) (subst (λ (p : Placed). HasTaken sel (range sel (p ∷ l.earlier)) c.read.new.builder) at read.1);
       behind = omega (arith, c.events.invariant.behind);
       inside = c.in-Ok.ensures.within;
-      few = within-more c.read.new.walker _ _ (omega (arith, c.in-Ok.ensures.pos, c.in-Ok.ensures.size)) c.in-Ok-read.ensures.within;
+      few = within-more c.read.new.builder _ _ (omega (arith, c.in-Ok.ensures.pos, c.in-Ok.ensures.size)) c.in-Ok-read.ensures.within;
     }
 
 pub returns-else-at-end : goal.returns-else-at-end
@@ -73,10 +73,10 @@ returns-else-at-end g c =
     let bytes = log_bytes c.args.log.now in
     let here : c.events.at ≡ length bytes = omega (arith, c.if-at-end.false, c.end.ensures.len) in
     let none : event_at (drop c.events.at bytes) ≡ None = none-at-end bytes c.events.at here in
-    record { through = left-over bytes sel c.events.at c.events.walker c.events.invariant.left (inr none) (at-the-end _ _ _ here) }
+    record { through = left-over bytes sel c.events.at c.events.builder c.events.invariant.left (inr none) (at-the-end _ _ _ here) }
 
 pub returns-after-events : goal.returns-after-events
 returns-after-events g c =
     let sel = selection_of c.args.sel.now in
     let above : is_below c.events.at sel.stop ≡ false = sym c.is_below.ensures ∙ c.events-test.false in
-    record { through = left-over (log_bytes c.args.log.now) sel c.events.at c.events.walker c.events.invariant.left (inl above) (ap (λ b. b && not (c.events.at == length (log_bytes c.args.log.now))) above) }
+    record { through = left-over (log_bytes c.args.log.now) sel c.events.at c.events.builder c.events.invariant.left (inl above) (ap (λ b. b && not (c.events.at == length (log_bytes c.args.log.now))) above) }

@@ -1,0 +1,143 @@
+-- What is known after one more event.
+use Rattle.std.proofs.Common.{◌≡◌, ℕ, Bool, true, false, List, [], ◌∷◌, ◌++◌, map, Option, Some, None, Ok, refl, sym, ap, ◌∙◌, subst}
+use Rattle.std.specs.Prelude.{not, is_some, option_map}
+use Rattle.std.specs.Option.{option_map_or}
+use Rattle.std.specs.List.{list_any, AllByRecursion}
+use Rattle.std.proofs.lemmas.List.{map-append}
+use Rattle.indexmap.specs.IndexMap.{values}
+use Rattle.byteorder.specs.Endian.{little_number}
+use Rattle.blog_event.specs.declared.fault.Fault.TheVariants.{BadBody, MapClash, OutOfPlace}
+use Rattle.blog_event.specs.Fault.{needs, first_failing}
+use Rattle.blog_event.specs.File.{Placed}
+use Rattle.blog_row.specs.Checks.{or_bad}
+use Rattle.blog_row.specs.LayoutView.{layout_columns}
+use Rattle.blog_row.specs.TableMap.{Names, names_of}
+use Rattle.blog_row.specs.RowsEvent.{table_id}
+use Rattle.blog_trans.specs.declared.kind.EventKind.{EventKind}
+use Rattle.blog_trans.specs.declared.kind.EventKind.TheVariants as kind
+use Rattle.blog_trans.specs.declared.checker.Checker.{Checker}
+use Rattle.blog_trans.specs.declared.layouts.SelectedTable.{SelectedTable}
+use Rattle.blog_trans.specs.declared.maps.MapSeen.{MapSeen}
+use Rattle.blog_trans.specs.declared.place.Place.{Place}
+use Rattle.blog_trans.specs.declared.place.Place.TheVariants.{Outside}
+use Rattle.blog_trans.specs.Selection.{Selection}
+use Rattle.blog_trans.specs.Kinds.{is_begin_kind, is_end_kind, is_map_kind, rows_of_kind}
+use Rattle.blog_trans.specs.Acceptance.{is_selected, clashes_by_id, end_checks, event_fault}
+use Rattle.blog_trans.specs.Places.{kind_at, is_begin, is_map, is_rows, is_map_of, leads_to, is_inside, place, since}
+use Rattle.blog_trans.specs.TablesView.{tables_known, HaveGrown, IsNumbered}
+use Rattle.blog_trans.specs.StatementMaps.{MapFacts, first_of_ids, facts_of, facts_held, is_used}
+use Rattle.blog_trans.specs.TakenView.{statement_with}
+use Rattle.blog_trans.specs.CheckerView.{HasChecked, LayoutsAgree, IsPassed, IsPassedStatement, is_rows_of, columns_known, column_checks}
+use Rattle.blog_trans.proofs.ProgressFirsts.{and-false}
+use Rattle.blog_trans.proofs.CheckingStatement.{facts-quiet, facts-kept, passed-quiet, passed-map}
+use Rattle.blog_trans.proofs.CheckingMaps.{all-snoc, maps-more}
+use Rattle.blog_trans.proofs.CheckingLayouts.{layouts-quiet}
+use Rattle.blog_trans.proofs.TableNumbers.{numbered-grown}
+
+-- an event that is neither `BEGIN`, a map nor a rows event
+pub knows-quiet : {A : Type 0} (sel : Selection) (p : Placed) (earlier : List Placed) (checker : Checker A) (to : Place) → is_begin p ≡ false → is_map p ≡ false → is_rows p ≡ false
+    → to ≡ place (p ∷ earlier) → HasChecked sel (since earlier) earlier checker → HasChecked sel (statement_with p earlier) (p ∷ earlier) (record checker { place = to })
+knows-quiet sel p earlier checker to no_begin no_map no_rows led h = rw no_begin (record {
+  place_is = led;
+  open_is = rw no_rows h.open_is;
+  maps_are = h.maps_are ∙ sym (facts-quiet sel p (since earlier) no_map no_rows);
+  passed = passed-quiet sel p (since earlier) no_map no_rows h.passed;
+  layouts_agree = layouts-quiet sel p earlier checker.layouts no_map h.layouts_agree;
+  numbered = h.numbered;
+})
+
+-- ---- ends
+
+-- what a `COMMIT` and an Xid have in common
+record IsEndKind (k : EventKind) : Type 0 where
+  no_begin : is_begin_kind k ≡ false
+  no_map : is_map_kind k ≡ false
+  no_rows : is_some (rows_of_kind k) ≡ false
+  leads : leads_to k ≡ Some Outside
+
+end-kind : (k : EventKind) → is_end_kind k ≡ true → IsEndKind k
+end-kind kind.Commit h = record { no_begin = refl; no_map = refl; no_rows = refl; leads = refl }
+end-kind kind.Xid h = record { no_begin = refl; no_map = refl; no_rows = refl; leads = refl }
+end-kind _ h = absurd (cc)
+
+-- an end passes inside, where the open statement has no rows event
+pub end-passes : {A : Type 0} (sel : Selection) (p : Placed) (earlier : List Placed) (checker : Checker A) → is_end_kind (kind_at p) ≡ true → is_inside checker.place ≡ true → checker.has_rows ≡ false
+    → HasChecked sel (since earlier) earlier checker
+    → (first_failing (end_checks earlier) ≡ None) × (is_end_kind (kind_at p) ≡ true) × HasChecked sel (statement_with p earlier) (p ∷ earlier) (record checker { place = Outside })
+end-passes sel p earlier checker is_end inside no_rows h =
+    let k = end-kind (kind_at p) is_end in
+    let in_place : is_inside (place earlier) ≡ true = ap is_inside (sym h.place_is) ∙ inside in
+    let none : list_any is_rows (since earlier) ≡ false = sym h.open_is ∙ no_rows in
+    let led : Outside ≡ place (p ∷ earlier) = sym (ap (λ o. option_map_or (λ led. led) o (place earlier)) k.leads) in
+    (rw (in_place, none) refl, is_end, knows-quiet sel p earlier checker Outside k.no_begin k.no_map k.no_rows led h)
+
+-- ---- maps
+
+-- the facts of a new map, which no rows event goes by yet
+pub new-facts : (sel : Selection) (p : Placed) (statement : List Placed) (k : ℕ) (v : MapSeen) → kind_at p ≡ kind.TableMap → IsPassedStatement sel statement
+    → list_any (is_map_of (table_id p.event.body)) statement ≡ false → k ≡ little_number 6 (table_id p.event.body)
+    → v.at ≡ p.pos → v.body.now ≡ p.event.body → option_map (λ (t : SelectedTable). layout_columns t.layout) v.table ≡ columns_known sel p → v.used ≡ false
+    → facts_held (k, v) ≡ facts_of sel (p ∷ statement) p
+new-facts sel p statement k v is passed new k_is at body layout used =
+    let none : list_any (is_rows_of (table_id p.event.body)) statement ≡ false = passed.mapped (table_id p.event.body) new in
+    let no_rows : is_rows p ≡ false = rw is refl in
+    let unused : false ≡ is_used sel (p ∷ statement) p = sym (rw (no_rows, none) (and-false (is_selected sel p.event.body))) in
+    λ i. record { id = k_is i; at = at i; body = body i; layout = layout i; used = (used ∙ unused) i }
+
+-- a further map of a known id
+pub knows-map-seen : {A : Type 0} (sel : Selection) (p : Placed) (earlier : List Placed) (checker after : Checker A) → kind_at p ≡ kind.TableMap → IsPassed sel p
+    → list_any (clashes_by_id p) (since earlier) ≡ false → list_any (is_map_of (table_id p.event.body)) (since earlier) ≡ true
+    → after.place ≡ checker.place → after.has_rows ≡ checker.has_rows → after.maps.entries ≡ checker.maps.entries → LayoutsAgree sel (p ∷ earlier) after.layouts
+    → HaveGrown (tables_known checker.layouts) (tables_known after.layouts)
+    → HasChecked sel (since earlier) earlier checker → HasChecked sel (statement_with p earlier) (p ∷ earlier) after
+knows-map-seen sel p earlier checker after is passed none there place_same rows_same maps_same agree grown h =
+    let is_one : is_map p ≡ true = rw is refl in
+    let no_rows : is_rows p ≡ false = rw is refl in
+    let facts : map (facts_of sel (p ∷ since earlier)) (first_of_ids (p ∷ since earlier)) ≡ map (facts_of sel (since earlier)) (first_of_ids (since earlier)) =
+    rw (is_one, there) (ap (λ (f : Placed → MapFacts). map f (first_of_ids (since earlier))) (facts-kept sel p (since earlier) no_rows)) in
+    rw is (record {
+      place_is = place_same ∙ h.place_is ∙ rw is refl;
+      open_is = rows_same ∙ h.open_is ∙ rw no_rows refl;
+      maps_are = ap (map facts_held) maps_same ∙ h.maps_are ∙ sym facts;
+      passed = passed-map sel p (since earlier) is_one no_rows passed none h.passed;
+      layouts_agree = agree;
+      numbered = subst (λ es. AllByRecursion (IsNumbered (tables_known after.layouts)) (map (λ e. e.1) es)) (sym maps_same) (numbered-grown (tables_known checker.layouts) (tables_known after.layouts) (values checker.maps) grown h.numbered);
+    })
+
+-- a map of a new id
+pub knows-map-new : {A : Type 0} (sel : Selection) (p : Placed) (earlier : List Placed) (checker after : Checker A) (k : ℕ) (v : MapSeen) → kind_at p ≡ kind.TableMap → IsPassed sel p
+    → list_any (clashes_by_id p) (since earlier) ≡ false → list_any (is_map_of (table_id p.event.body)) (since earlier) ≡ false
+    → after.place ≡ checker.place → after.has_rows ≡ checker.has_rows → after.maps.entries ≡ checker.maps.entries ++ (k, v) ∷ [] → LayoutsAgree sel (p ∷ earlier) after.layouts
+    → HaveGrown (tables_known checker.layouts) (tables_known after.layouts) → IsNumbered (tables_known after.layouts) v → facts_held (k, v) ≡ facts_of sel (p ∷ since earlier) p
+    → HasChecked sel (since earlier) earlier checker → HasChecked sel (statement_with p earlier) (p ∷ earlier) after
+knows-map-new sel p earlier checker after k v is passed none new place_same rows_same maps_more agree grown own last h =
+    let is_one : is_map p ≡ true = rw is refl in
+    let no_rows : is_rows p ≡ false = rw is refl in
+    rw is (record {
+      place_is = place_same ∙ h.place_is ∙ rw is refl;
+      open_is = rows_same ∙ h.open_is ∙ rw no_rows refl;
+      maps_are = maps-more sel p (since earlier) k v checker.maps.entries after.maps.entries is_one no_rows new h.passed h.maps_are maps_more last;
+      passed = passed-map sel p (since earlier) is_one no_rows passed none h.passed;
+      layouts_agree = agree;
+      numbered =
+          subst (λ es. AllByRecursion (IsNumbered (tables_known after.layouts)) (map (λ e. e.1) es)) (sym maps_more)
+          (subst (AllByRecursion (IsNumbered (tables_known after.layouts))) (sym (map-append (λ (e : ℕ × MapSeen). e.1) checker.maps.entries ((k, v) ∷ [])))
+          (all-snoc (IsNumbered (tables_known after.layouts)) (values checker.maps) v (numbered-grown (tables_known checker.layouts) (tables_known after.layouts) (values checker.maps) grown h.numbered) own));
+    })
+
+-- a reading that gave a value was there
+pub or-bad-some : {A : Type 0} (o : Option A) (x : A) → or_bad o ≡ Ok x → o ≡ Some x
+or-bad-some None x h = absurd (cc)
+or-bad-some (Some y) x h = cc
+
+-- ---- the checks of a map
+
+-- what decides inside a transaction
+pub map-fault-inside : (sel : Selection) (p : Placed) (earlier : List Placed) → kind_at p ≡ kind.TableMap → is_inside (place earlier) ≡ true
+    → event_fault sel earlier p ≡ first_failing (needs (is_some (names_of p.event.body)) BadBody ∷ needs (not (list_any (clashes_by_id p) (since earlier))) MapClash ∷ column_checks sel earlier p)
+map-fault-inside sel p earlier is inside = rw (is, inside) refl
+
+-- where the body has names
+pub map-fault-named : (sel : Selection) (p : Placed) (earlier : List Placed) (n : Names) (clash : Bool) → kind_at p ≡ kind.TableMap → is_inside (place earlier) ≡ true → names_of p.event.body ≡ Some n
+    → list_any (clashes_by_id p) (since earlier) ≡ clash → event_fault sel earlier p ≡ first_failing (needs (not clash) MapClash ∷ column_checks sel earlier p)
+map-fault-named sel p earlier n clash is inside names clash_is = map-fault-inside sel p earlier is inside ∙ rw (names, clash_is) refl

@@ -1,0 +1,313 @@
+-- The maps that the program holds of a statement: looking one up, one more, and a rows event that goes by one.
+-- `statement` has its events so far, the latest first.
+use Rattle.std.proofs.Common.{◌≡◌, ℕ, ◌≤◌, Bool, true, false, List, [], ◌∷◌, ◌++◌, length, map, reverse, Option, Some, None, refl, sym, subst, ap, ◌∙◌, arith, take, length-append}
+use Rattle.std.specs.Prelude.{◌&&◌, ◌||◌, not, if◌then◌else◌, find, is_some, bytes_eq, nat_eq, option_map, Result, Ok, Err, IsOk}
+use Rattle.std.specs.Option.{option_map_or, option_or}
+use Rattle.std.specs.Result.{result_ok}
+use Rattle.std.specs.List.{list_any, AllByRecursion, IsDistinct}
+use Rattle.std.specs.Map.{lookup, set_value, keys_of}
+use Rattle.std.proofs.lemmas.Bool.{eq-eqb, eqb-true}
+use Rattle.std.proofs.lemmas.List.{length-take-le, map-append, take_all, take_at}
+use Rattle.std.proofs.lemmas.List.Folds.{find-append}
+use Rattle.std.proofs.lemmas.Slice.Eq.{bytes_eq-Decides}
+use Rattle.byteorder.specs.Endian.{little_number, little_bytes}
+use Rattle.blog_event.specs.File.{Placed, AreBytes}
+use Rattle.blog_event.proofs.Framing.{bytes-take, number-bytes}
+use Rattle.blog_row.specs.LayoutView.{layout_columns}
+use Rattle.blog_row.specs.TableMap.{Names, HasNames, layout_of}
+use Rattle.blog_row.specs.Column.{Layout}
+use Rattle.blog_row.specs.declared.fault.RowFault.{RowFault}
+use Rattle.blog_row.specs.RowsEvent.{table_id}
+use Rattle.blog_trans.specs.declared.layouts.SelectedTable.{SelectedTable}
+use Rattle.blog_trans.specs.declared.maps.MapSeen.{MapSeen}
+use Rattle.blog_trans.specs.Selection.{Selection}
+use Rattle.blog_trans.specs.Places.{is_map, is_rows, is_map_of, map_in}
+use Rattle.blog_trans.specs.Acceptance.{is_selected, clashes_by_id}
+use Rattle.blog_trans.specs.StatementMaps.{MapFacts, first_of_ids, facts_of, facts_held}
+use Rattle.blog_trans.specs.CheckerView.{IsPassed, IsPassedStatement, is_rows_of, differs}
+use Rattle.blog_trans.proofs.CheckingStatement.{map-first, map-there, or-none, facts-kept}
+
+-- ---- table ids
+
+-- six bytes
+pub record IsId (id : List ℕ) : Type 0 where
+  pub len : length id ≡ 6
+  pub bytes : AreBytes id
+
+-- an id's number tells its bytes
+same-id : (a b : List ℕ) → IsId a → IsId b → little_number 6 a ≡ little_number 6 b → a ≡ b
+same-id a b is_a is_b h =
+    sym (take_all 6 a (omega arith)) ∙ sym (number-bytes 6 a is_a.bytes (omega arith)) ∙ ap (little_bytes 6) h
+    ∙ number-bytes 6 b is_b.bytes (omega arith) ∙ take_all 6 b (omega arith)
+
+-- tests that hold together are equal
+pub same-tests : (x y : Bool) → (x ≡ true → y ≡ true) → (y ≡ true → x ≡ true) → x ≡ y
+same-tests true y to back = sym (to refl)
+same-tests false true to back = back refl
+same-tests false false to back = refl
+
+-- the same in either order
+pub bytes_eq-swap : (a b : List ℕ) → bytes_eq a b ≡ bytes_eq b a
+bytes_eq-swap a b = same-tests (bytes_eq a b) (bytes_eq b a)
+    (λ h. (bytes_eq-Decides b a).1 (sym ((bytes_eq-Decides a b).0 h)))
+    (λ h. (bytes_eq-Decides a b).1 (sym ((bytes_eq-Decides b a).0 h)))
+
+-- so numbers compare as the bytes do
+pub ids-compare : (a b : List ℕ) (k n : ℕ) → IsId a → IsId b → k ≡ little_number 6 a → n ≡ little_number 6 b → nat_eq k n ≡ bytes_eq b a
+ids-compare a b k n is_a is_b k_is n_is = same-tests (nat_eq k n) (bytes_eq b a)
+    (λ h. (bytes_eq-Decides b a).1 (sym (same-id a b is_a is_b (sym k_is ∙ eqb-true k n h ∙ n_is))))
+    (λ h. eq-eqb k n (k_is ∙ ap (little_number 6) (sym ((bytes_eq-Decides b a).0 h)) ∙ sym n_is))
+
+-- ---- the first maps of a statement
+
+-- a map that passed its checks
+pub record IsPassedMap (sel : Selection) (m : Placed) : Type 0 where
+  pub is : is_map m ≡ true
+  pub passed : IsPassed sel m
+
+pub all-snoc : {A : Type 0} (P : A → Type 0) (xs : List A) (x : A) → AllByRecursion P xs → P x → AllByRecursion P (xs ++ x ∷ [])
+all-snoc P [] x all last = (last, tt)
+all-snoc P (y ∷ ys) x all last = (all.0, all-snoc P ys x all.1 last)
+
+pub first-passed : (sel : Selection) (statement : List Placed) → AllByRecursion (λ m. is_map m ≡ true → IsPassed sel m) statement
+    → AllByRecursion (IsPassedMap sel) (first_of_ids statement)
+first-passed sel [] all = tt
+first-passed sel (p ∷ statement) all = by (is_map p) (not (list_any (is_map_of (table_id p.event.body)) statement)) refl (first-passed sel statement all.1)
+  where
+    by : (b new : Bool) → is_map p ≡ b → AllByRecursion (IsPassedMap sel) (first_of_ids statement)
+        → AllByRecursion (IsPassedMap sel) (if b && new then first_of_ids statement ++ p ∷ [] else first_of_ids statement)
+    by true true is others = all-snoc (IsPassedMap sel) (first_of_ids statement) p others (record { is = is; passed = all.0 is })
+    by true false is others = others
+    by false new is others = others
+
+-- the first of an id among them
+or-some : {A : Type 0} (o p : Option A) → is_some o ≡ true → option_or o p ≡ o
+or-some None p h = absurd (cc)
+or-some (Some x) p h = refl
+
+find-step : (p : Placed) (statement : List Placed) (id : List ℕ) (b any : Bool) → is_map p ≡ b → list_any (is_map_of (table_id p.event.body)) statement ≡ any
+    → find (is_map_of id) (first_of_ids statement) ≡ map_in (reverse statement) id
+    → find (is_map_of id) (if b && not any then first_of_ids statement ++ p ∷ [] else first_of_ids statement)
+    ≡ option_or (map_in (reverse statement) id) (if b && bytes_eq (table_id p.event.body) id then Some p else None)
+find-step p statement id false any is there h = h ∙ sym (or-none (map_in (reverse statement) id))
+find-step p statement id true false is there h = find-append (is_map_of id) (first_of_ids statement) (p ∷ []) ∙ rw (h, is) refl
+find-step p statement id true true is there h = h ∙ sym (by (bytes_eq (table_id p.event.body) id) refl)
+  where
+    by : (same : Bool) → bytes_eq (table_id p.event.body) id ≡ same → option_or (map_in (reverse statement) id) (if same then Some p else None) ≡ map_in (reverse statement) id
+    by false e = or-none (map_in (reverse statement) id)
+    by true e =
+        let own : table_id p.event.body ≡ id = (bytes_eq-Decides (table_id p.event.body) id).0 e in
+        or-some (map_in (reverse statement) id) (Some p) (map-there statement id ∙ ap (λ (i : List ℕ). list_any (is_map_of i) statement) (sym own) ∙ there)
+
+pub find-first : (statement : List Placed) (id : List ℕ) → find (is_map_of id) (first_of_ids statement) ≡ map_in (reverse statement) id
+find-first [] id = refl
+find-first (p ∷ statement) id =
+    find-step p statement id (is_map p) (list_any (is_map_of (table_id p.event.body)) statement) refl refl (find-first statement id) ∙ sym (map-first p statement id)
+
+-- ---- looking a map up
+
+held-step : (sel : Selection) (statement : List Placed) (id : List ℕ) (k : ℕ) (e : ℕ × MapSeen) (m : Placed) (es : List (ℕ × MapSeen)) (ms : List Placed) (b : Bool)
+    → nat_eq k e.0 ≡ b → is_map_of id m ≡ b → facts_held e ≡ facts_of sel statement m
+    → option_map (λ v. facts_held (k, v)) (lookup (nat_eq k) es) ≡ option_map (facts_of sel statement) (find (is_map_of id) ms)
+    → option_map (λ v. facts_held (k, v)) (lookup (nat_eq k) (e ∷ es)) ≡ option_map (facts_of sel statement) (find (is_map_of id) (m ∷ ms))
+held-step sel statement id k e m es ms true same own first others =
+    rw (same, own) (ap (λ (n : ℕ). Some (facts_held (n, e.1))) (eqb-true k e.0 same) ∙ ap Some first)
+held-step sel statement id k e m es ms false same own first others = rw (same, own) others
+
+-- what is held under an id's number is the first map of the id
+held : (sel : Selection) (statement : List Placed) (id : List ℕ) (k : ℕ) → IsId id → k ≡ little_number 6 id → (es : List (ℕ × MapSeen)) (ms : List Placed) → AllByRecursion (IsPassedMap sel) ms
+    → map facts_held es ≡ map (facts_of sel statement) ms
+    → option_map (λ v. facts_held (k, v)) (lookup (nat_eq k) es) ≡ option_map (facts_of sel statement) (find (is_map_of id) ms)
+held sel statement id k is_id k_is [] [] all h = refl
+held sel statement id k is_id k_is [] (m ∷ ms) all h = absurd (cc)
+held sel statement id k is_id k_is (e ∷ es) [] all h = absurd (cc)
+held sel statement id k is_id k_is (e ∷ es) (m ∷ ms) all h =
+    let passed : IsPassedMap sel m = all.0 in
+    let first : facts_held e ≡ facts_of sel statement m = cc in
+    let others : map facts_held es ≡ map (facts_of sel statement) ms = cc in
+    let is_m : IsId (table_id m.event.body) = record { len = passed.passed.id_len; bytes = passed.passed.id_bytes } in
+    let compare = ids-compare id (table_id m.event.body) k e.0 is_id is_m k_is (ap (λ (f : MapFacts). f.id) first) in
+    let own : is_map_of id m ≡ bytes_eq (table_id m.event.body) id = rw passed.is refl in
+    held-step sel statement id k e m es ms (bytes_eq (table_id m.event.body) id) compare own first (held sel statement id k is_id k_is es ms all.1 others)
+
+pub held-map : (sel : Selection) (statement : List Placed) (id : List ℕ) (k : ℕ) (es : List (ℕ × MapSeen)) → IsId id → k ≡ little_number 6 id → IsPassedStatement sel statement
+    → map facts_held es ≡ map (facts_of sel statement) (first_of_ids statement)
+    → option_map (λ v. facts_held (k, v)) (lookup (nat_eq k) es) ≡ option_map (facts_of sel statement) (map_in (reverse statement) id)
+held-map sel statement id k es is_id k_is passed h =
+    held sel statement id k is_id k_is es (first_of_ids statement) (first-passed sel statement passed.maps) h
+    ∙ ap (option_map (facts_of sel statement)) (find-first statement id)
+
+-- ---- one more map
+
+pub maps-more : (sel : Selection) (m : Placed) (statement : List Placed) (k : ℕ) (v : MapSeen) (es after : List (ℕ × MapSeen)) → is_map m ≡ true → is_rows m ≡ false
+    → list_any (is_map_of (table_id m.event.body)) statement ≡ false → IsPassedStatement sel statement
+    → map facts_held es ≡ map (facts_of sel statement) (first_of_ids statement) → after ≡ es ++ (k, v) ∷ [] → facts_held (k, v) ≡ facts_of sel (m ∷ statement) m
+    → map facts_held after ≡ map (facts_of sel (m ∷ statement)) (first_of_ids (m ∷ statement))
+maps-more sel m statement k v es after is no_rows new passed h after_is last =
+    let kept : map (facts_of sel (m ∷ statement)) (first_of_ids statement) ≡ map (facts_of sel statement) (first_of_ids statement) =
+    ap (λ (facts : Placed → MapFacts). map facts (first_of_ids statement)) (facts-kept sel m statement no_rows) in
+    let left : map facts_held after ≡ map facts_held es ++ facts_held (k, v) ∷ [] = ap (map facts_held) after_is ∙ map-append facts_held es ((k, v) ∷ []) in
+    let right : map (facts_of sel (m ∷ statement)) (first_of_ids statement ++ m ∷ []) ≡ map (facts_of sel (m ∷ statement)) (first_of_ids statement) ++ facts_of sel (m ∷ statement) m ∷ [] =
+    map-append (facts_of sel (m ∷ statement)) (first_of_ids statement) (m ∷ []) in
+    let joined : map facts_held es ++ facts_held (k, v) ∷ [] ≡ map (facts_of sel (m ∷ statement)) (first_of_ids statement) ++ facts_of sel (m ∷ statement) m ∷ [] = rw (h, kept, last) refl in
+    rw (is, new) (left ∙ joined ∙ sym right)
+
+-- ---- a rows event that goes by a map
+
+-- the facts of a map by whose id a rows event goes
+mark : ℕ → MapFacts → MapFacts
+mark k f = if nat_eq k f.id then record f { used = is_some f.layout } else f
+
+mark-on : (k : ℕ) (f : MapFacts) → nat_eq k f.id ≡ true → record f { used = is_some f.layout } ≡ mark k f
+unfolding mark
+mark-on k f h = rw h refl
+
+mark-off : (k : ℕ) (f : MapFacts) → nat_eq k f.id ≡ false → f ≡ mark k f
+unfolding mark
+mark-off k f h = rw h refl
+
+used-now : (s r o any t : Bool) → r ≡ true → o ≡ true → t ≡ s → (s && ((r && o) || any)) ≡ t
+used-now true r o any t r_is o_is t_is = rw (r_is, o_is, t_is) refl
+used-now false r o any t r_is o_is t_is = sym t_is
+
+used-still : (s r o any : Bool) → o ≡ false → (s && ((r && o) || any)) ≡ (s && any)
+used-still s true o any o_is = rw o_is refl
+used-still s false o any o_is = refl
+
+-- where a selected map has a layout
+layout-there : (b : Bool) (r : Result Layout RowFault) → (b ≡ true → IsOk r) → is_some (if b then result_ok r else None) ≡ b
+layout-there true (Ok layout) h = refl
+layout-there true (Err fault) h = absurd (cc (h refl))
+layout-there false r h = refl
+
+mark-step : (sel : Selection) (p : Placed) (statement : List Placed) (k : ℕ) → is_rows p ≡ true → (m : Placed) (b : Bool) → nat_eq k (little_number 6 (table_id m.event.body)) ≡ b
+    → bytes_eq (table_id p.event.body) (table_id m.event.body) ≡ b → is_some (if is_selected sel m.event.body then result_ok (layout_of m.event.body) else None) ≡ is_selected sel m.event.body
+    → facts_of sel (p ∷ statement) m ≡ mark k (facts_of sel statement m)
+mark-step sel p statement k is m true same own there =
+    let any = list_any (is_rows_of (table_id m.event.body)) statement in
+    ap (λ (u : Bool). record (facts_of sel statement m) { used = u }) (used-now (is_selected sel m.event.body) (is_rows p) _ any _ is own there)
+    ∙ mark-on k (facts_of sel statement m) same
+mark-step sel p statement k is m false same own there =
+    let any = list_any (is_rows_of (table_id m.event.body)) statement in
+    ap (λ (u : Bool). record (facts_of sel statement m) { used = u }) (used-still (is_selected sel m.event.body) (is_rows p) _ any own)
+    ∙ mark-off k (facts_of sel statement m) same
+
+mark-facts : (sel : Selection) (p : Placed) (statement : List Placed) (k : ℕ) → IsId (table_id p.event.body) → k ≡ little_number 6 (table_id p.event.body) → is_rows p ≡ true
+    → (m : Placed) → IsPassedMap sel m → facts_of sel (p ∷ statement) m ≡ mark k (facts_of sel statement m)
+unfolding mark
+mark-facts sel p statement k is_id k_is is m passed =
+    let is_m : IsId (table_id m.event.body) = record { len = passed.passed.id_len; bytes = passed.passed.id_bytes } in
+    let compare = ids-compare (table_id p.event.body) (table_id m.event.body) k (little_number 6 (table_id m.event.body)) is_id is_m k_is refl in
+    mark-step sel p statement k is m (bytes_eq (table_id m.event.body) (table_id p.event.body)) compare (bytes_eq-swap (table_id p.event.body) (table_id m.event.body))
+    (layout-there (is_selected sel m.event.body) (layout_of m.event.body) passed.passed.layout)
+
+mark-all : (sel : Selection) (p : Placed) (statement : List Placed) (k : ℕ) → IsId (table_id p.event.body) → k ≡ little_number 6 (table_id p.event.body) → is_rows p ≡ true
+    → (ms : List Placed) → AllByRecursion (IsPassedMap sel) ms → map (facts_of sel (p ∷ statement)) ms ≡ map (mark k) (map (facts_of sel statement) ms)
+mark-all sel p statement k is_id k_is is [] all = refl
+mark-all sel p statement k is_id k_is is (m ∷ ms) all =
+    let first = mark-facts sel p statement k is_id k_is is m all.0 in
+    let others = mark-all sel p statement k is_id k_is is ms all.1 in
+    cc
+
+-- no key is this one
+mark-none : (k : ℕ) (es : List (ℕ × MapSeen)) → AllByRecursion (λ y. nat_eq k y ≡ false) (keys_of es) → map (mark k) (map facts_held es) ≡ map facts_held es
+unfolding mark
+mark-none k [] all = refl
+mark-none k (e ∷ es) all =
+    let first : mark k (facts_held e) ≡ facts_held e = rw all.0 refl in
+    let others = mark-none k es all.1 in
+    cc
+
+some-map : {A B : Type 0} (f : A → B) (o : Option A) → is_some o ≡ is_some (option_map f o)
+some-map f None = refl
+some-map f (Some x) = refl
+
+mark-held-step : (k : ℕ) (v w : MapSeen) (e : ℕ × MapSeen) (es : List (ℕ × MapSeen)) (b : Bool) → nat_eq k e.0 ≡ b → AllByRecursion (λ y. nat_eq e.0 y ≡ false) (keys_of es)
+    → lookup (nat_eq k) (e ∷ es) ≡ Some v → w ≡ record v { used = is_some v.table }
+    → (lookup (nat_eq k) es ≡ Some v → map facts_held (set_value (nat_eq k) es w) ≡ map (mark k) (map facts_held es))
+    → map facts_held (set_value (nat_eq k) (e ∷ es) w) ≡ map (mark k) (map facts_held (e ∷ es))
+mark-held-step k v w e es true same others found w_is later =
+    let here : Some e.1 ≡ Some v = rw same at found in
+    let own : e.1 ≡ v = cc in
+    let key : k ≡ e.0 = eqb-true k e.0 same in
+    let left : map facts_held es ≡ map (mark k) (map facts_held es) =
+    sym (mark-none k es (subst (λ (n : ℕ). AllByRecursion (λ y. nat_eq n y ≡ false) (keys_of es)) (sym key) others)) in
+    let written : facts_held (e.0, w) ≡ record (facts_held e) { used = is_some e.1.table } = ap (λ x. facts_held (e.0, x)) (w_is ∙ ap (λ (x : MapSeen). record x { used = is_some x.table }) (sym own)) in
+    let marked : record (facts_held e) { used = is_some e.1.table } ≡ mark k (facts_held e) =
+    ap (λ (u : Bool). record (facts_held e) { used = u }) (some-map (λ (t : SelectedTable). layout_columns t.layout) e.1.table) ∙ mark-on k (facts_held e) same in
+    let first : facts_held (e.0, w) ≡ mark k (facts_held e) = written ∙ marked in
+    rw same (cc (first, left))
+mark-held-step k v w e es false same others found w_is later =
+    let rest = later (rw same at found) in
+    let first = mark-off k (facts_held e) same in
+    rw same (cc (first, rest))
+
+mark-held : (k : ℕ) (v w : MapSeen) (es : List (ℕ × MapSeen)) → IsDistinct nat_eq (keys_of es) → lookup (nat_eq k) es ≡ Some v → w ≡ record v { used = is_some v.table }
+    → map facts_held (set_value (nat_eq k) es w) ≡ map (mark k) (map facts_held es)
+unfolding IsDistinct
+mark-held k v w [] distinct found w_is = absurd (cc)
+mark-held k v w (e ∷ es) distinct found w_is =
+    mark-held-step k v w e es (nat_eq k e.0) refl distinct.0 found w_is (λ later. mark-held k v w es distinct.1 later w_is)
+
+pub maps-marked : (sel : Selection) (p : Placed) (statement : List Placed) (k : ℕ) (v w : MapSeen) (es after : List (ℕ × MapSeen)) → IsId (table_id p.event.body)
+    → k ≡ little_number 6 (table_id p.event.body) → is_map p ≡ false → is_rows p ≡ true → IsPassedStatement sel statement
+    → map facts_held es ≡ map (facts_of sel statement) (first_of_ids statement) → IsDistinct nat_eq (keys_of es) → lookup (nat_eq k) es ≡ Some v → w ≡ record v { used = is_some v.table }
+    → after ≡ set_value (nat_eq k) es w → map facts_held after ≡ map (facts_of sel (p ∷ statement)) (first_of_ids (p ∷ statement))
+maps-marked sel p statement k v w es after is_id k_is no_map is passed h distinct found w_is after_is =
+    let marked = mark-held k v w es distinct found w_is in
+    let all = mark-all sel p statement k is_id k_is is (first_of_ids statement) (first-passed sel statement passed.maps) in
+    rw no_map (ap (map facts_held) after_is ∙ marked ∙ ap (map (mark k)) h ∙ sym all)
+
+-- ---- comparing a map with what is held
+
+-- the id of a body
+pub body-id : (body : List ℕ) → 6 ≤ length body → AreBytes body → IsId (table_id body)
+body-id body long bytes = record { len = length-take-le 6 body long; bytes = bytes-take 6 body bytes }
+
+-- what is held under an id's number
+pub held-some : (sel : Selection) (statement : List Placed) (id : List ℕ) (k : ℕ) (v : MapSeen) (es : List (ℕ × MapSeen)) → IsId id → k ≡ little_number 6 id → IsPassedStatement sel statement
+    → map facts_held es ≡ map (facts_of sel statement) (first_of_ids statement) → lookup (nat_eq k) es ≡ Some v
+    → (m : Placed) × (map_in (reverse statement) id ≡ Some m) × (facts_held (k, v) ≡ facts_of sel statement m)
+held-some sel statement id k v es is_id k_is passed h found = by (map_in (reverse statement) id) refl
+  where
+    held_is : Some (facts_held (k, v)) ≡ option_map (facts_of sel statement) (map_in (reverse statement) id)
+    held_is = ap (option_map (λ (x : MapSeen). facts_held (k, x))) (sym found) ∙ held-map sel statement id k es is_id k_is passed h
+
+    by : (o : Option Placed) → map_in (reverse statement) id ≡ o → (m : Placed) × (map_in (reverse statement) id ≡ Some m) × (facts_held (k, v) ≡ facts_of sel statement m)
+    by None e = let bad : Some (facts_held (k, v)) ≡ None = held_is ∙ ap (option_map (facts_of sel statement)) e in absurd (cc)
+    by (Some m) e = let is : Some (facts_held (k, v)) ≡ Some (facts_of sel statement m) = held_is ∙ ap (option_map (facts_of sel statement)) e in (m, e, cc)
+
+pub held-none : (sel : Selection) (statement : List Placed) (id : List ℕ) (k : ℕ) (es : List (ℕ × MapSeen)) → IsId id → k ≡ little_number 6 id → IsPassedStatement sel statement
+    → map facts_held es ≡ map (facts_of sel statement) (first_of_ids statement) → lookup (nat_eq k) es ≡ None → map_in (reverse statement) id ≡ None
+held-none sel statement id k es is_id k_is passed h found = by (map_in (reverse statement) id) refl
+  where
+    held_is : None ≡ option_map (facts_of sel statement) (map_in (reverse statement) id)
+    held_is = ap (option_map (λ (x : MapSeen). facts_held (k, x))) (sym found) ∙ held-map sel statement id k es is_id k_is passed h
+
+    by : (o : Option Placed) → map_in (reverse statement) id ≡ o → map_in (reverse statement) id ≡ None
+    by None e = e
+    by (Some m) e = let bad : None ≡ Some (facts_of sel statement m) = held_is ∙ ap (option_map (facts_of sel statement)) e in absurd (cc)
+
+pub compare-some : (sel : Selection) (statement : List Placed) (p : Placed) (k : ℕ) (v : MapSeen) (es : List (ℕ × MapSeen)) (same : Bool) → IsId (table_id p.event.body)
+    → k ≡ little_number 6 (table_id p.event.body) → IsPassedStatement sel statement → map facts_held es ≡ map (facts_of sel statement) (first_of_ids statement) → lookup (nat_eq k) es ≡ Some v
+    → bytes_eq v.body.now p.event.body ≡ same → (list_any (clashes_by_id p) statement ≡ not same) × (list_any (is_map_of (table_id p.event.body)) statement ≡ true)
+compare-some sel statement p k v es same is_id k_is passed h found same_is =
+    let first = held-some sel statement (table_id p.event.body) k v es is_id k_is passed h found in
+    let body : v.body.now ≡ first.0.event.body = ap (λ (f : MapFacts). f.body) first.2 in
+    let clash : list_any (clashes_by_id p) statement ≡ not same =
+    passed.agree p ∙ ap (λ (o : Option Placed). option_map_or (differs p) o false) first.1 ∙ ap (λ (b : List ℕ). not (bytes_eq b p.event.body)) (sym body) ∙ ap not same_is in
+    (clash, sym (map-there statement (table_id p.event.body)) ∙ ap is_some first.1)
+
+pub compare-none : (sel : Selection) (statement : List Placed) (p : Placed) (k : ℕ) (es : List (ℕ × MapSeen)) → IsId (table_id p.event.body)
+    → k ≡ little_number 6 (table_id p.event.body) → IsPassedStatement sel statement → map facts_held es ≡ map (facts_of sel statement) (first_of_ids statement) → lookup (nat_eq k) es ≡ None
+    → (list_any (clashes_by_id p) statement ≡ false) × (list_any (is_map_of (table_id p.event.body)) statement ≡ false)
+compare-none sel statement p k es is_id k_is passed h found =
+    let none = held-none sel statement (table_id p.event.body) k es is_id k_is passed h found in
+    (passed.agree p ∙ ap (λ (o : Option Placed). option_map_or (differs p) o false) none, sym (map-there statement (table_id p.event.body)) ∙ ap is_some none)
+
+-- the id of a map
+pub map-id : (body : List ℕ) (names : Names) → AreBytes body → HasNames body names → IsId (table_id body) × (little_number 6 names.id ≡ little_number 6 (table_id body))
+map-id body names bytes has =
+    let long : 6 ≤ length body = omega (arith, ap length has.text, length-append names.id, has.id_len) in
+    let front : take 6 body ≡ names.id = ap (take 6) has.text ∙ take_at names.id _ 6 has.id_len in
+    (body-id body long bytes, ap (little_number 6) (sym front))

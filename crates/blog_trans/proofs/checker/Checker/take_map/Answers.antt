@@ -1,0 +1,68 @@
+use Rattle.std.proofs.Common.{◌≡◌, ℕ, true, false, Some, None, rules, refl, sym, subst, ap, ◌∙◌}
+use Rattle.std.specs.Prelude.{nat_eq, not, IfSome, slice_get}
+use Rattle.std.specs.List.{list_any}
+use Rattle.indexmap.specs.IndexMap.{get}
+use Rattle.indexmap.proofs.CallerLemmas.{insert_entry-new}
+use Rattle.blog_event.specs.Event.{event_of}
+use Rattle.blog_event.specs.File.{Placed}
+use Rattle.blog_row.specs.TableMap.{Names, names_of}
+use Rattle.blog_row.specs.TableMapView.{map_names}
+use Rattle.blog_trans.specs.Acceptance.{event_fault}
+use Rattle.blog_trans.specs.Places.{is_inside, is_map_of, place, since}
+use Rattle.blog_trans.specs.Selection.{Selection, selection_of}
+use Rattle.blog_trans.specs.CheckerView.{IsPassed}
+use Rattle.blog_trans.specs.TableNameView.{table_named}
+use Rattle.blog_trans.specs.TablesView.{tables_known}
+use Rattle.blog_trans.proofs.TableNumbers.{new-numbered}
+use Rattle.blog_trans.specs.declared.maps.MapSeen.{MapSeen}
+use Rattle.blog_row.specs.RowsEvent.{table_id}
+use Rattle.blog_trans.proofs.CheckingMaps.{map-id}
+use Rattle.blog_trans.proofs.Checking.{or-bad-some, new-facts, knows-map-seen, knows-map-new, map-fault-named}
+use Rattle.blog_trans.proofs.checker.Checker.take_map.Goals as goal
+
+pub returns-in-Ok-insert-clause-checked : goal.returns-in-Ok-insert-clause-checked
+returns-in-Ok-insert-clause-checked g c = λ earlier h.
+    let sel : Selection = selection_of c.args.sel.now in
+    let e = event_of c.args.event.now in
+    let p : Placed = record { pos = c.args.event.now.pos; event = e } in
+    let n : Names = map_names c.in-Ok.map in
+    let names : names_of e.body ≡ Some n = or-bad-some (names_of e.body) n (sym c.in-Ok.ensures.exact) in
+    let id = map-id e.body n c.are_bytes.ensures c.in-Ok.ensures.found in
+    let now : is_inside c.args.self.now.place ≡ true = search rules in
+    let inside : is_inside (place earlier) ≡ true = ap is_inside (sym h.place_is) ∙ now in
+    let compared = c.in_ok-first.ensures.compared sel (since earlier) earlier h in
+    let columns = c.in_ok-table.ensures.columns e earlier c.requires.kind names h.layouts_agree in
+    let passed : IsPassed sel p = record { id_len = id.0.len; id_bytes = id.0.bytes; layout = columns.1 } in
+    let fault : event_fault sel earlier p ≡ None = map-fault-named sel p earlier n false c.requires.kind inside names compared.0 ∙ columns.2 in
+    let none : get nat_eq c.args.self.now.maps c.id.result ≡ None = ap (λ (k : ℕ). get nat_eq c.args.self.now.maps k) c.id.ensures ∙ c.in_ok-first.ensures.absent c.if-first.true in
+    let new : list_any (is_map_of (table_id e.body)) (since earlier) ≡ false = compared.1 ∙ ap not c.if-first.true in
+    let v : MapSeen = record { at = c.args.event.now.pos; body = c.args.event.now.body; table = c.in_ok-table.table; used = false } in
+    let layouts = c.take_table.new.layouts in
+    let name : table_named (record { schema = c.schema.result; table = c.table.result }) ≡ n.table = λ i. record { schema = c.schema.ensures i; name = c.table.ensures i } in
+    let number = subst (λ t. IfSome v.table (λ x. slice_get (tables_known layouts) x.number ≡ Some t)) name c.in_ok-table.ensures.number in
+    let last = new-facts sel p (since earlier) c.id.result v c.requires.kind h.passed new (c.id.ensures ∙ id.1) refl refl columns.0 refl in (
+      fault,
+      rw c.requires.kind refl,
+      knows-map-new sel p earlier c.args.self.now _ c.id.result v c.requires.kind passed compared.0 new refl refl
+          (c.in-Ok-insert.ensures.entries ∙ insert_entry-new nat_eq c.args.self.now.maps c.id.result v none) columns.3 c.in_ok-table.ensures.grown (new-numbered (tables_known layouts) v n names number refl) last h,
+    )
+
+pub returns-else-first-clause-checked : goal.returns-else-first-clause-checked
+returns-else-first-clause-checked g c = λ earlier h.
+    let sel : Selection = selection_of c.args.sel.now in
+    let e = event_of c.args.event.now in
+    let p : Placed = record { pos = c.args.event.now.pos; event = e } in
+    let n : Names = map_names c.in-Ok.map in
+    let names : names_of e.body ≡ Some n = or-bad-some (names_of e.body) n (sym c.in-Ok.ensures.exact) in
+    let id = map-id e.body n c.are_bytes.ensures c.in-Ok.ensures.found in
+    let now : is_inside c.args.self.now.place ≡ true = search rules in
+    let inside : is_inside (place earlier) ≡ true = ap is_inside (sym h.place_is) ∙ now in
+    let compared = c.in_ok-first.ensures.compared sel (since earlier) earlier h in
+    let columns = c.in_ok-table.ensures.columns e earlier c.requires.kind names h.layouts_agree in
+    let passed : IsPassed sel p = record { id_len = id.0.len; id_bytes = id.0.bytes; layout = columns.1 } in
+    let fault : event_fault sel earlier p ≡ None = map-fault-named sel p earlier n false c.requires.kind inside names compared.0 ∙ columns.2 in
+    let there : list_any (is_map_of (table_id e.body)) (since earlier) ≡ true = compared.1 ∙ ap not c.if-first.false in (
+      fault,
+      rw c.requires.kind refl,
+      knows-map-seen sel p earlier c.args.self.now _ c.requires.kind passed compared.0 there refl refl refl columns.3 c.in_ok-table.ensures.grown h,
+    )

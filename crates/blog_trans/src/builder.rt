@@ -1,0 +1,160 @@
+//! Walking through a log: each event of the range is checked, and what the groups take of it is kept.
+
+use crate::checker::Checker;
+use crate::counts::Counts;
+use crate::lists::IndexLists;
+use crate::selection::Selection;
+use crate::taken::{KeptRows, Taken};
+use blog_event::{Event, Fault};
+use std::alloc::Allocator;
+
+/// What is known and kept of the events of the range so far.
+#[derive(Drop)]
+pub(crate) struct IndexBuilder<'a, A: Allocator> {
+    pub(crate) checker: Checker<'a, A>,
+    pub(crate) lists: IndexLists<A>,
+    pub(crate) counts: Counts<A>,
+}
+
+impl<'a, A: Allocator + Copy> IndexBuilder<'a, A> {
+    ghost use Rattle.std.specs.Prelude.{◌≡◌, ◌+◌, ◌≤◌, ◌<◌, ◌^◌, ℕ, Option, List, [], ◌∷◌, map, length, Some, None, IsOk, OnOk, IfErr, IfSome, MatchResult, vec_len, vec_capacity};
+    ghost use Rattle.blog_trans.specs.Places.{since};
+    ghost use Rattle.indexmap.specs.IndexMap.{values, index_map_len};
+    ghost use Rattle.blog_event.specs.declared.fault.Fault.TheVariants.{OutOfMemory};
+    ghost use Rattle.blog_event.specs.Fault.{fault_at};
+    ghost use Rattle.blog_event.specs.Event.{event_of};
+    ghost use Rattle.blog_event.specs.File.{Placed};
+    ghost use Rattle.blog_trans.specs.Selection.{Selection as Sel, selection_of};
+    ghost use Rattle.blog_trans.specs.Acceptance.{event_fault};
+    ghost use Rattle.blog_trans.specs.Groups.{PlacedRows};
+    ghost use Rattle.blog_trans.specs.Changes.{table_of};
+    ghost use Rattle.blog_trans.specs.Progress.{Open, Progress, with_rows};
+    ghost use Rattle.blog_trans.specs.TablesView.{tables_known, table_at};
+    ghost use Rattle.blog_trans.specs.StatementMaps.{used_maps};
+    ghost use Rattle.blog_row.specs.declared.kind.RowsKind.{RowsKind};
+    ghost use Rattle.blog_trans.specs.declared.taken.Taken.TheVariants as taken;
+    ghost use Rattle.blog_trans.specs.TakenView.{IsKept, IsTaken};
+    ghost use Rattle.blog_trans.specs.Passing.{HavePassed};
+    ghost use Rattle.blog_trans.specs.Progress.{progress};
+    ghost use Rattle.blog_trans.specs.Refusals.{IsRefusal};
+    ghost use Rattle.blog_trans.specs.ListsView.{closed_by};
+    ghost use Rattle.blog_trans.specs.CheckerView.{HasChecked};
+    ghost use Rattle.blog_trans.specs.CountsView.{AreBelow, AreFew};
+    ghost use Rattle.blog_trans.specs.BuilderView.{HasTaken, IsWithin, IsTakenOrRefused, Keeps, images_of, placed};
+
+    /// Nothing was read yet.
+    pub(crate) fn new(alloc: A) -> Self
+        ensures walks { (sel : Sel) → HasTaken sel [] result }
+        ensures within { IsWithin 0 result }
+    {
+        IndexBuilder {
+            checker: Checker::new(alloc),
+            lists: IndexLists::new(alloc),
+            counts: Counts::new(alloc),
+        }
+    }
+
+    /// Keeps a rows event that begins at `at`.
+    fn keep(&mut self, at: u32, kept: &KeptRows) -> Result<(), Fault>
+        requires few { AreFew 4294967295 self.old.counts }
+        requires images { kept.now.images ≤ 4294967295 }
+        ensures kept { (k : Progress) (o : Open) (r : PlacedRows) → r.event.pos ≡ at → IsKept (tables_known self.old.checker.layouts) (Some kept.now) (Some r) → k.current ≡ Some o
+            → Keeps k self.old → OnOk result (Keeps (record { done = k.done; current = Some (with_rows (Some r) o) }) self.new) }
+        ensures checker { self.new.checker ≡ self.old.checker }
+        ensures few { vec_len self.new.lists.entries ≤ vec_len self.old.lists.entries + 1 }
+        ensures numbers { (n : ℕ) → AreFew n self.old.counts → OnOk result (AreFew (n + kept.now.images) self.new.counts) }
+        ensures refused { IfErr result (λ fault. fault ≡ OutOfMemory) }
+        ensures room { vec_len self.old.lists.entries < vec_capacity self.old.lists.entries → kept.now.table < vec_capacity self.old.counts.rows → IsOk result }
+        ensures entries_capacity { vec_capacity self.old.lists.entries ≤ vec_capacity self.new.lists.entries }
+        ensures rows_capacity { vec_capacity self.old.counts.rows ≤ vec_capacity self.new.counts.rows }
+        ensures statements { self.new.lists.statements ≡ self.old.lists.statements }
+        ensures tables { self.new.counts.tables ≡ self.old.counts.tables }
+    {
+        self.lists.rows(at, kept.map)?;
+        self.counts.count(kept)?;
+        Ok(())
+    }
+
+    /// The open statement ends.
+    fn close(&mut self) -> Result<(), Fault>
+        requires { vec_len self.old.lists.entries + index_map_len self.old.checker.maps < 2 ^ 32 }
+        ensures kept { (k : Progress) (o : Open) (ms : List Placed) → map (λ m. m.at) (used_maps (values self.old.checker.maps)) ≡ map (λ m. m.pos) ms
+            → map (table_at (tables_known self.old.checker.layouts)) (used_maps (values self.old.checker.maps)) ≡ map (λ m. Some (table_of m.event.body)) ms
+            → (o.rows ≡ [] → ms ≡ []) → k.current ≡ Some o → Keeps k self.old
+            → OnOk result (Keeps (record { done = k.done; current = Some (closed_by ms o) }) self.new) }
+        ensures checker { (sel : Sel) (statement earlier : List Placed) → HasChecked sel statement earlier self.old.checker → OnOk result (HasChecked sel [] earlier self.new.checker) }
+        ensures layouts { OnOk result (self.new.checker.layouts ≡ self.old.checker.layouts) }
+        ensures few { OnOk result (vec_len self.new.lists.entries + index_map_len self.new.checker.maps ≤ vec_len self.old.lists.entries + index_map_len self.old.checker.maps) }
+        ensures numbers { (n : ℕ) → AreFew n self.old.counts → OnOk result (AreFew n self.new.counts) }
+        ensures refused { IfErr result (λ fault. fault ≡ OutOfMemory) }
+        ensures room { vec_len self.old.lists.entries + index_map_len self.old.checker.maps ≤ vec_capacity self.old.lists.entries → vec_len self.old.lists.statements < vec_capacity self.old.lists.statements
+            → AreBelow (vec_capacity self.old.counts.rows) (values self.old.checker.maps) → vec_len self.old.counts.tables + length (values self.old.checker.maps) ≤ vec_capacity self.old.counts.tables
+            → IsOk result }
+    {
+        self.lists.close(self.checker.maps())?;
+        self.counts.keep(self.checker.maps())?;
+        self.checker.close();
+        Ok(())
+    }
+
+    /// Keeps a rows event that begins at `at`, if its table is selected.
+    fn keep_if(&mut self, at: u32, kept: Option<KeptRows>) -> Result<(), Fault>
+        requires few { AreFew 4294967295 self.old.counts }
+        requires images { IfSome kept (λ rows. rows.images ≤ 4294967295) }
+        ensures kept { (k : Progress) (o : Open) (x : Option PlacedRows) → ((r : PlacedRows) → x ≡ Some r → r.event.pos ≡ at) → IsKept (tables_known self.old.checker.layouts) kept x → k.current ≡ Some o
+            → Keeps k self.old → OnOk result (Keeps (record { done = k.done; current = Some (with_rows x o) }) self.new) }
+        ensures checker { self.new.checker ≡ self.old.checker }
+        ensures few { vec_len self.new.lists.entries ≤ vec_len self.old.lists.entries + 1 }
+        ensures numbers { (n : ℕ) → AreFew n self.old.counts → OnOk result (AreFew (n + images_of kept) self.new.counts) }
+        ensures refused { IfErr result (λ fault. fault ≡ OutOfMemory) }
+        ensures room { vec_len self.old.lists.entries < vec_capacity self.old.lists.entries → IfSome kept (λ rows. rows.table < vec_capacity self.old.counts.rows) → IsOk result }
+        ensures entries_capacity { vec_capacity self.old.lists.entries ≤ vec_capacity self.new.lists.entries }
+        ensures rows_capacity { vec_capacity self.old.counts.rows ≤ vec_capacity self.new.counts.rows }
+        ensures statements { self.new.lists.statements ≡ self.old.lists.statements }
+        ensures tables { self.new.counts.tables ≡ self.old.counts.tables }
+    {
+        match &kept {
+            Some(kept) => self.keep(at, kept),
+            None => Ok(()),
+        }
+    }
+
+    /// A rows event that begins at `at`, which is kept if its table is selected, and may be the last of its statement.
+    fn take_rows(&mut self, at: u32, kept: Option<KeptRows>, last: bool) -> Result<(), Fault>
+        requires few { AreFew 4294967295 self.old.counts }
+        requires images { IfSome kept (λ rows. rows.images ≤ 4294967295) }
+        requires room { vec_len self.old.lists.entries + index_map_len self.old.checker.maps + 1 < 2 ^ 32 }
+        ensures walks { (sel : Sel) (earlier : List Placed) (p : Placed) → p.pos ≡ at → IsTaken (tables_known self.old.checker.layouts) sel earlier p (taken.Rows kept last) → HavePassed sel (p ∷ earlier)
+            → HasChecked sel (p ∷ since earlier) (p ∷ earlier) self.old.checker → Keeps (progress sel earlier) self.old → OnOk result (HasTaken sel (p ∷ earlier) self.new) }
+        ensures layouts { OnOk result (self.new.checker.layouts ≡ self.old.checker.layouts) }
+        ensures few { OnOk result (vec_len self.new.lists.entries + index_map_len self.new.checker.maps ≤ vec_len self.old.lists.entries + index_map_len self.old.checker.maps + 1) }
+        ensures numbers { (n : ℕ) → AreFew n self.old.counts → OnOk result (AreFew (n + images_of kept) self.new.counts) }
+        ensures refused { IfErr result (λ fault. fault ≡ OutOfMemory) }
+        ensures room { vec_len self.old.lists.entries + index_map_len self.old.checker.maps < vec_capacity self.old.lists.entries → vec_len self.old.lists.statements < vec_capacity self.old.lists.statements → IfSome kept (λ rows. rows.table < vec_capacity self.old.counts.rows)
+            → AreBelow (vec_capacity self.old.counts.rows) (values self.old.checker.maps) → vec_len self.old.counts.tables + length (values self.old.checker.maps) ≤ vec_capacity self.old.counts.tables
+            → IsOk result }
+    {
+        self.keep_if(at, kept)?;
+        if last {
+            self.close()?;
+        }
+        Ok(())
+    }
+
+    /// One more event of the range: what the groups take of it is kept, or the first check that it fails is answered.
+    pub(crate) fn step(&mut self, sel: &Selection<'_>, event: &Event<'a>) -> Result<(), Fault>
+        requires within { IsWithin event.now.pos self.old }
+        requires ends { event.now.pos + (19 + length event.now.body.now) < 2 ^ 32 }
+        ensures walks { (earlier : List Placed) → HasTaken (selection_of sel.now) earlier self.old
+            → IsTakenOrRefused (event_fault (selection_of sel.now) earlier (placed event.now)) (selection_of sel.now) (placed event.now ∷ earlier) event.now.pos result self.new }
+        ensures within { OnOk result (IsWithin (event.now.pos + (19 + length event.now.body.now)) self.new) }
+    {
+        match self.checker.check(sel, event)? {
+            Taken::Nothing => {}
+            Taken::Begin => self.lists.begin(event.pos)?,
+            Taken::End => self.lists.end(event.pos)?,
+            Taken::Rows { kept, last } => self.take_rows(event.pos, kept, last)?,
+        }
+        Ok(())
+    }
+}

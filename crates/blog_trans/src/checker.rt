@@ -1,0 +1,291 @@
+//! Checking events: whether one may stand where it stands, and what the groups take of it.
+
+ghost use Rattle.std.specs.Prelude.{◌≡◌, ◌<◌, ◌≤◌, ◌+◌, ◌^◌, true, List, [], length, None, Some, Ok, OnOk, IfOk, is_some, option_map, nat_eq};
+ghost use Rattle.std.specs.Option.{option_map_or};
+ghost use Rattle.indexmap.specs.IndexMap.{index_map_len, get, IsEmpty};
+ghost use Rattle.byteorder.specs.Endian.{little_number};
+ghost use Rattle.blog_event.specs.Event.{Event as Fields, event_of};
+ghost use Rattle.blog_event.specs.Fault.{first_failing};
+ghost use Rattle.blog_event.specs.File.{Placed, AreBytes};
+ghost use Rattle.blog_row.specs.Column.{Layout};
+ghost use Rattle.blog_row.specs.LayoutView.{layout_columns};
+ghost use Rattle.blog_row.specs.TableMap.{HasNames};
+ghost use Rattle.blog_row.specs.TableMapView.{map_names};
+ghost use Rattle.blog_trans.specs.Acceptance.{end_checks};
+ghost use Rattle.blog_trans.specs.Kinds.{kind_of, is_end_kind};
+ghost use Rattle.blog_trans.specs.declared.kind.EventKind.TheVariants as told;
+ghost use Rattle.blog_trans.specs.CheckerView.{HasChecked, IsChecked, IsCheckedBy, IsReadBy, IsMapCompared};
+ghost use Rattle.blog_trans.specs.Places.{since};
+ghost use Rattle.blog_trans.specs.TablesView.{tables_known, HaveGrown};
+ghost use Rattle.blog_trans.specs.TakenView.{images_taken};
+ghost use Rattle.blog_trans.specs.Selection.{Selection as Sel, selection_of};
+
+use crate::kind::{EventKind, event_kind};
+use crate::layouts::{Layouts, body_fault, take_table};
+use crate::maps::{MapSeen, Maps};
+use crate::place::Place;
+use crate::selection::Selection;
+use crate::table_name::TableName;
+use crate::taken::{KeptRows, Taken};
+use blog_event::{Event, Fault};
+use blog_row::{RowsEvent, RowsHead, RowsKind, TableMap};
+use indexmap::IndexMap;
+use std::alloc::Allocator;
+use std::hash::BuildHasherDefault;
+
+/// The size of an Xid event's body in bytes.
+const XID_LEN: usize = 8;
+
+/// What has to be known of the events before one to checker it.
+#[derive(Drop)]
+pub(crate) struct Checker<'a, A: Allocator> {
+    place: Place,
+    // Whether the open statement has a rows event.
+    has_rows: bool,
+    // The first table map of each table id in the open statement.
+    maps: Maps<'a, A>,
+    // The columns of each selected table in the range.
+    pub(crate) layouts: Layouts<'a, A>,
+}
+
+/// A body is a list of bytes: nothing is done, but the proofs of its callers know it then.
+fn are_bytes(body: &[u8])
+    ensures { AreBytes body.now }
+{}
+
+/// A rows event by its map, where its table is selected.
+fn kept_rows<'a>(
+    map: &MapSeen<'a>,
+    kind: RowsKind,
+    event: &Event<'a>,
+) -> Result<Option<KeptRows>, Fault>
+    ensures unselected { map.now.table ≡ None → result ≡ Ok None }
+    ensures read { (layout : Layout) → option_map (λ t. layout_columns t.layout) map.now.table ≡ Some layout → IsReadBy kind layout (record { pos = event.now.pos; event = event_of event.now }) map.now result }
+    ensures selected { IfOk result (λ kept. is_some kept ≡ is_some map.now.table) }
+    ensures images { IfOk result (λ kept. option_map_or (λ rows. rows.images) kept 0 ≤ length event.now.body.now) }
+{
+    let Some(table) = &map.table else {
+        return Ok(None);
+    };
+    let read = match RowsEvent::read_counted(kind, event.body, &table.layout) {
+        Ok(read) => read,
+        Err(fault) => return Err(body_fault(fault, event.pos)),
+    };
+    Ok(Some(KeptRows {
+        map: map.at,
+        table: table.number,
+        action: kind.action,
+        images: read.1,
+    }))
+}
+
+impl<'a, A: Allocator + Copy> Checker<'a, A> {
+    /// Nothing is known: no event was checked.
+    pub(crate) fn new(alloc: A) -> Self
+        ensures known { (sel : Sel) → HasChecked sel [] [] result }
+        ensures empty { index_map_len result.maps ≡ 0 }
+        ensures layouts { IsEmpty result.layouts }
+    {
+        Checker {
+            place: Place::Outside,
+            has_rows: false,
+            maps: IndexMap::with_hasher(alloc, BuildHasherDefault::new()),
+            layouts: IndexMap::with_hasher(alloc, BuildHasherDefault::new()),
+        }
+    }
+
+    /// Where the next event stands.
+    pub(crate) fn place(&self) -> Place
+        ensures { result ≡ self.now.place }
+    {
+        self.place
+    }
+
+    /// The table maps of the open statement.
+    pub(crate) fn maps(&self) -> &Maps<'a, A>
+        ensures { result.now ≡ self.now.maps }
+    {
+        &self.maps
+    }
+
+    /// The columns of the selected tables, when no more events are checked.
+    pub(crate) fn into_layouts(self) -> Layouts<'a, A>
+        ensures { result ≡ self.entry.layouts }
+    {
+        self.layouts
+    }
+
+    /// Checks the next event of the range: what the groups take of it, or the first check that it fails.
+    pub(crate) fn check(&mut self, sel: &Selection<'_>, event: &Event<'a>) -> Result<Taken, Fault>
+        requires few { index_map_len self.old.layouts < 2 ^ 32 }
+        ensures checked { IsChecked (selection_of sel.now) (record { pos = event.now.pos; event = event_of event.now }) self.old result self.new }
+        ensures len { OnOk result (index_map_len self.new.maps ≤ index_map_len self.old.maps + 1) }
+        ensures images { IfOk result (λ taken. images_taken taken ≤ length event.now.body.now) }
+        ensures grown { OnOk result (HaveGrown (tables_known self.old.layouts) (tables_known self.new.layouts)) }
+        ensures tables { OnOk result (index_map_len self.new.layouts ≤ index_map_len self.old.layouts + 1) }
+    {
+        let pos = event.pos;
+        match event_kind(event) {
+            EventKind::Begin => self.begin(pos),
+            EventKind::Commit => self.end(pos),
+            EventKind::Xid if event.body.len() != XID_LEN => Err(Fault::BadBody { pos }),
+            EventKind::Xid => self.end(pos),
+            EventKind::Rollback => Err(Fault::RolledBack { pos }),
+            EventKind::Savepoint if self.place.is_inside() => Ok(Taken::Nothing),
+            EventKind::Savepoint => Err(Fault::OutOfPlace { pos }),
+            EventKind::OtherQuery | EventKind::StatementChange => Err(Fault::Statement { pos }),
+            EventKind::BadQuery => Err(Fault::BadBody { pos }),
+            EventKind::Announcement => self.announce(pos),
+            EventKind::Between if self.place.is_outside() => Ok(Taken::Nothing),
+            EventKind::Between | EventKind::SecondFormat => Err(Fault::OutOfPlace { pos }),
+            EventKind::RowsQuery | EventKind::Skippable => Ok(Taken::Nothing),
+            EventKind::TableMap => self.take_map(sel, event),
+            EventKind::Rows(kind) => self.take_rows(kind, event),
+            EventKind::PartialRows => Err(Fault::PartialImage { pos }),
+            EventKind::Unknown => Err(Fault::UnknownEvent { pos }),
+        }
+    }
+
+    /// A `BEGIN`: a transaction begins, and with it a statement.
+    fn begin(&mut self, pos: u32) -> Result<Taken, Fault>
+        ensures checked { (sel : Sel) (e : Fields) → kind_of e ≡ told.Begin → IsChecked sel (record { pos = pos; event = e }) self.old result self.new }
+        ensures len { OnOk result (index_map_len self.new.maps ≡ 0) }
+        ensures images { IfOk result (λ taken. images_taken taken ≡ 0) }
+        ensures layouts { OnOk result (self.new.layouts ≡ self.old.layouts) }
+    {
+        if self.place.is_inside() {
+            return Err(Fault::OutOfPlace { pos });
+        }
+        self.close();
+        self.place = Place::Inside;
+        Ok(Taken::Begin)
+    }
+
+    /// The end of a transaction.
+    fn end(&mut self, pos: u32) -> Result<Taken, Fault>
+        ensures checked { (sel : Sel) (e : Fields) (earlier : List Placed) → is_end_kind (kind_of e) ≡ true → HasChecked sel (since earlier) earlier self.old → IsCheckedBy (first_failing (end_checks earlier)) sel earlier (record { pos = pos; event = e }) result self.new }
+        ensures maps { self.new.maps ≡ self.old.maps }
+        ensures images { IfOk result (λ taken. images_taken taken ≡ 0) }
+        ensures layouts { self.new.layouts ≡ self.old.layouts }
+    {
+        if !self.place.is_inside() {
+            return Err(Fault::OutOfPlace { pos });
+        }
+        if self.has_rows {
+            return Err(Fault::Unended { pos });
+        }
+        self.place = Place::Outside;
+        Ok(Taken::End)
+    }
+
+    /// The id of a transaction.
+    fn announce(&mut self, pos: u32) -> Result<Taken, Fault>
+        ensures checked { (sel : Sel) (e : Fields) → kind_of e ≡ told.Announcement → IsChecked sel (record { pos = pos; event = e }) self.old result self.new }
+        ensures maps { self.new.maps ≡ self.old.maps }
+        ensures images { IfOk result (λ taken. images_taken taken ≡ 0) }
+        ensures layouts { self.new.layouts ≡ self.old.layouts }
+    {
+        if !self.place.is_outside() {
+            return Err(Fault::OutOfPlace { pos });
+        }
+        self.place = Place::Announced;
+        Ok(Taken::Nothing)
+    }
+
+    /// Whether a table map is the first of its table id in the open statement; a later one has the same body.
+    fn is_first(&self, map: &TableMap<'a>, event: &Event<'a>) -> Result<bool, Fault>
+        requires { HasNames event.now.body.now (map_names map.now) }
+        ensures absent { IfOk result (λ first. first ≡ true → get nat_eq self.now.maps (little_number 6 (map_names map.now).id) ≡ None) }
+        ensures compared { (sel : Sel) (statement earlier : List Placed) → HasChecked sel statement earlier self.now → IsMapCompared statement (record { pos = event.now.pos; event = event_of event.now }) result }
+    {
+        are_bytes(event.body);
+        match self.maps.get(&map.id()) {
+            Some(known) if known.body != event.body => Err(Fault::MapClash { pos: event.pos }),
+            Some(_) => Ok(false),
+            None => Ok(true),
+        }
+    }
+
+    /// A table map.
+    fn take_map(&mut self, sel: &Selection<'_>, event: &Event<'a>) -> Result<Taken, Fault>
+        requires kind { kind_of (event_of event.now) ≡ told.TableMap }
+        requires few { index_map_len self.old.layouts < 2 ^ 32 }
+        ensures checked { IsChecked (selection_of sel.now) (record { pos = event.now.pos; event = event_of event.now }) self.old result self.new }
+        ensures len { OnOk result (index_map_len self.new.maps ≤ index_map_len self.old.maps + 1) }
+        ensures images { IfOk result (λ taken. images_taken taken ≡ 0) }
+        ensures grown { OnOk result (HaveGrown (tables_known self.old.layouts) (tables_known self.new.layouts)) }
+        ensures tables { OnOk result (index_map_len self.new.layouts ≤ index_map_len self.old.layouts + 1) }
+    {
+        let pos = event.pos;
+        if !self.place.is_inside() {
+            return Err(Fault::OutOfPlace { pos });
+        }
+        let map = match TableMap::read(event.body) {
+            Ok(map) => map,
+            Err(fault) => return Err(body_fault(fault, pos)),
+        };
+        let first = self.is_first(&map, event)?;
+        let name = TableName {
+            schema: map.schema(),
+            table: map.table(),
+        };
+        let table = take_table(&mut self.layouts, sel, name, &map, pos)?;
+        are_bytes(event.body);
+        if first {
+            let seen = MapSeen {
+                at: pos,
+                body: event.body,
+                table,
+                used: false,
+            };
+            let Ok(_) = self.maps.insert(map.id(), seen) else {
+                return Err(Fault::OutOfMemory);
+            };
+        }
+        Ok(Taken::Nothing)
+    }
+
+    /// A rows event.
+    fn take_rows(&mut self, kind: RowsKind, event: &Event<'a>) -> Result<Taken, Fault>
+        requires { kind_of (event_of event.now) ≡ told.Rows kind }
+        ensures checked { (sel : Sel) → IsChecked sel (record { pos = event.now.pos; event = event_of event.now }) self.old result self.new }
+        ensures len { OnOk result (index_map_len self.new.maps ≡ index_map_len self.old.maps) }
+        ensures images { IfOk result (λ taken. images_taken taken ≤ length event.now.body.now) }
+        ensures layouts { OnOk result (self.new.layouts ≡ self.old.layouts) }
+    {
+        let pos = event.pos;
+        if !self.place.is_inside() {
+            return Err(Fault::OutOfPlace { pos });
+        }
+        let head = match RowsHead::read(kind.version, event.body) {
+            Ok(head) => head,
+            Err(fault) => return Err(body_fault(fault, pos)),
+        };
+        are_bytes(event.body);
+        let Some(map) = self.maps.get_mut(&head.table_id()) else {
+            return Err(Fault::NoMap { pos });
+        };
+        let kept = kept_rows(map, kind, event)?;
+        map.used = kept.is_some();
+        self.has_rows = true;
+        Ok(Taken::Rows {
+            kept,
+            last: head.ends(),
+        })
+    }
+
+    /// The open statement ends: a new one has no maps and no rows events yet.
+    pub(crate) fn close(&mut self)
+        ensures known { (sel : Sel) (statement earlier : List Placed) → HasChecked sel statement earlier self.old → HasChecked sel [] earlier self.new }
+        ensures empty { index_map_len self.new.maps ≡ 0 }
+        ensures place { self.new.place ≡ self.old.place }
+        ensures layouts { self.new.layouts ≡ self.old.layouts }
+    {
+        self.has_rows = false;
+        self.maps.clear();
+        // Clearing takes time by the capacity, which one large statement must not leave to all later ones.
+        if self.maps.capacity() > 64 {
+            self.maps.shrink_to_fit();
+        }
+    }
+}

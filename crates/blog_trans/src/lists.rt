@@ -1,0 +1,186 @@
+//! Keeping the events of the groups: the lists of the index, as they grow.
+
+ghost use Rattle.std.specs.Prelude.{◌≡◌, ◌+◌, ◌<◌, ◌≤◌, ◌^◌, List, [], ◌∷◌, ◌++◌, map, take, drop, length, Some, None, IsOk, OnOk, OnErr, IfOk, IfErr, vec_len, vec_capacity};
+ghost use Rattle.indexmap.specs.IndexMap.{index_map_len, values};
+ghost use Rattle.blog_event.specs.declared.fault.Fault.TheVariants.{OutOfMemory};
+ghost use Rattle.blog_event.specs.File.{Placed};
+ghost use Rattle.blog_trans.specs.Groups.{PlacedRows};
+ghost use Rattle.blog_trans.specs.Progress.{Open, Progress, ended, with_rows};
+ghost use Rattle.blog_trans.specs.StatementMaps.{used_maps};
+ghost use Rattle.blog_trans.specs.Entries.{map_entries};
+
+use crate::entry::{Entry, StatementStart, TransactionStart};
+use crate::maps::Maps;
+use blog_event::Fault;
+use std::alloc::Allocator;
+
+/// The lists of what is kept of the events so far.
+#[derive(Drop)]
+pub(crate) struct IndexLists<A: Allocator> {
+    pub(crate) entries: Vec<Entry, A>,
+    pub(crate) transactions: Vec<TransactionStart, A>,
+    pub(crate) statements: Vec<StatementStart, A>,
+    // Where the open transaction begins in the list of entries, and where its open statement does.
+    pub(crate) transaction_start: u32,
+    pub(crate) statement_start: u32,
+    // How many statements were kept before the open transaction.
+    pub(crate) first_statement: u32,
+    ghost start_in: { transaction_start ≤ vec_len entries },
+    ghost statement_in: { statement_start ≤ vec_len entries },
+    ghost few_statements: { vec_len statements ≤ statement_start },
+    ghost few_before: { first_statement ≤ transaction_start },
+}
+
+impl<A: Allocator + Copy> IndexLists<A> {
+    ghost use Rattle.blog_trans.specs.ListsView.{HasKept, closed_by};
+
+    /// Nothing is kept yet.
+    pub(crate) fn new(alloc: A) -> Self
+        ensures { HasKept result (record { done = []; current = None }) }
+    {
+        IndexLists {
+            entries: Vec::new(alloc),
+            transactions: Vec::new(alloc),
+            statements: Vec::new(alloc),
+            transaction_start: 0,
+            statement_start: 0,
+            first_statement: 0,
+        }
+    }
+}
+
+impl<A: Allocator> IndexLists<A> {
+    ghost use Rattle.blog_trans.specs.ListsView.{HasKept, closed_by};
+
+    /// A transaction begins.
+    pub(crate) fn begin(&mut self, at: u32) -> Result<(), Fault>
+        requires { vec_len self.old.entries + 1 < 2 ^ 32 }
+        ensures kept { (k : Progress) (p : Placed) → p.pos ≡ at → k.current ≡ None → HasKept self.old k
+            → OnOk result (HasKept self.new (record { done = k.done; current = Some (record { begin = p; statements = []; rows = [] }) })) }
+        ensures refused { IfErr result (λ fault. fault ≡ OutOfMemory) }
+        ensures few { vec_len self.new.entries ≤ vec_len self.old.entries + 1 }
+        ensures room { vec_len self.old.entries < vec_capacity self.old.entries → IsOk result }
+        ensures capacity { vec_capacity self.old.entries ≤ vec_capacity self.new.entries }
+    {
+        self.transaction_start = self.entries.len() as u32;
+        self.first_statement = self.statements.len() as u32;
+        push(&mut self.entries, Entry { at, map: 0 })?;
+        self.statement_start = self.entries.len() as u32;
+        Ok(())
+    }
+
+    /// A rows event of the open statement, whose table map begins at `map`.
+    pub(crate) fn rows(&mut self, at: u32, map: u32) -> Result<(), Fault>
+        ensures kept { (k : Progress) (o : Open) (r : PlacedRows) → r.event.pos ≡ at → r.map.pos ≡ map → k.current ≡ Some o → HasKept self.old k
+            → OnOk result (HasKept self.new (record { done = k.done; current = Some (with_rows (Some r) o) })) }
+        ensures refused { IfErr result (λ fault. fault ≡ OutOfMemory) }
+        ensures few { vec_len self.new.entries ≤ vec_len self.old.entries + 1 }
+        ensures room { vec_len self.old.entries < vec_capacity self.old.entries → IsOk result }
+        ensures capacity { vec_capacity self.old.entries ≤ vec_capacity self.new.entries }
+        ensures statements { self.new.statements ≡ self.old.statements }
+    {
+        push(&mut self.entries, Entry { at, map })
+    }
+
+    /// The open statement ends: the maps that its rows events use come in front of these.
+    pub(crate) fn close<'a>(&mut self, maps: &Maps<'a, A>) -> Result<(), Fault>
+        requires { vec_len self.old.entries + index_map_len maps.now < 2 ^ 32 }
+        ensures kept { (k : Progress) (o : Open) (ms : List Placed) → map (λ m. m.at) (used_maps (values maps.now)) ≡ map (λ m. m.pos) ms
+            → k.current ≡ Some o → HasKept self.old k → OnOk result (HasKept self.new (record { done = k.done; current = Some (closed_by ms o) })) }
+        ensures refused { IfErr result (λ fault. fault ≡ OutOfMemory) }
+        ensures few { vec_len self.new.entries ≤ vec_len self.old.entries + index_map_len maps.now }
+        ensures room { vec_len self.old.entries + index_map_len maps.now ≤ vec_capacity self.old.entries → vec_len self.old.statements < vec_capacity self.old.statements → IsOk result }
+        ensures capacity { vec_capacity self.old.entries ≤ vec_capacity self.new.entries }
+    {
+        let start = self.statement_start as usize;
+        if self.entries.len() == start {
+            return Ok(());
+        }
+        let maps = put_maps(&mut self.entries, maps, start)?;
+        let entry = self.statement_start;
+        push(&mut self.statements, StatementStart { entry, maps })?;
+        self.statement_start = self.entries.len() as u32;
+        Ok(())
+    }
+
+    /// The open transaction ends: it is left out if no statement of it is kept.
+    pub(crate) fn end(&mut self, at: u32) -> Result<(), Fault>
+        requires { vec_len self.old.entries + 1 < 2 ^ 32 }
+        ensures kept { (k : Progress) (o : Open) (p : Placed) → p.pos ≡ at → k.current ≡ Some o → o.rows ≡ [] → HasKept self.old k
+            → OnOk result (HasKept self.new (ended p k.done o)) }
+        ensures refused { IfErr result (λ fault. fault ≡ OutOfMemory) }
+        ensures few { vec_len self.new.entries ≤ vec_len self.old.entries + 1 }
+        ensures room { vec_len self.old.entries < vec_capacity self.old.entries → vec_len self.old.transactions < vec_capacity self.old.transactions → IsOk result }
+        ensures capacity { vec_capacity self.old.entries ≤ vec_capacity self.new.entries }
+    {
+        let (entry, statement) = (self.transaction_start, self.first_statement);
+        if self.statements.len() == statement as usize {
+            self.statement_start = entry;
+            self.entries.truncate(entry as usize);
+            return Ok(());
+        }
+        push(&mut self.entries, Entry { at, map: 0 })?;
+        push(
+            &mut self.transactions,
+            TransactionStart { entry, statement },
+        )?;
+        self.transaction_start = self.entries.len() as u32;
+        Ok(())
+    }
+}
+
+/// Adds an element to a list. That is refused only where there is no room for it.
+fn push<T: Copy, A: Allocator>(list: &mut Vec<T, A>, item: T) -> Result<(), Fault>
+    ensures items { OnOk result (list.new.items ≡ list.old.items ++ item ∷ []) }
+    ensures refused { IfErr result (λ fault. fault ≡ OutOfMemory) }
+    ensures least { vec_len list.old ≤ vec_len list.new }
+    ensures few { vec_len list.new ≤ vec_len list.old + 1 }
+    ensures same { OnErr result (vec_len list.new ≡ vec_len list.old) }
+    ensures room { vec_len list.old < vec_capacity list.old → IsOk result }
+    ensures capacity { vec_capacity list.old ≤ vec_capacity list.new }
+{
+    let Ok(_) = list.push(item) else {
+        return Err(Fault::OutOfMemory);
+    };
+    Ok(())
+}
+
+/// Adds an entry for each map that is used.
+fn push_maps<'a, A: Allocator>(entries: &mut Vec<Entry, A>, maps: &Maps<'a, A>) -> Result<(), Fault>
+    ensures items { OnOk result (entries.new.items ≡ entries.old.items ++ map_entries (used_maps (values maps.now))) }
+    ensures refused { IfErr result (λ fault. fault ≡ OutOfMemory) }
+    ensures least { vec_len entries.old ≤ vec_len entries.new }
+    ensures few { vec_len entries.new ≤ vec_len entries.old + index_map_len maps.now }
+    ensures room { vec_len entries.old + index_map_len maps.now ≤ vec_capacity entries.old → IsOk result }
+    ensures capacity { vec_capacity entries.old ≤ vec_capacity entries.new }
+{
+    for map in maps.values() {
+        if map.used {
+            push(entries, Entry { at: map.at, map: 0 })?;
+        }
+    }
+    Ok(())
+}
+
+/// Puts entries of the maps that are used in front of those from `start` on, and answers their number.
+fn put_maps<'a, A: Allocator>(
+    entries: &mut Vec<Entry, A>,
+    maps: &Maps<'a, A>,
+    start: usize,
+) -> Result<u32, Fault>
+    requires within { start ≤ vec_len entries.old }
+    requires room { vec_len entries.old + index_map_len maps.now < 2 ^ 32 }
+    ensures items { OnOk result (entries.new.items ≡ take start entries.old.items ++ (map_entries (used_maps (values maps.now)) ++ drop start entries.old.items)) }
+    ensures counted { IfOk result (λ n. n ≡ length (used_maps (values maps.now))) }
+    ensures refused { IfErr result (λ fault. fault ≡ OutOfMemory) }
+    ensures least { vec_len entries.old ≤ vec_len entries.new }
+    ensures few { vec_len entries.new ≤ vec_len entries.old + index_map_len maps.now }
+    ensures room { vec_len entries.old + index_map_len maps.now ≤ vec_capacity entries.old → IsOk result }
+    ensures capacity { vec_capacity entries.old ≤ vec_capacity entries.new }
+{
+    let before = entries.len();
+    push_maps(entries, maps)?;
+    let added = entries.len() - before;
+    entries[start..].rotate_right(added);
+    Ok(added as u32)
+}
