@@ -6,6 +6,7 @@ use Rattle.std.specs.Char.{is_ascii_digit}
 use Rattle.std.specs.List.{list_all}
 use Rattle.byteorder.specs.Endian.{little_number}
 use Rattle.blog_event.specs.declared.fault.Fault.TheVariants.{BadFormat, OldServer, Checksums}
+use Rattle.blog_event.specs.declared.format.Version as told
 use Rattle.blog_event.specs.Fault.{Cause, needs, first_failing}
 use Rattle.blog_event.specs.Event.{Event}
 
@@ -16,6 +17,10 @@ pub record Version : Type 0 where
   pub major : ℕ
   pub minor : ℕ
   pub patch : ℕ
+
+-- a version of the program, by its numbers
+abbrev pub version_value : told.Version → Version
+version_value v = record { major = v.major; minor = v.minor; patch = v.patch }
 
 -- the elements in front of the first that fails the test
 abbrev pub front_while : {A : Type 0} → (A → Bool) → List A → List A

@@ -4,9 +4,7 @@ pub mod File
 pub mod Format
 pub mod Reading
 pub mod Writing
-pub mod Versions
 pub mod Opening
 pub mod Going
 pub mod LogView
 pub mod Items
-pub mod EventsView

@@ -7,8 +7,7 @@ ghost use Rattle.std.specs.Result.{result_err};
 ghost use Rattle.std.specs.Char.{is_ascii_digit};
 ghost use Rattle.blog_event.specs.Event.{event_of};
 ghost use Rattle.blog_event.specs.Fault.{fault_at, first_failing};
-ghost use Rattle.blog_event.specs.Format.{front_while, decimal, number_front, after_point, version_of, version_text, binlog_version, header_length, post_header_length, has_lengths, old_lengths, checked_lengths, is_old, server_checks, algorithm, description_fault, format_fault};
-ghost use Rattle.blog_event.specs.Versions.{version_value};
+ghost use Rattle.blog_event.specs.Format.{front_while, decimal, number_front, after_point, version_of, version_text, binlog_version, header_length, post_header_length, has_lengths, old_lengths, checked_lengths, is_old, server_checks, algorithm, description_fault, format_fault, version_value};
 
 use crate::constants::{
     DELETE_ROWS_EVENT, DELETE_ROWS_EVENT_V1, FORMAT_DESCRIPTION_EVENT, QUERY_EVENT,

@@ -1,8 +1,7 @@
 use Rattle.std.proofs.Common.{◌≡◌, ◌+◌, ◌-◌, ◌≤◌, length}
 use Rattle.std.specs.Prelude.{◌/◌}
-use Rattle.blog_event.specs.EventsView.{items_left, most_left}
+use Rattle.blog_event.specs.LogView.{items_left, most_left, log_bytes}
 use Rattle.blog_event.specs.Items.{items_from}
-use Rattle.blog_event.specs.LogView.{log_bytes}
 use Rattle.bench_layers.proofs.event_layer.walk.Given as goal
 
 -- the items that the iterator still gives are left to be counted

@@ -1,6 +1,6 @@
 -- The server version.
 use Rattle.std.proofs.Common.{ap, ◌∙◌, option_map}
-use Rattle.blog_event.specs.Versions.{version_value}
+use Rattle.blog_event.specs.Format.{version_value}
 use Rattle.blog_event.proofs.FormatCode.{version-of-one, version-of-two, version-of-three, version-of-four, version-of-five, version-of-all}
 use Rattle.blog_event.proofs.format.version_of.Goals as goal
 
