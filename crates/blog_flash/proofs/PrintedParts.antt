@@ -15,8 +15,7 @@ use Rattle.blog_row.specs.Image.{row_of}
 use Rattle.blog_row.specs.LayoutView.{layout_columns}
 use Rattle.blog_row.specs.RowsEvent.{RowsBody, updated_rows, rows_by}
 use Rattle.blog_row.specs.RowsEventView.{rows_body}
-use Rattle.blog_row.specs.TableMap.{Table, Names, names_of, layout_of}
-use Rattle.blog_row.specs.TableMapView.{map_names}
+use Rattle.blog_row.specs.TableMap.{Table, Names, names_of, layout_of, map_names}
 use Rattle.blog_trans.specs.Changes.{counts_of, Inserted, Deleted, Updated, updates, row_by, table_of, changes_by_action, changes_of_rows}
 use Rattle.blog_trans.specs.Groups.{PlacedRows, PlacedTransaction, Transaction, rows_value, statement_value, transaction_value, placed_groups, groups}
 use Rattle.blog_trans.specs.Selection.{Selection}

@@ -4,7 +4,7 @@ ghost use Rattle.std.specs.Prelude.{◌≡◌, ◌+◌, ◌≤◌, ◌++◌, len
 ghost use Rattle.blog_row.specs.LayoutView.{layout_columns};
 ghost use Rattle.blog_row.specs.RowsEvent.{rows_by};
 ghost use Rattle.blog_row.specs.RowsEventView.{rows_kind, rows_layout, rows_body};
-ghost use Rattle.blog_row.specs.TableMapView.{map_names};
+ghost use Rattle.blog_row.specs.TableMap.{map_names};
 ghost use Rattle.blog_trans.specs.Groups.{groups};
 ghost use Rattle.blog_trans.specs.GroupEventsView.{event_seen, IsWhole};
 ghost use Rattle.blog_trans.specs.IndexView.{index_bytes, index_selection};

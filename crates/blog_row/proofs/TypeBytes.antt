@@ -5,7 +5,7 @@ use Rattle.std.proofs.lemmas.List.{drop_all}
 use Rattle.std.proofs.lemmas.Bool.{and_parts}
 use Rattle.std.specs.List.{list_all}
 use Rattle.blog_row.specs.Column.{metadata_len_of, storage_by, is_column, own_metadata_len, metadata_total, columns_of}
-use Rattle.blog_row.specs.ColumnStep.{column_here, are_known, total_of}
+use Rattle.blog_row.specs.LayoutReading.{column_here, are_known, total_of}
 use Rattle.blog_row.proofs.Layouts.{column_len}
 
 -- the type at i, and those after it

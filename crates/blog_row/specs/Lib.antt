@@ -6,15 +6,10 @@ pub mod Image
 pub mod TableMap
 pub mod RowsEvent
 pub mod Laws
-pub mod PackedView
-pub mod NamesView
-pub mod LayoutView
 pub mod StorageView
-pub mod CutView
 pub mod ImageView
-pub mod ColumnStep
 pub mod LayoutReading
-pub mod TableMapView
+pub mod LayoutView
 pub mod RowsEventView
 pub mod RowsView
 pub mod RowsWriting

@@ -1,6 +1,7 @@
 -- Packed integers (MySQL Internals manual, "Packed Integer"; in the protocol, "Length-Encoded Integer").
 use Rattle.std.specs.Prelude.{◌≡◌, ℕ, ◌==◌, nat_le, if◌then◌else◌, List, [], ◌∷◌, length, Option, Some, None, option_and_then, option_map}
 use Rattle.byteorder.specs.Endian.{little_number}
+use Rattle.blog_row.specs.declared.packed.Packed.{Packed}
 use Rattle.blog_row.specs.Checks.{cut}
 
 -- how many bytes of value follow the first byte: none up to 250, which is the value itself
@@ -27,3 +28,7 @@ unfoldable pub packed_front : List ℕ → Option (ℕ × List ℕ × List ℕ)
 packed_front [] = None
 packed_front (first ∷ bytes) =
     option_and_then (λ more. option_map (λ p. (packed_value first p.0, first ∷ p.0, p.1)) (cut more bytes)) (announced first)
+
+-- the same of a packed integer of the program
+abbrev pub packed_seen : Packed → ℕ × List ℕ × List ℕ
+packed_seen p = (p.value, p.spelling.now, p.rest.now)

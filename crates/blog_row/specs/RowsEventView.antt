@@ -7,7 +7,7 @@ use Rattle.blog_row.specs.declared.fault.RowFault.TheVariants.{BadBody}
 use Rattle.blog_row.specs.declared.kind.RowsAction.{RowsAction}
 use Rattle.blog_row.specs.declared.kind.RowsKind.{RowsKind}
 use Rattle.blog_row.specs.declared.kind.RowsVersion.{RowsVersion}
-use Rattle.blog_row.specs.declared.rows_head.RowsHead as head
+use Rattle.blog_row.specs.declared.rows_event.RowsHead as head
 use Rattle.blog_row.specs.declared.rows_parts.Extra as extra
 use Rattle.blog_row.specs.declared.rows_parts.Front as front
 use Rattle.blog_row.specs.declared.rows_parts.Bitmaps as bits

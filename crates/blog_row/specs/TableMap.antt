@@ -1,8 +1,10 @@
 -- The body of a table map (MySQL Internals manual, "Table_map_event").
-use Rattle.std.specs.Prelude.{◌≡◌, ◌<◌, ◌≤◌, ℕ, ◌==◌, nat_le, ◌&&◌, if◌then◌else◌, Bool, true, List, [], ◌∷◌, ◌++◌, length, slice_index, Option, Some, None, is_some, Result, Ok, option_and_then, option_map, bytes_eq}
+use Rattle.std.specs.Prelude.{◌≡◌, ◌<◌, ◌≤◌, ℕ, ◌==◌, nat_le, ◌&&◌, if◌then◌else◌, Bool, true, List, [], ◌∷◌, ◌++◌, length, slice_index, Option, Some, None, is_some, Result, Ok, Err, option_and_then, option_map, bytes_eq}
 use Rattle.std.specs.List.{list_all}
 use Rattle.blog_row.specs.declared.fault.RowFault.{RowFault}
 use Rattle.blog_row.specs.declared.fault.RowFault.TheVariants.{BadBody, UnknownType}
+use Rattle.blog_row.specs.declared.names.Names as front
+use Rattle.blog_row.specs.declared.table_map.TableMap as told
 use Rattle.blog_row.specs.Checks.{◌>>=◌, check, or_bad, cut}
 use Rattle.blog_row.specs.Packed.{IsPacked, packed_front}
 use Rattle.blog_row.specs.Column.{Layout, is_column, types_of, metadata_of, metadata_len_of, metadata_total, columns_of}
@@ -93,3 +95,18 @@ layout_of body = do
 -- equal column count, type bytes and metadata bytes
 abbrev pub is_same_layout : Layout → Layout → Bool
 is_same_layout a b = bytes_eq (types_of a) (types_of b) && bytes_eq (metadata_of a) (metadata_of b)
+
+-- ---- what a contract sees of the program's
+
+-- the fields up to the names, without where they lie
+abbrev pub names_seen : front.Names → Names
+names_seen names = record { id = names.id.now; flags = names.flags.now; table = record { schema = names.schema.now; name = names.table.now }; rest = names.rest.now }
+
+-- the fields up to the names, and the bytes behind them
+abbrev pub map_names : told.TableMap → Names
+map_names map = names_seen map.names
+
+-- the names that were read, or why the body is refused
+abbrev pub map_seen : Result told.TableMap RowFault → Result Names RowFault
+map_seen (Ok map) = Ok (map_names map)
+map_seen (Err fault) = Err fault

@@ -3,15 +3,14 @@
 ghost use Rattle.std.specs.Prelude.{◌≡◌, ◌<◌, ◌≤◌, ◌*◌, true, length, option_map};
 ghost use Rattle.std.specs.List.{list_all};
 ghost use Rattle.byteorder.specs.Endian.{little_number};
-ghost use Rattle.blog_row.specs.Checks.{cut};
+ghost use Rattle.blog_row.specs.Checks.{cut, cut_seen};
 ghost use Rattle.blog_row.specs.Column.{value_stored, is_column, columns_of};
 ghost use Rattle.blog_row.specs.Image.{bitmap_len, is_marked, values_front, image_front};
 ghost use Rattle.blog_row.specs.StorageView.{prefix_seen, storage_seen};
-ghost use Rattle.blog_row.specs.CutView.{cut_seen};
 ghost use Rattle.blog_row.specs.ImageView.{front_seen, at_column};
 
 use crate::column::{Prefix, Storage};
-use crate::types::column_at;
+use crate::layout::column_at;
 use byteorder::{ByteOrder, LittleEndian};
 
 /// An image at the front of bytes.

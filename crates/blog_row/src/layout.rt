@@ -1,16 +1,110 @@
-//! The columns of a table.
+//! The columns of a table: type bytes and metadata bytes, walked together, and the parts of a table map that hold them.
 
-ghost use Rattle.std.specs.Prelude.{◌≡◌, ◌<◌, ◌≤◌, length, true};
+ghost use Rattle.std.specs.Prelude.{◌≡◌, ◌<◌, ◌≤◌, ◌+◌, ◌∷◌, Some, length, drop, option_map, slice_index, true};
 ghost use Rattle.std.specs.List.{list_all};
-ghost use Rattle.blog_row.specs.Column.{metadata_total, columns_of, is_column};
+ghost use Rattle.blog_row.specs.Checks.{cut_seen};
+ghost use Rattle.blog_row.specs.Column.{metadata_total, columns_of, storage_of, is_column};
+ghost use Rattle.blog_row.specs.LayoutReading.{column_here, are_known, total_of, types_front, metadata_front};
+ghost use Rattle.blog_row.specs.StorageView.{storage_seen};
 
+use crate::column::{Storage, metadata_len, stored_as};
 use crate::fault::RowFault;
 use crate::image::image_at;
-use crate::layout_parts::{metadata_at, types_at};
 use crate::names::names_at;
 use crate::packed::packed_at;
-use crate::types::{are_columns, metadata_len_of_all};
 use crate::values::Values;
+
+/// How many bytes of metadata the types have together, where the profile has each of them.
+fn metadata_len_of_all(kinds: &[u8]) -> Option<usize>
+    requires { length kinds.now ≤ 4096 }
+    ensures { result ≡ total_of kinds.now }
+{
+    let mut total = 0;
+    for kind in kinds {
+        let Some(len) = metadata_len(*kind) else {
+            return None;
+        };
+        total += len;
+    }
+    Some(total)
+}
+
+/// Whether each column's metadata is allowed.
+fn are_columns(kinds: &[u8], metadata: &[u8]) -> bool
+    requires known { are_known kinds.now ≡ true }
+    requires whole { metadata_total kinds.now ≡ length metadata.now }
+    ensures { result ≡ list_all is_column (columns_of kinds.now metadata.now) }
+{
+    let mut left = metadata;
+    for kind in kinds {
+        let Some(len) = metadata_len(*kind) else {
+            unreachable!();
+        };
+        let (own, others) = left.split_at(len);
+        if stored_as(*kind, own).is_none() {
+            return false;
+        }
+        left = others;
+    }
+    true
+}
+
+/// How the column at `i` is stored, and the metadata of the columns after it; `metadata` begins with that of the
+/// column at `i`.
+#[inline(always)]
+pub(crate) fn column_at<'a>(kinds: &[u8], i: usize, metadata: &'a [u8]) -> (Storage, &'a [u8])
+    requires below { i < length kinds.now }
+    requires known { list_all is_column (columns_of (drop i kinds.now) metadata.now) ≡ true }
+    ensures columns { columns_of (drop i kinds.now) metadata.now ≡ column_here (slice_index kinds.now i) metadata.now ∷ columns_of (drop (i + 1) kinds.now) result.1.now }
+    ensures stored { storage_of (column_here (slice_index kinds.now i) metadata.now) ≡ Some (storage_seen result.0) }
+    ensures known { list_all is_column (columns_of (drop (i + 1) kinds.now) result.1.now) ≡ true }
+{
+    let kind = kinds[i];
+    let Some(len) = metadata_len(kind) else {
+        unreachable!();
+    };
+    let (own, others) = metadata.split_at(len);
+    let Some(storage) = stored_as(kind, own) else {
+        unreachable!();
+    };
+    (storage, others)
+}
+
+/// The most columns that a table has.
+const MOST_COLUMNS: u64 = 4096;
+
+/// The types behind their packed count, and the bytes behind them, where there are 1 to 4,096 types.
+fn types_at(bytes: &[u8]) -> Option<(&[u8], &[u8])>
+    ensures { option_map cut_seen result ≡ types_front bytes.now }
+{
+    let Some(count) = packed_at(bytes) else {
+        return None;
+    };
+    if count.value < 1 || MOST_COLUMNS < count.value {
+        return None;
+    }
+    let columns = count.value as usize;
+    if count.rest.len() < columns {
+        return None;
+    }
+    Some(count.rest.split_at(columns))
+}
+
+/// The `len` bytes of metadata behind their packed length, and the bytes behind them, where that is the length.
+fn metadata_at(len: usize, bytes: &[u8]) -> Option<(&[u8], &[u8])>
+    ensures { option_map cut_seen result ≡ metadata_front len bytes.now }
+{
+    let Some(size) = packed_at(bytes) else {
+        return None;
+    };
+    if size.value != len as u64 {
+        return None;
+    }
+    if size.rest.len() < len {
+        return None;
+    }
+    Some(size.rest.split_at(len))
+}
 
 /// The columns of a table, 1 to 4,096 of them: the types and the metadata bytes of its table map
 /// (MySQL Internals manual, "Table_map_event").
@@ -25,7 +119,7 @@ pub struct Layout<'a> {
 }
 
 impl Layout<'_> {
-    ghost use Rattle.std.specs.Prelude.{ℕ, take, Some, IfSome};
+    ghost use Rattle.std.specs.Prelude.{ℕ, take, IfSome};
     ghost use Rattle.blog_row.specs.Image.{IsSomeImage, image_len_of, value_of};
     ghost use Rattle.blog_row.specs.ImageView.{value_seen};
     ghost use Rattle.blog_row.specs.LayoutView.{layout_columns};
@@ -69,9 +163,9 @@ impl<'a> Layout<'a> {
     ghost use Rattle.std.specs.Prelude.{IsOk};
     ghost use Rattle.blog_row.specs.Image.{row_of};
     ghost use Rattle.blog_row.specs.ValuesView.{values_left};
-    ghost use Rattle.blog_row.specs.LayoutView.{layout_columns};
+    ghost use Rattle.blog_row.specs.LayoutReading.{layout_behind};
+    ghost use Rattle.blog_row.specs.LayoutView.{layout_columns, layout_seen};
     ghost use Rattle.blog_row.specs.TableMap.{layout_of};
-    ghost use Rattle.blog_row.specs.LayoutReading.{layout_seen, layout_behind};
 
     /// The layout behind the names of a table map, or the first check that fails
     /// (MySQL Internals manual, "Table_map_event").

@@ -8,17 +8,13 @@ mod image;
 mod kind;
 mod laws;
 mod layout;
-mod layout_parts;
 mod names;
 mod order;
 mod packed;
-mod reversal;
 mod rows;
 mod rows_event;
-mod rows_head;
 mod rows_parts;
 mod table_map;
-mod types;
 mod values;
 
 pub use fault::RowFault;
@@ -32,15 +28,14 @@ pub use names::{Names, names_at};
 pub use order::Order;
 pub use packed::{Packed, packed_at};
 pub use rows::{RowChange, Rows};
-pub use rows_event::RowsEvent;
-pub use rows_head::RowsHead;
+pub use rows_event::{RowsEvent, RowsHead};
 pub use table_map::TableMap;
 pub use values::Values;
 
 #[cfg(test)]
 mod image_tests;
 #[cfg(test)]
-mod reversal_tests;
+mod rows_event_tests;
 #[cfg(test)]
 mod rows_tests;
 #[cfg(test)]

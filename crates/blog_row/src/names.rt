@@ -1,9 +1,8 @@
 //! The names of a table map.
 
 ghost use Rattle.std.specs.Prelude.{◌≡◌, ◌≤◌, ◌+◌, length, drop, option_map};
-ghost use Rattle.blog_row.specs.TableMap.{name_front, names_of};
-ghost use Rattle.blog_row.specs.CutView.{cut_seen};
-ghost use Rattle.blog_row.specs.NamesView.{names_seen};
+ghost use Rattle.blog_row.specs.TableMap.{name_front, names_of, names_seen};
+ghost use Rattle.blog_row.specs.Checks.{cut_seen};
 
 /// The fields of a table map's body up to its names (MySQL Internals manual, "Table_map_event").
 #[derive(Clone, Copy, Debug)]

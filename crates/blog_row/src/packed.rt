@@ -1,8 +1,7 @@
 //! Packed integers.
 
 ghost use Rattle.std.specs.Prelude.{◌≡◌, ◌≤◌, ◌+◌, length, drop, option_map};
-ghost use Rattle.blog_row.specs.Packed.{announced, packed_value, packed_front};
-ghost use Rattle.blog_row.specs.PackedView.{packed_seen};
+ghost use Rattle.blog_row.specs.Packed.{announced, packed_value, packed_front, packed_seen};
 
 use byteorder::{ByteOrder, LittleEndian};
 

@@ -1,17 +1,84 @@
-//! Rows events.
+//! Rows events: the fixed part of a body, a whole body as it was read, and the body that is written for it, with its rows as
+//! they stand or reversed.
 
-ghost use Rattle.std.specs.Prelude.{◌≡◌, ◌+◌, ◌≤◌, ◌<◌, ◌%◌, ◌^◌, ◌==◌, Some, length, is_some, true};
+ghost use Rattle.std.specs.Prelude.{◌≡◌, ◌+◌, ◌≤◌, ◌<◌, ◌%◌, ◌^◌, ◌==◌, ◌++◌, Some, drop, length, is_some, true};
+ghost use Rattle.blog_event.specs.Writing.{joined};
+ghost use Rattle.blog_row.specs.declared.kind.RowsVersion.{RowsVersion};
 ghost use Rattle.blog_row.specs.Image.{images_of, bitmap_len};
 ghost use Rattle.blog_row.specs.LayoutView.{layout_columns};
-ghost use Rattle.blog_row.specs.RowsEvent.{bitmaps_by, two_bitmaps};
+ghost use Rattle.blog_row.specs.RowsEvent.{bitmaps_by, fixed_len, two_bitmaps};
 ghost use Rattle.blog_row.specs.RowsWriting.{no_extra};
 
 use crate::fault::RowFault;
-use crate::kind::RowsKind;
+use crate::kind::{RowsAction, RowsKind, RowsVersion};
 use crate::layout::Layout;
+use crate::order::Order;
 use crate::packed::packed_at;
 use crate::rows_parts::{all_set, bitmaps_at, front_at, images_in};
 use byteorder::{ByteOrder, LittleEndian};
+
+/// How long the fixed part is: id and flags, and in version 2 the length of the extra bytes.
+fn fixed_len(version: RowsVersion) -> usize
+    ensures { result ≡ fixed_len version }
+{
+    match version {
+        RowsVersion::One => 8,
+        RowsVersion::Two => 10,
+    }
+}
+
+/// The table id and the flags of a rows event (MySQL Internals manual, "Rows_event").
+#[derive(Clone, Copy, Debug, PartialEq, Eq)]
+pub struct RowsHead {
+    table: u64,
+    bits: u16,
+}
+
+impl RowsHead {
+    ghost use Rattle.std.specs.Prelude.{List, ℕ, Ok};
+    ghost use Rattle.blog_row.specs.RowsEvent.{has_end_flag, flags_of, table_id};
+    ghost use Rattle.byteorder.specs.Endian.{little_number};
+    ghost use Rattle.blog_row.specs.RowsEventView.{head_of, head_table, head_flags};
+
+    /// Reads the table id and the flags: `BadBody` where the body is shorter than the fixed part, of eight bytes in version
+    /// 1 and of ten in version 2.
+    pub fn read(version: RowsVersion, body: &[u8]) -> Result<RowsHead, RowFault>
+        ensures { result ≡ head_of version body.now }
+    {
+        if body.len() < fixed_len(version) {
+            return Err(RowFault::BadBody);
+        }
+        let (id, behind) = body.split_at(6);
+        Ok(RowsHead {
+            table: LittleEndian::read_u48(id),
+            bits: LittleEndian::read_u16(behind),
+        })
+    }
+
+    /// The table id, from 0 to 2^48 - 1: six bytes, the lowest first.
+    pub fn table_id(&self) -> u64
+        ensures own { result ≡ head_table self.now }
+        ensures body { (version : RowsVersion) → (body : List ℕ) → head_of version body ≡ Ok self.now → result ≡ little_number 6 (table_id body) }
+    {
+        self.table
+    }
+
+    /// The flags.
+    pub fn flags(&self) -> u16
+        ensures own { result ≡ head_flags self.now }
+        ensures body { (version : RowsVersion) → (body : List ℕ) → head_of version body ≡ Ok self.now → result ≡ flags_of body }
+    {
+        self.bits
+    }
+
+    /// Whether the event is marked as the last rows event of its statement.
+    pub fn ends(&self) -> bool
+        ensures own { result ≡ (head_flags self.now % 2 == 1) }
+        ensures body { (version : RowsVersion) → (body : List ℕ) → head_of version body ≡ Ok self.now → result ≡ has_end_flag body }
+    {
+        self.bits % 2 == 1
+    }
+}
 
 /// The body of a rows event (MySQL Internals manual, "Rows_event").
 #[derive(Clone, Copy, Debug)]
@@ -240,5 +307,135 @@ impl<'a> RowsEvent<'a> {
         ensures { result ≡ rows_kind self.now }
     {
         self.kind
+    }
+}
+
+/// How many bytes the table id and the flags have.
+const HEAD_LEN: usize = 8;
+
+/// The extra length of a rows event of version 2 without extra bytes: that of its own two bytes.
+const NO_EXTRA: [u8; 2] = [2, 0];
+
+/// How many bytes the extra length has where there are no extra bytes: none in version 1.
+fn extra_len(version: RowsVersion) -> usize
+    ensures { result ≡ length (no_extra version) }
+{
+    match version {
+        RowsVersion::One => 0,
+        RowsVersion::Two => NO_EXTRA.len(),
+    }
+}
+
+/// Writes slices over bytes, one after the other, from the front on.
+fn write_over(to: &mut [u8], parts: &[&[u8]])
+    requires { length (joined parts.now) ≤ length to.old }
+    ensures { to.new ≡ joined parts.now ++ drop (length (joined parts.now)) to.old }
+{
+    let mut at = 0;
+    for part in parts {
+        to[at..at + part.len()].copy_from_slice(part);
+        at += part.len();
+    }
+}
+
+impl<'a> RowsEvent<'a> {
+    ghost use Rattle.std.specs.Prelude.{◌-◌, Bool, reverse, take};
+    ghost use Rattle.std.specs.List.{concat};
+    ghost use Rattle.byteorder.specs.Endian.{little_bytes};
+    ghost use Rattle.blog_row.specs.declared.order.Order.{Order};
+    ghost use Rattle.blog_row.specs.RowsEvent.{rows_text};
+    ghost use Rattle.blog_row.specs.RowsEventView.{rows_body, rows_content, written_front};
+    ghost use Rattle.blog_row.specs.RowsWriting.{content_in, written_body, written_flags};
+
+    /// Writes the images from the last to the first into room of their size, `rows_len` bytes. That puts the rows in
+    /// reverse order, each with its images before and after exchanged. It takes no memory.
+    pub fn put_reversed(&self, to: &mut [u8])
+        requires room { length to.old ≡ length (concat (rows_body self.now).images) }
+        ensures images { to.new ≡ concat (reverse (rows_body self.now).images) }
+    {
+        let mut rest = self.images();
+        while !rest.is_empty() {
+            let Some(len) = self.layout().image_len(rest) else {
+                unreachable!();
+            };
+            let (image, behind) = rest.split_at(len);
+            // As many bytes are still free in front as there are still to be read.
+            to[behind.len()..rest.len()].copy_from_slice(image);
+            rest = behind;
+        }
+    }
+
+    /// The bitmaps that are written; the second is empty where there is none.
+    fn bitmaps_in(&self, order: Order) -> (&'a [u8], &'a [u8])
+        ensures { result.0.now ++ result.1.now ≡ concat (content_in order (rows_content self.now)).bitmaps }
+    {
+        let (first, second) = self.bitmaps();
+        match (self.kind().action, order) {
+            (RowsAction::Update, Order::Backward) => (second, first),
+            _ => (first, second),
+        }
+    }
+
+    /// The two bytes of the flags: the end flag is set on the last rows event of a statement, and clear on the others.
+    fn flag_bytes(&self, last: bool) -> [u8; 2]
+        ensures { result ≡ little_bytes 2 (written_flags last (rows_content self.now).flags) }
+    {
+        let flags = self.flags() - self.flags() % 2;
+        let mut bytes = [0u8; 2];
+        LittleEndian::write_u16(&mut bytes, if last { flags + 1 } else { flags });
+        bytes
+    }
+
+    /// Writes the images into room of their size.
+    fn put_images(&self, order: Order, to: &mut [u8])
+        requires room { length to.old ≡ length (concat (rows_body self.now).images) }
+        ensures images { to.new ≡ concat (content_in order (rows_content self.now)).images }
+    {
+        match order {
+            Order::Forward => to.copy_from_slice(self.images()),
+            Order::Backward => self.put_reversed(to),
+        }
+    }
+
+    /// How many bytes the body has that is written for the event, in either order; never more than the body that was read.
+    pub fn body_len(&self) -> usize
+        ensures len { (order : Order) → (last : Bool) → result ≡ length (written_body last (content_in order (rows_content self.now))) }
+        ensures shorter { result ≤ length (rows_text (rows_body self.now)) }
+    {
+        let (first, second) = self.bitmaps();
+        let front = HEAD_LEN + extra_len(self.kind().version) + self.count().len();
+        front + first.len() + second.len() + self.rows_len()
+    }
+
+    /// Writes all fields of the body but the images, from the front on.
+    fn put_front(&self, order: Order, last: bool, to: &mut [u8])
+        requires room { length (written_front last (content_in order (rows_content self.now))) ≤ length to.old }
+        ensures front { to.new ≡ written_front last (content_in order (rows_content self.now)) ++ drop (length (written_front last (content_in order (rows_content self.now)))) to.old }
+    {
+        let flags = self.flag_bytes(last);
+        let extra_len = &NO_EXTRA[..extra_len(self.kind().version)];
+        let (first, second) = self.bitmaps_in(order);
+        let parts = [self.id(), &flags, extra_len, self.count(), first, second];
+        write_over(to, &parts);
+    }
+
+    /// Writes the images over the last bytes.
+    fn put_last_images(&self, order: Order, to: &mut [u8])
+        requires room { length (concat (rows_body self.now).images) ≤ length to.old }
+        ensures images { to.new ≡ take (length to.old - length (concat (rows_body self.now).images)) to.old ++ concat (content_in order (rows_content self.now)).images }
+    {
+        let start = to.len() - self.rows_len();
+        self.put_images(order, &mut to[start..]);
+    }
+
+    /// Writes a body for the event into room of its size, `body_len` bytes: of the same version, with its rows in this
+    /// order, without extra bytes, and with the end flag where it is the last rows event of its statement. It takes no
+    /// memory.
+    pub fn put_body(&self, order: Order, last: bool, to: &mut [u8])
+        requires room { length to.old ≡ length (written_body last (content_in order (rows_content self.now))) }
+        ensures body { to.new ≡ written_body last (content_in order (rows_content self.now)) }
+    {
+        self.put_front(order, last, to);
+        self.put_last_images(order, to);
     }
 }

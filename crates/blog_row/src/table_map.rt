@@ -18,10 +18,9 @@ impl<'a> TableMap<'a> {
     ghost use Rattle.std.specs.Prelude.{List, ℕ, IfOk, IsOkAnd, IsSome};
     ghost use Rattle.byteorder.specs.Endian.{little_number};
     ghost use Rattle.blog_row.specs.Checks.{or_bad};
-    ghost use Rattle.blog_row.specs.TableMap.{Names as NameFields, LayoutFields, HasNames, HasLayout, names_of, layout_of};
-    ghost use Rattle.blog_row.specs.LayoutView.{layout_columns};
-    ghost use Rattle.blog_row.specs.LayoutReading.{layout_seen, layout_behind};
-    ghost use Rattle.blog_row.specs.TableMapView.{map_names, map_seen};
+    ghost use Rattle.blog_row.specs.TableMap.{Names as NameFields, LayoutFields, HasNames, HasLayout, names_of, layout_of, map_names, map_seen};
+    ghost use Rattle.blog_row.specs.LayoutView.{layout_columns, layout_seen};
+    ghost use Rattle.blog_row.specs.LayoutReading.{layout_behind};
 
     /// Reads a body up to its names: `BadBody` where it doesn't have them.
     pub fn read(body: &'a [u8]) -> Result<TableMap<'a>, RowFault>

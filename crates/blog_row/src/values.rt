@@ -6,7 +6,7 @@ ghost use Rattle.blog_row.specs.Column.{columns_of, is_column};
 ghost use Rattle.blog_row.specs.Image.{values_front};
 
 use crate::image::{cut_at, is_set, stored_at};
-use crate::types::column_at;
+use crate::layout::column_at;
 
 /// The values of an image, in the order of the columns: the bytes of each without their length, or None where it is
 /// NULL. Each byte of the image is read once.

@@ -15,7 +15,7 @@ use Rattle.blog_row.specs.declared.fault.RowFault.TheVariants as row
 use Rattle.blog_row.specs.declared.kind.RowsKind.{RowsKind}
 use Rattle.blog_row.specs.declared.kind.RowsVersion.{RowsVersion}
 use Rattle.blog_row.specs.declared.kind.RowsVersion.TheVariants.{One, Two}
-use Rattle.blog_row.specs.declared.rows_head.RowsHead.{RowsHead}
+use Rattle.blog_row.specs.declared.rows_event.RowsHead.{RowsHead}
 use Rattle.blog_row.specs.Column.{Layout}
 use Rattle.blog_row.specs.Image.{IsSomeImage}
 use Rattle.blog_row.specs.LayoutView.{layout_columns}

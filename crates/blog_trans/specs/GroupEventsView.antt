@@ -7,8 +7,7 @@ use Rattle.blog_event.specs.declared.event.Event as told
 use Rattle.blog_event.specs.Event.{event_of, event_size}
 use Rattle.blog_row.specs.declared.order.Order.{Order}
 use Rattle.blog_row.specs.declared.order.Order.TheVariants.{Forward, Backward}
-use Rattle.blog_row.specs.TableMap.{names_of, layout_of}
-use Rattle.blog_row.specs.TableMapView.{map_names}
+use Rattle.blog_row.specs.TableMap.{names_of, layout_of, map_names}
 use Rattle.blog_row.specs.LayoutView.{layout_columns}
 use Rattle.blog_row.specs.RowsEventView.{rows_kind, rows_layout, rows_body}
 use Rattle.blog_trans.specs.Groups.{PlacedStatement, PlacedTransaction}

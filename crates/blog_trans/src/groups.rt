@@ -60,8 +60,7 @@ impl<'a, 's, A: Allocator> Index<'a, 's, A> {
     ghost use Rattle.std.specs.Prelude.{◌<◌, ◌≤◌, ◌==◌, ◌∷◌, List, [], Ok, Some, IsSome, IfSome, drop, option_map, slice_get, vec_len};
     ghost use Rattle.std.specs.List.{IsDistinct};
     ghost use Rattle.blog_event.specs.Event.{event_at, event_of};
-    ghost use Rattle.blog_row.specs.TableMap.{names_of, layout_of};
-    ghost use Rattle.blog_row.specs.TableMapView.{map_names};
+    ghost use Rattle.blog_row.specs.TableMap.{names_of, layout_of, map_names};
     ghost use Rattle.blog_row.specs.LayoutView.{layout_columns};
     ghost use Rattle.blog_row.specs.RowsEventView.{rows_kind, rows_layout, rows_body};
     ghost use Rattle.blog_trans.specs.Groups.{PlacedStatement, PlacedTransaction, groups};

@@ -4,8 +4,7 @@ ghost use Rattle.std.specs.Prelude.{◌≡◌, ◌&&◌, ◌+◌, ◌<◌, ◌�
 ghost use Rattle.indexmap.specs.IndexMap.{index_map_len};
 ghost use Rattle.blog_event.specs.Event.{Event as Fields};
 ghost use Rattle.blog_event.specs.File.{Placed};
-ghost use Rattle.blog_row.specs.TableMap.{names_of};
-ghost use Rattle.blog_row.specs.TableMapView.{map_names};
+ghost use Rattle.blog_row.specs.TableMap.{names_of, map_names};
 ghost use Rattle.blog_trans.specs.Acceptance.{cause_of_row, is_selected};
 ghost use Rattle.blog_trans.specs.CheckerView.{LayoutsAgree, AreSelectedColumns, AreColumns};
 ghost use Rattle.blog_trans.specs.Kinds.{kind_of};

@@ -1,7 +1,7 @@
 use Rattle.std.proofs.Common.{ap}
 use Rattle.blog_row.specs.LayoutView.{layout_columns}
 use Rattle.blog_row.specs.RowsView.{row_seen, rows_left}
-use Rattle.blog_row.specs.TableMapView.{map_names}
+use Rattle.blog_row.specs.TableMap.{map_names}
 use Rattle.blog_flash.specs.PrintedRows.{image_lines, images_lines}
 use Rattle.blog_flash.proofs.Printing.{not-refused, part-fits}
 use Rattle.blog_flash.proofs.put_sql.put_changes.Goals as goal

@@ -3,7 +3,7 @@ use Rattle.blog_row.specs.LayoutView.{layout_columns}
 use Rattle.blog_row.specs.RowsEvent.{rows_by}
 use Rattle.blog_row.specs.RowsEventView.{rows_body}
 use Rattle.blog_row.specs.RowsView.{rows_left}
-use Rattle.blog_row.specs.TableMapView.{map_names}
+use Rattle.blog_row.specs.TableMap.{map_names}
 use Rattle.blog_flash.specs.PrintedRows.{images_lines}
 use Rattle.blog_flash.proofs.put_sql.put_changes.Given as goal
 

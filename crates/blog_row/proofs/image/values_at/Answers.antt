@@ -1,7 +1,7 @@
 use Rattle.std.proofs.Common.{◌≡◌, ◌∙◌, ℕ, arith, List, [], Some, None, drop, get_or, option_map, ap, sym, false, true}
 use Rattle.std.proofs.lemmas.List.{drop_all}
 use Rattle.blog_row.specs.Column.{value_front, columns_of}
-use Rattle.blog_row.specs.ColumnStep.{column_here}
+use Rattle.blog_row.specs.LayoutReading.{column_here}
 use Rattle.blog_row.specs.Image.{is_marked}
 use Rattle.blog_row.specs.ImageView.{value_seen}
 use Rattle.blog_row.proofs.Walking.{Kept, Here, Elsewhere, front_is, walk_null, walk_value, walk_stops, walk_ends}

@@ -1,5 +1,5 @@
 use Rattle.std.proofs.Common.{◌≡◌, drop, Some, None, option_map, ap, sym, arith}
-use Rattle.blog_row.specs.CutView.{cut_seen}
+use Rattle.blog_row.specs.Checks.{cut_seen}
 use Rattle.blog_row.specs.TableMap.{name_front}
 use Rattle.blog_row.proofs.NamesCode.{names_short, names_no_schema, names_no_table, names_there}
 use Rattle.blog_row.proofs.names.names_at.Goals as goal

@@ -1,8 +1,7 @@
 use Rattle.std.proofs.Common.{◌≡◌, true, false, Some, None, Ok, rules, refl, sym, ap, ◌∙◌, inl, inr, slice_get}
 use Rattle.blog_event.specs.Fault.{fault_at}
 use Rattle.blog_row.specs.LayoutView.{layout_columns}
-use Rattle.blog_row.specs.TableMap.{layout_of, is_same_layout}
-use Rattle.blog_row.specs.TableMapView.{map_names}
+use Rattle.blog_row.specs.TableMap.{layout_of, is_same_layout, map_names}
 use Rattle.indexmap.specs.IndexMap.{get}
 use Rattle.blog_trans.specs.CheckerView.{is_same_name}
 use Rattle.blog_trans.specs.TableNameView.{table_named}

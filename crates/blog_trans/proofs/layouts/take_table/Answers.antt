@@ -2,7 +2,7 @@ use Rattle.std.proofs.Common.{◌≡◌, true, rules, refl, ◌∙◌}
 use Rattle.blog_trans.specs.Acceptance.{is_selected}
 use Rattle.blog_trans.specs.Selection.{selection_of, is_wanted}
 use Rattle.std.specs.Prelude.{◌&&◌}
-use Rattle.blog_row.specs.TableMapView.{map_names}
+use Rattle.blog_row.specs.TableMap.{map_names}
 use Rattle.blog_trans.proofs.CheckingLayouts.{selected-is}
 use Rattle.blog_trans.proofs.layouts.take_table.Goals as goal
 

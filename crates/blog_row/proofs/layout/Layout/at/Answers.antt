@@ -3,9 +3,8 @@ use Rattle.std.proofs.lemmas.Bool.{lt-leb}
 use Rattle.std.specs.List.{list_all}
 use Rattle.blog_row.specs.Column.{is_column, columns_of, metadata_total}
 use Rattle.blog_row.specs.Image.{bitmap_len}
-use Rattle.blog_row.specs.ColumnStep.{total_of}
-use Rattle.blog_row.specs.CutView.{cut_seen}
-use Rattle.blog_row.specs.LayoutReading.{types_front, metadata_front}
+use Rattle.blog_row.specs.LayoutReading.{total_of, types_front, metadata_front}
+use Rattle.blog_row.specs.Checks.{cut_seen}
 use Rattle.blog_row.proofs.LayoutCode.{no_types, unknown_type, no_metadata, ReadUpTo, not_columns, no_nullable, layout_there, types_found, total_there, total_missing, read_up_to, whole_metadata}
 use Rattle.blog_row.proofs.layout.Layout.at.Goals as goal
 

@@ -1,6 +1,5 @@
 use Rattle.std.proofs.Common.{◌≡◌, Some, is_ok, option_map, sym, ap, ◌∙◌}
-use Rattle.blog_row.specs.TableMap.{names_of}
-use Rattle.blog_row.specs.NamesView.{names_seen}
+use Rattle.blog_row.specs.TableMap.{names_of, names_seen}
 use Rattle.blog_row.proofs.TableMapCode.{known_names, layout_by_names}
 use Rattle.blog_row.proofs.layout.Layout.known.Goals as goal
 

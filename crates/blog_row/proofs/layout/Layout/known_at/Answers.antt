@@ -1,9 +1,8 @@
 use Rattle.std.proofs.Common.{◌≡◌, ℕ, List, length, Some, option_map, sym, ap, ◌∙◌}
 use Rattle.std.specs.List.{list_all}
 use Rattle.blog_row.specs.Column.{columns_of, is_column}
-use Rattle.blog_row.specs.Packed.{packed_front}
-use Rattle.blog_row.specs.PackedView.{packed_seen}
-use Rattle.blog_row.specs.CutView.{cut_seen}
+use Rattle.blog_row.specs.Packed.{packed_front, packed_seen}
+use Rattle.blog_row.specs.Checks.{cut_seen}
 use Rattle.blog_row.specs.LayoutReading.{types_front}
 use Rattle.blog_row.proofs.LayoutCode.{known_types, known_number, known_unnumbered, types_found}
 use Rattle.blog_row.proofs.layout.Layout.known_at.Goals as goal

@@ -1,8 +1,7 @@
 use Rattle.std.proofs.Common.{rules, arith, ◌≡◌, ◌<◌, ◌^◌, ◌%◌, ◌∙◌, ℕ, List, length, true, false, eqb, option_map, Some, sym, ap}
 use Rattle.std.specs.List.{list_all}
 use Rattle.std.proofs.lemmas.Bool.{eq-eqb, ne_eqb}
-use Rattle.blog_row.specs.Packed.{packed_front}
-use Rattle.blog_row.specs.PackedView.{packed_seen}
+use Rattle.blog_row.specs.Packed.{packed_front, packed_seen}
 use Rattle.blog_row.specs.Image.{bitmap_len, images_of}
 use Rattle.blog_row.specs.RowsKind.{images_a_row}
 use Rattle.blog_row.specs.RowsEvent.{are_marked, pieces, rows_of}

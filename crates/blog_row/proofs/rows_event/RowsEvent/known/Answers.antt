@@ -1,7 +1,6 @@
 use Rattle.std.proofs.Common.{rules, arith, ◌≡◌, ◌<◌, ◌^◌, ◌∙◌, ℕ, List, length, Some, Ok, sym, ap}
 use Rattle.blog_row.specs.RowsKind.{images_a_row}
-use Rattle.blog_row.specs.Packed.{packed_front}
-use Rattle.blog_row.specs.PackedView.{packed_seen}
+use Rattle.blog_row.specs.Packed.{packed_front, packed_seen}
 use Rattle.blog_row.specs.Image.{bitmap_len}
 use Rattle.blog_row.specs.LayoutView.{layout_columns}
 use Rattle.blog_row.specs.RowsEvent.{pieces}

@@ -1,6 +1,5 @@
 use Rattle.std.proofs.Common.{◌≡◌, Some, option_map, sym, ap, ◌∙◌}
-use Rattle.blog_row.specs.TableMap.{names_of}
-use Rattle.blog_row.specs.NamesView.{names_seen}
+use Rattle.blog_row.specs.TableMap.{names_of, names_seen}
 use Rattle.blog_row.proofs.NameLemmas.{names_found}
 use Rattle.blog_row.proofs.table_map.TableMap.known.Goals as goal
 

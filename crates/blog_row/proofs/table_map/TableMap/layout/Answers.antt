@@ -1,5 +1,5 @@
 use Rattle.std.proofs.Common.{sym, ◌∙◌}
-use Rattle.blog_row.specs.TableMapView.{map_names}
+use Rattle.blog_row.specs.TableMap.{map_names}
 use Rattle.blog_row.proofs.TableMapCode.{layout_by_names, layout_found_by, layout_only_by}
 use Rattle.blog_row.proofs.table_map.TableMap.layout.Goals as goal
 

@@ -1,6 +1,5 @@
 use Rattle.std.proofs.Common.{◌≡◌, Some, None, option_map, sym, ap, ◌∙◌}
-use Rattle.blog_row.specs.TableMap.{names_of}
-use Rattle.blog_row.specs.NamesView.{names_seen}
+use Rattle.blog_row.specs.TableMap.{names_of, names_seen}
 use Rattle.blog_row.proofs.Cutting.{none_is_not}
 use Rattle.blog_row.proofs.NameLemmas.{names_found, names_again}
 use Rattle.blog_row.proofs.table_map.TableMap.read.Goals as goal

@@ -2,7 +2,7 @@ use Rattle.std.proofs.Common.{◌≡◌, true, false, rules, refl, sym, ◌∙�
 use Rattle.std.specs.Prelude.{bytes_eq}
 use Rattle.blog_event.specs.Event.{event_of}
 use Rattle.blog_event.specs.File.{Placed}
-use Rattle.blog_row.specs.TableMapView.{map_names}
+use Rattle.blog_row.specs.TableMap.{map_names}
 use Rattle.blog_trans.proofs.CheckingMaps.{map-id, compare-some, compare-none}
 use Rattle.blog_trans.proofs.checker.Checker.is_first.Goals as goal
 

@@ -5,8 +5,7 @@ use Rattle.indexmap.specs.IndexMap.{get}
 use Rattle.indexmap.proofs.CallerLemmas.{insert_entry-new}
 use Rattle.blog_event.specs.Event.{event_of}
 use Rattle.blog_event.specs.File.{Placed}
-use Rattle.blog_row.specs.TableMap.{Names, names_of}
-use Rattle.blog_row.specs.TableMapView.{map_names}
+use Rattle.blog_row.specs.TableMap.{Names, names_of, map_names}
 use Rattle.blog_trans.specs.Acceptance.{event_fault}
 use Rattle.blog_trans.specs.Places.{is_inside, is_map_of, place, since}
 use Rattle.blog_trans.specs.Selection.{Selection, selection_of}

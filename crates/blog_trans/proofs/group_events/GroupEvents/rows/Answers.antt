@@ -1,6 +1,5 @@
 use Rattle.std.proofs.Common.{◌≡◌, Option, Some, IfSome, Ok, slice_get, subst, arith}
-use Rattle.blog_row.specs.TableMap.{names_of, layout_of}
-use Rattle.blog_row.specs.TableMapView.{map_names}
+use Rattle.blog_row.specs.TableMap.{names_of, layout_of, map_names}
 use Rattle.blog_row.specs.LayoutView.{layout_columns}
 use Rattle.blog_row.specs.RowsEventView.{rows_kind, rows_layout, rows_body}
 use Rattle.blog_trans.specs.Groups.{PlacedRows}

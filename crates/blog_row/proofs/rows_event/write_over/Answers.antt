@@ -2,7 +2,7 @@ use Rattle.std.proofs.Common.{◌+◌, ◌++◌, List, ℕ, [], ◌∷◌, lengt
 use Rattle.std.specs.Borrow.{Bor}
 use Rattle.blog_event.specs.Writing.{joined}
 use Rattle.blog_row.proofs.Overwriting.{IsOver, over-more}
-use Rattle.blog_row.proofs.reversal.write_over.Goals as goal
+use Rattle.blog_row.proofs.rows_event.write_over.Goals as goal
 
 pub loop-part-preserved : goal.loop-part-preserved
 loop-part-preserved c =

@@ -1,10 +1,9 @@
 use Rattle.std.proofs.Common.{◌≡◌, eqb, Some, option_map, sym, ap, ◌∙◌, arith}
 use Rattle.std.proofs.lemmas.Bool.{eq-eqb, ne_eqb}
-use Rattle.blog_row.specs.Packed.{packed_front}
-use Rattle.blog_row.specs.PackedView.{packed_seen}
+use Rattle.blog_row.specs.Packed.{packed_front, packed_seen}
 use Rattle.blog_row.specs.LayoutReading.{metadata_front}
 use Rattle.blog_row.proofs.LayoutCode.{counted_none, counted_out, counted_short, counted_there}
-use Rattle.blog_row.proofs.layout_parts.metadata_at.Goals as goal
+use Rattle.blog_row.proofs.layout.metadata_at.Goals as goal
 
 pub returns-in_default : goal.returns-in_default
 unfolding metadata_front

@@ -1,9 +1,8 @@
 use Rattle.std.proofs.Common.{◌≡◌, ◌&&◌, leb, Some, option_map, sym, ap, ◌∙◌, arith, ℕ, Bool}
-use Rattle.blog_row.specs.Packed.{packed_front}
-use Rattle.blog_row.specs.PackedView.{packed_seen}
+use Rattle.blog_row.specs.Packed.{packed_front, packed_seen}
 use Rattle.blog_row.specs.LayoutReading.{types_front}
 use Rattle.blog_row.proofs.LayoutCode.{counted_none, counted_out, counted_short, counted_there, not_between, between}
-use Rattle.blog_row.proofs.layout_parts.types_at.Goals as goal
+use Rattle.blog_row.proofs.layout.types_at.Goals as goal
 
 -- a count from 1 to 4,096
 test : ℕ → Bool

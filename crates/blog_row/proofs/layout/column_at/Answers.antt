@@ -1,7 +1,7 @@
 use Rattle.std.proofs.Common.{◌≡◌, arith, get_or}
 use Rattle.blog_row.specs.Column.{own_metadata_len}
 use Rattle.blog_row.proofs.TypeBytes.{known_here, own_is}
-use Rattle.blog_row.proofs.types.column_at.Goals as goal
+use Rattle.blog_row.proofs.layout.column_at.Goals as goal
 
 pub unreachable-requires : goal.unreachable-requires
 unreachable-requires c =
