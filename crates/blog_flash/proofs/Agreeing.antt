@@ -15,9 +15,8 @@ use Rattle.blog_trans.specs.declared.kind.EventKind.TheVariants as kind
 use Rattle.blog_trans.specs.Selection.{Selection}
 use Rattle.blog_trans.specs.Kinds.{is_map_kind}
 use Rattle.blog_trans.specs.Places.{kind_at, is_map, place, is_inside, since}
-use Rattle.blog_trans.specs.Acceptance.{is_selected, is_same_table, clashes_by_id, clashes_by_layout, selected_map_checks, checks, event_fault, range, IsAccepted}
+use Rattle.blog_trans.specs.Acceptance.{is_selected, is_same_table, clashes_by_id, clashes_by_layout, selected_map_checks, checks, event_fault, range, IsAccepted, Passes}
 use Rattle.blog_trans.specs.Groups.{event_value}
-use Rattle.blog_trans.specs.Passing.{Passes}
 use Rattle.blog_trans.proofs.CheckingLayouts.{same-itself}
 use Rattle.blog_trans.proofs.ProgressAccepted.{none-failing, needed, accepted-passes}
 use Rattle.blog_trans.proofs.Tables.{same-table, own-table}

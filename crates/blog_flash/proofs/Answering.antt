@@ -4,9 +4,8 @@ use Rattle.std.proofs.lemmas.Option.{none-some}
 use Rattle.blog_event.specs.File.{AreBytes, read}
 use Rattle.blog_event.specs.declared.fault.Fault.{Fault}
 use Rattle.blog_trans.specs.Selection.{Selection, all}
-use Rattle.blog_trans.specs.Acceptance.{fault, IsAccepted}
+use Rattle.blog_trans.specs.Acceptance.{fault, IsAccepted, IsRefusal}
 use Rattle.blog_trans.specs.Groups.{groups}
-use Rattle.blog_trans.specs.Refusals.{IsRefusal}
 use Rattle.blog_flash.specs.Answers.{Answers, IsOutput}
 use Rattle.blog_flash.specs.declared.modes.Mode.TheVariants.{Flashback, Forward, FlashbackSql, ForwardSql, Summary}
 use Rattle.blog_row.specs.declared.order.Order.TheVariants as order

@@ -12,9 +12,8 @@ use Rattle.blog_trans.specs.declared.place.Place.TheVariants.{Outside, Inside}
 use Rattle.blog_trans.specs.Selection.{Selection, all}
 use Rattle.blog_trans.specs.Kinds.{is_map_kind}
 use Rattle.blog_trans.specs.Places.{kind_at, is_begin, is_map, is_last_rows, leads_to, place, since, map_in}
-use Rattle.blog_trans.specs.Acceptance.{is_same_table, are_of_same_table, have_same_layout, clashes_by_id, clashes_by_layout, event_fault}
+use Rattle.blog_trans.specs.Acceptance.{is_same_table, are_of_same_table, have_same_layout, clashes_by_id, clashes_by_layout, event_fault, Passes}
 use Rattle.blog_trans.specs.Groups.{RowsEvent, Statement, Transaction}
-use Rattle.blog_trans.specs.Passing.{Passes}
 use Rattle.blog_trans.proofs.ProgressFirsts.{bytes-differ}
 use Rattle.blog_trans.proofs.ProgressRows.{found-stays}
 use Rattle.blog_trans.proofs.ProgressSteps.{reverse-latest, reverse-behind}

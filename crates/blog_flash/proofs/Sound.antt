@@ -14,8 +14,7 @@ use Rattle.blog_trans.specs.declared.kind.EventKind.{EventKind}
 use Rattle.blog_trans.specs.declared.kind.EventKind.TheVariants as kind
 use Rattle.blog_trans.specs.Selection.{Selection}
 use Rattle.blog_trans.specs.Places.{kind_at, is_rows, place, is_inside, since}
-use Rattle.blog_trans.specs.Acceptance.{checks, event_fault, range, is_in_range, IsAccepted}
-use Rattle.blog_trans.specs.Passing.{Passes}
+use Rattle.blog_trans.specs.Acceptance.{checks, event_fault, range, is_in_range, IsAccepted, Passes}
 use Rattle.blog_trans.proofs.PlacedParts.{all-by, all-filter}
 use Rattle.blog_trans.proofs.ProgressAccepted.{none-failing, needed, accepted-passes}
 

@@ -14,13 +14,12 @@ use Rattle.blog_trans.specs.declared.place.Place.{Place}
 use Rattle.blog_trans.specs.declared.place.Place.TheVariants.{Outside}
 use Rattle.blog_trans.specs.Selection.{all}
 use Rattle.blog_trans.specs.Places.{place, is_outside}
-use Rattle.blog_trans.specs.Acceptance.{event_fault, is_in_range, range, read_fault, first_read_fault, lines, fault, IsAccepted}
+use Rattle.blog_trans.specs.Acceptance.{event_fault, is_in_range, range, read_fault, first_read_fault, lines, fault, IsAccepted, Passes}
 use Rattle.blog_trans.specs.Groups.{Transaction, transaction_value, placed_groups_in, placed_groups, groups}
 use Rattle.blog_flash.specs.Texts.{group_events, with_log_pos, laid_out}
 use Rattle.blog_flash.proofs.Formed.{Fits, Agree, AreGroups}
 use Rattle.blog_flash.proofs.Standing.{stood}
 use Rattle.blog_flash.proofs.Forming.{events-fit}
-use Rattle.blog_trans.specs.Passing.{Passes}
 use Rattle.blog_flash.proofs.Passing.{pushed-is, groups-pass}
 use Rattle.blog_flash.proofs.Regrouping.{groups-again}
 use Rattle.blog_flash.proofs.Sizes.{end-total, total-placed}

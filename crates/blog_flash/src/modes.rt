@@ -3,10 +3,9 @@
 ghost use Rattle.std.specs.Prelude.{◌≡◌, IfOk, IfErr, IsTrue, IsFalse};
 ghost use Rattle.blog_event.specs.File.{read};
 ghost use Rattle.blog_trans.specs.Selection.{selection_of};
-ghost use Rattle.blog_trans.specs.Acceptance.{IsAccepted, fault};
+ghost use Rattle.blog_trans.specs.Acceptance.{IsAccepted, fault, IsRefusal};
 ghost use Rattle.blog_trans.specs.Groups.{groups};
 ghost use Rattle.blog_trans.specs.IndexView.{index_bytes, index_selection};
-ghost use Rattle.blog_trans.specs.Refusals.{IsRefusal};
 ghost use Rattle.blog_flash.specs.Answers.{Answers};
 ghost use Rattle.blog_flash.specs.LaidOut.{groups_in};
 ghost use Rattle.blog_flash.specs.Printed.{sql_text, summary_text};

@@ -16,19 +16,17 @@ use Rattle.blog_trans.specs.declared.builder.IndexBuilder.{IndexBuilder}
 use Rattle.blog_trans.specs.Selection.{Selection}
 use Rattle.blog_trans.specs.Kinds.{is_begin_kind, is_end_kind, rows_of_kind}
 use Rattle.blog_trans.specs.Places.{kind_at, is_begin, is_map, is_rows, place, is_inside, since}
-use Rattle.blog_trans.specs.Acceptance.{end_checks, checks, event_fault}
+use Rattle.blog_trans.specs.Acceptance.{end_checks, checks, event_fault, HavePassed}
 use Rattle.blog_trans.specs.Groups.{PlacedRows, kept_rows, first_maps}
 use Rattle.blog_trans.specs.Changes.{table_of}
 use Rattle.blog_trans.specs.Progress.{Open, Progress, appended_if, with_rows, closed, ended, ended_if, rows_taken, advance_by, progress}
 use Rattle.blog_trans.specs.StatementMaps.{first_of_ids, used_maps, is_used}
 use Rattle.blog_trans.specs.TablesView.{tables_known, HaveGrown, table_at, IsNumbered}
-use Rattle.blog_trans.specs.TakenView.{is_other_kind, statement_with}
-use Rattle.blog_trans.specs.Passing.{HavePassed}
-use Rattle.blog_trans.specs.CheckerView.{HasChecked}
+use Rattle.blog_trans.specs.CheckerView.{is_other_kind, statement_with, HasChecked}
 use Rattle.blog_trans.specs.ListsView.{statement_behind, closed_by}
 use Rattle.blog_trans.specs.BuilderView.{HasTaken, Keeps, progress_changes, progress_tables}
 use Rattle.indexmap.specs.IndexMap.{values}
-use Rattle.blog_trans.specs.declared.maps.MapSeen.{MapSeen}
+use Rattle.blog_trans.specs.declared.checker.MapSeen.{MapSeen}
 use Rattle.blog_trans.specs.declared.layouts.SelectedTable.{SelectedTable}
 use Rattle.blog_trans.proofs.Growing.{counts-grown}
 use Rattle.blog_trans.proofs.ProgressSteps.{begin-kind, Step, begins, ends, rows, other, step-of, needs-passed, not-holds}

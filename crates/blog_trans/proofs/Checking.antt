@@ -17,7 +17,7 @@ use Rattle.blog_trans.specs.declared.kind.EventKind.{EventKind}
 use Rattle.blog_trans.specs.declared.kind.EventKind.TheVariants as kind
 use Rattle.blog_trans.specs.declared.checker.Checker.{Checker}
 use Rattle.blog_trans.specs.declared.layouts.SelectedTable.{SelectedTable}
-use Rattle.blog_trans.specs.declared.maps.MapSeen.{MapSeen}
+use Rattle.blog_trans.specs.declared.checker.MapSeen.{MapSeen}
 use Rattle.blog_trans.specs.declared.place.Place.{Place}
 use Rattle.blog_trans.specs.declared.place.Place.TheVariants.{Outside}
 use Rattle.blog_trans.specs.Selection.{Selection}
@@ -26,8 +26,7 @@ use Rattle.blog_trans.specs.Acceptance.{is_selected, clashes_by_id, end_checks, 
 use Rattle.blog_trans.specs.Places.{kind_at, is_begin, is_map, is_rows, is_map_of, leads_to, is_inside, place, since}
 use Rattle.blog_trans.specs.TablesView.{tables_known, HaveGrown, IsNumbered}
 use Rattle.blog_trans.specs.StatementMaps.{MapFacts, first_of_ids, facts_of, facts_held, is_used}
-use Rattle.blog_trans.specs.TakenView.{statement_with}
-use Rattle.blog_trans.specs.CheckerView.{HasChecked, LayoutsAgree, IsPassed, IsPassedStatement, is_rows_of, columns_known, column_checks}
+use Rattle.blog_trans.specs.CheckerView.{statement_with, HasChecked, LayoutsAgree, IsPassed, IsPassedStatement, is_rows_of, columns_known, column_checks}
 use Rattle.blog_trans.proofs.ProgressFirsts.{and-false}
 use Rattle.blog_trans.proofs.CheckingStatement.{facts-quiet, facts-kept, passed-quiet, passed-map}
 use Rattle.blog_trans.proofs.CheckingMaps.{all-snoc, maps-more}

@@ -18,7 +18,7 @@ use Rattle.blog_trans.specs.declared.table_name.TableName.{TableName}
 use Rattle.blog_trans.specs.Selection.{Selection, is_wanted}
 use Rattle.blog_trans.specs.Places.{is_map}
 use Rattle.blog_trans.specs.Acceptance.{is_selected, clashes_by_layout, is_same_table, have_same_layout, selected_map_checks}
-use Rattle.blog_trans.specs.TableNameView.{table_named}
+use Rattle.blog_trans.specs.TablesView.{table_named}
 use Rattle.blog_trans.specs.CheckerView.{LayoutsAgree, has_other_layout, is_same_name}
 use Rattle.blog_trans.proofs.CheckingStatement.{or-false, twice}
 

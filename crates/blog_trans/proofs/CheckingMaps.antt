@@ -19,7 +19,7 @@ use Rattle.blog_row.specs.Column.{Layout}
 use Rattle.blog_row.specs.declared.fault.RowFault.{RowFault}
 use Rattle.blog_row.specs.RowsEvent.{table_id}
 use Rattle.blog_trans.specs.declared.layouts.SelectedTable.{SelectedTable}
-use Rattle.blog_trans.specs.declared.maps.MapSeen.{MapSeen}
+use Rattle.blog_trans.specs.declared.checker.MapSeen.{MapSeen}
 use Rattle.blog_trans.specs.Selection.{Selection}
 use Rattle.blog_trans.specs.Places.{is_map, is_rows, is_map_of, map_in}
 use Rattle.blog_trans.specs.Acceptance.{is_selected, clashes_by_id}

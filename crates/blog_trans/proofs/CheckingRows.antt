@@ -26,8 +26,8 @@ use Rattle.blog_row.proofs.Images.{image_positive}
 use Rattle.blog_trans.specs.declared.kind.EventKind.TheVariants as kind
 use Rattle.blog_trans.specs.declared.checker.Checker.{Checker}
 use Rattle.blog_trans.specs.declared.layouts.SelectedTable.{SelectedTable}
-use Rattle.blog_trans.specs.declared.maps.MapSeen.{MapSeen}
-use Rattle.blog_trans.specs.declared.taken.KeptRows.{KeptRows}
+use Rattle.blog_trans.specs.declared.checker.MapSeen.{MapSeen}
+use Rattle.blog_trans.specs.declared.checker.KeptRows.{KeptRows}
 use Rattle.blog_trans.specs.Selection.{Selection}
 use Rattle.blog_trans.specs.Places.{kind_at, is_map, is_rows, is_map_of, map_in, is_inside, place, since}
 use Rattle.blog_trans.specs.Acceptance.{is_selected, cause_of_row, rows_check, event_fault}
@@ -35,8 +35,7 @@ use Rattle.blog_trans.specs.Changes.{table_of}
 use Rattle.blog_trans.specs.Groups.{kept_rows}
 use Rattle.blog_trans.specs.TablesView.{tables_known, table_at, IsNumbered}
 use Rattle.blog_trans.specs.StatementMaps.{MapFacts, first_of_ids, facts_of, facts_held}
-use Rattle.blog_trans.specs.TakenView.{statement_with, IsKept}
-use Rattle.blog_trans.specs.CheckerView.{HasChecked, LayoutsAgree, IsPassedStatement, columns_known, IsReadBy}
+use Rattle.blog_trans.specs.CheckerView.{statement_with, IsKept, HasChecked, LayoutsAgree, IsPassedStatement, columns_known, IsReadBy}
 use Rattle.blog_trans.proofs.CheckingStatement.{map-there, passed-rows}
 use Rattle.blog_trans.proofs.CheckingMaps.{IsId, IsPassedMap, first-passed, find-first, held-some, maps-marked}
 use Rattle.blog_trans.proofs.CheckingLayouts.{layouts-quiet}

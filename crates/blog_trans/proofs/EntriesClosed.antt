@@ -3,10 +3,10 @@ use Rattle.std.proofs.Common.{◌≡◌, ℕ, ◌+◌, ◌<◌, List, [], ◌∷
 use Rattle.std.specs.List.{flat_map}
 use Rattle.std.proofs.lemmas.List.{append-nil, length-map}
 use Rattle.blog_event.specs.File.{Placed}
-use Rattle.blog_trans.specs.declared.entry.Entry.{Entry}
-use Rattle.blog_trans.specs.declared.entry.StatementStart.{StatementStart}
-use Rattle.blog_trans.specs.declared.entry.TransactionStart.{TransactionStart}
-use Rattle.blog_trans.specs.declared.maps.MapSeen.{MapSeen}
+use Rattle.blog_trans.specs.declared.lists.Entry.{Entry}
+use Rattle.blog_trans.specs.declared.lists.StatementStart.{StatementStart}
+use Rattle.blog_trans.specs.declared.lists.TransactionStart.{TransactionStart}
+use Rattle.blog_trans.specs.declared.checker.MapSeen.{MapSeen}
 use Rattle.blog_trans.specs.Groups.{PlacedRows, PlacedStatement, PlacedTransaction}
 use Rattle.blog_trans.specs.Progress.{Open, Progress}
 use Rattle.blog_trans.specs.Entries.{entry_at, event_entry, rows_entry, statement_entries, entries_of, map_entries, statement_start, starts_in, statement_starts, Shows}

@@ -3,9 +3,9 @@ use Rattle.std.proofs.Common.{◌≡◌, ℕ, ◌+◌, ◌<◌, List, [], ◌∷
 use Rattle.std.specs.List.{flat_map}
 use Rattle.std.proofs.lemmas.List.{append-nil, nil_from_length}
 use Rattle.blog_event.specs.File.{Placed}
-use Rattle.blog_trans.specs.declared.entry.Entry.{Entry}
-use Rattle.blog_trans.specs.declared.entry.StatementStart.{StatementStart}
-use Rattle.blog_trans.specs.declared.entry.TransactionStart.{TransactionStart}
+use Rattle.blog_trans.specs.declared.lists.Entry.{Entry}
+use Rattle.blog_trans.specs.declared.lists.StatementStart.{StatementStart}
+use Rattle.blog_trans.specs.declared.lists.TransactionStart.{TransactionStart}
 use Rattle.blog_trans.specs.Groups.{PlacedRows, PlacedStatement, PlacedTransaction, transaction_if}
 use Rattle.blog_trans.specs.Progress.{Open, Progress, appended_if, ended}
 use Rattle.blog_trans.specs.Entries.{event_entry, statement_entries, entries_of, transaction_start, starts_in, statement_starts, statements_in, Shows}

@@ -2,7 +2,7 @@
 use Rattle.std.proofs.Common.{◌≡◌, ℕ, zero, suc, ◌+◌, ◌<◌, List, [], ◌∷◌, ◌++◌, length, take, get_or, Some, refl, sym, ap, ap₂, ◌∙◌, add-zero, length-append, arith}
 use Rattle.std.specs.List.{flat_map, slice_get}
 use Rattle.std.proofs.lemmas.Option.{none-some, same_Some, slice_get_within, slice_get_read}
-use Rattle.blog_trans.specs.declared.entry.Entry.{Entry}
+use Rattle.blog_trans.specs.declared.lists.Entry.{Entry}
 use Rattle.blog_trans.specs.Groups.{PlacedStatement, PlacedTransaction}
 use Rattle.blog_trans.specs.Entries.{event_entry, statement_entries, transaction_entries, entries_of, transaction_start, transaction_starts, statement_start, starts_in, statement_starts, statements_in, statement_place}
 use Rattle.blog_trans.proofs.Columns.{entries_cons, statements_cons, starts_len}

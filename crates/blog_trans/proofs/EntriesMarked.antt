@@ -3,9 +3,9 @@ use Rattle.std.proofs.Common.{◌≡◌, ℕ, ◌+◌, List, [], ◌∷◌, ◌+
 use Rattle.std.specs.List.{flat_map}
 use Rattle.std.proofs.lemmas.List.{append-nil, length-map}
 use Rattle.blog_event.specs.File.{Placed}
-use Rattle.blog_trans.specs.declared.entry.Entry.{Entry}
-use Rattle.blog_trans.specs.declared.entry.StatementStart.{StatementStart}
-use Rattle.blog_trans.specs.declared.entry.TransactionStart.{TransactionStart}
+use Rattle.blog_trans.specs.declared.lists.Entry.{Entry}
+use Rattle.blog_trans.specs.declared.lists.StatementStart.{StatementStart}
+use Rattle.blog_trans.specs.declared.lists.TransactionStart.{TransactionStart}
 use Rattle.blog_trans.specs.Groups.{PlacedTransaction}
 use Rattle.blog_trans.specs.Progress.{Open, Progress}
 use Rattle.blog_trans.specs.Entries.{event_entry, rows_entry, statement_entries, entries_of, statement_starts, starts_in, statements_in, Shows}

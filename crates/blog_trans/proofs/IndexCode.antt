@@ -14,14 +14,12 @@ use Rattle.blog_event.proofs.Openings.{opened-log}
 use Rattle.blog_event.proofs.Going.{opened-reads-on}
 use Rattle.blog_trans.specs.Selection.{Selection}
 use Rattle.blog_trans.specs.Places.{place, is_outside}
-use Rattle.blog_trans.specs.Acceptance.{range, first_read_fault, first_format_fault, has_first, is_cut, fault, IsAccepted}
+use Rattle.blog_trans.specs.Acceptance.{range, first_read_fault, first_format_fault, has_first, is_cut, fault, IsAccepted, HavePassed, IsRefusal}
 use Rattle.blog_trans.specs.declared.place.Place.{Place}
 use Rattle.blog_trans.specs.Groups.{placed_groups}
 use Rattle.blog_trans.specs.Progress.{progress}
-use Rattle.blog_trans.specs.Passing.{HavePassed}
 use Rattle.blog_trans.proofs.ProgressGroups.{none-open}
 use Rattle.blog_trans.proofs.ProgressAccepted.{accepted-groups, accepted-outside}
-use Rattle.blog_trans.specs.Refusals.{IsRefusal}
 use Rattle.blog_trans.specs.WalkView.{walk_fault, end_fault}
 
 -- a check that passes in front of others changes nothing

@@ -4,7 +4,7 @@ use Rattle.std.specs.List.{flat_map, slice_get}
 use Rattle.std.proofs.lemmas.List.{length-map, take_all}
 use Rattle.std.proofs.lemmas.Option.{slice_get-map}
 use Rattle.blog_event.specs.File.{Placed}
-use Rattle.blog_trans.specs.declared.entry.Entry.{Entry}
+use Rattle.blog_trans.specs.declared.lists.Entry.{Entry}
 use Rattle.blog_trans.specs.Groups.{PlacedRows, PlacedStatement, PlacedTransaction}
 use Rattle.blog_trans.specs.Entries.{event_entry, rows_entry, statement_entries, transaction_entries, entries_of, statements_in, transaction_place, statement_place}
 use Rattle.blog_trans.proofs.Columns.{flat_push, entries_push, statements_push, statement_len}

@@ -11,7 +11,7 @@ use Rattle.blog_row.specs.declared.kind.RowsKind.{RowsKind}
 use Rattle.blog_row.specs.Column.{Layout}
 use Rattle.blog_row.specs.TableMap.{layout_of, names_of}
 use Rattle.blog_row.specs.RowsEvent.{RowsBody, rows_of}
-use Rattle.blog_trans.specs.declared.entry.Entry.{Entry}
+use Rattle.blog_trans.specs.declared.lists.Entry.{Entry}
 use Rattle.blog_trans.specs.declared.groups.Index.{Index}
 use Rattle.blog_trans.specs.declared.kind.EventKind.{EventKind}
 use Rattle.blog_trans.specs.declared.kind.EventKind.TheVariants as kind

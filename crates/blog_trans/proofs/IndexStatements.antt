@@ -4,7 +4,7 @@ use Rattle.std.specs.List.{slice_get}
 use Rattle.std.proofs.lemmas.Bool.{false≢true}
 use Rattle.std.proofs.lemmas.Option.{same_Some, slice_get_within, option_and_then_some}
 use Rattle.blog_event.specs.File.{Placed}
-use Rattle.blog_trans.specs.declared.entry.StatementStart.{StatementStart}
+use Rattle.blog_trans.specs.declared.lists.StatementStart.{StatementStart}
 use Rattle.blog_trans.specs.declared.groups.Index.{Index}
 use Rattle.blog_trans.specs.Groups.{PlacedRows, PlacedStatement, PlacedTransaction}
 use Rattle.blog_trans.specs.Entries.{rows_entry, statement_start, statement_starts, statements_in, transaction_place, statement_place}

@@ -9,8 +9,7 @@ use Rattle.blog_row.specs.TableMap.{Table}
 use Rattle.blog_trans.specs.Selection.{Selection}
 use Rattle.blog_trans.specs.Groups.{PlacedStatement, PlacedTransaction, Transaction, placed_groups, groups, event_value, rows_value, statement_value, transaction_value}
 use Rattle.blog_trans.specs.Changes.{Change, TableCount, table_of, changes_of_rows, changes_of_statement, changes_of, count_of, first_tables, tables_of, counts_of}
-use Rattle.blog_trans.specs.BuilderView.{statements_changes, statements_tables}
-use Rattle.blog_trans.specs.PlacedChanges.{placed_changes, placed_tables}
+use Rattle.blog_trans.specs.BuilderView.{statements_changes, statements_tables, placed_changes, placed_tables}
 
 -- ---- the changes
 

@@ -7,10 +7,9 @@ use Rattle.blog_event.specs.Fault.{Cause, needs, first_failing, fault_at}
 use Rattle.blog_event.specs.File.{Placed, placed_from, read, end_of}
 use Rattle.blog_trans.specs.Selection.{Selection}
 use Rattle.blog_trans.specs.Places.{place, is_inside, is_outside}
-use Rattle.blog_trans.specs.Acceptance.{event_fault, range, is_in_range, is_start_inside, read_fault, first_read_fault, lines, fault, IsAccepted}
+use Rattle.blog_trans.specs.Acceptance.{event_fault, range, is_in_range, is_start_inside, read_fault, first_read_fault, lines, fault, IsAccepted, Passes}
 use Rattle.blog_trans.specs.Groups.{placed_groups}
 use Rattle.blog_trans.specs.Progress.{progress}
-use Rattle.blog_trans.specs.Passing.{Passes}
 use Rattle.blog_trans.proofs.ProgressSteps.{outside-not-inside}
 use Rattle.blog_trans.proofs.ProgressGroups.{progress-is-groups}
 

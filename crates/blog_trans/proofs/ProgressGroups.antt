@@ -11,7 +11,7 @@ use Rattle.blog_trans.specs.Kinds.{is_begin_kind, is_end_kind, rows_of_kind}
 use Rattle.blog_trans.specs.Places.{is_begin, is_end, is_rows, is_last_rows, place, is_inside, since}
 use Rattle.blog_trans.specs.Groups.{PlacedRows, PlacedStatement, PlacedTransaction, Span, cons_if, spans, onto_first, statements_of, kept_rows, statement_if, kept_statement, transaction_if, kept_transaction, placed_groups_in}
 use Rattle.blog_trans.specs.Progress.{Open, Progress, appended_if, with_rows, closed, ended_if, rows_taken, advance, advance_by, progress}
-use Rattle.blog_trans.specs.Passing.{HavePassed, Passes}
+use Rattle.blog_trans.specs.Acceptance.{HavePassed, Passes}
 use Rattle.blog_trans.proofs.ProgressSteps.{reverse-latest, reverse-behind, Begins, Ends, IsRowsStep, IsOther, Step, begins, ends, rows, other, step-of}
 use Rattle.blog_trans.proofs.ProgressRows.{AreChecked, with-checked, statement-keeps}
 use Rattle.blog_trans.proofs.ProgressState.{since-other, since-rows, since-last, IsState, state-of, open-inside}

@@ -7,11 +7,10 @@ use Rattle.std.proofs.lemmas.Option.{none-some, same_Some}
 use Rattle.blog_event.specs.File.{Placed}
 use Rattle.blog_trans.specs.Selection.{Selection}
 use Rattle.blog_trans.specs.Places.{is_rows, since, map_in}
-use Rattle.blog_trans.specs.Acceptance.{is_selected}
+use Rattle.blog_trans.specs.Acceptance.{is_selected, HavePassed}
 use Rattle.blog_trans.specs.Groups.{PlacedRows, PlacedStatement, kept_rows, first_maps, statement_if}
 use Rattle.blog_trans.specs.Progress.{Open, appended_if, with_rows, closed, progress}
 use Rattle.blog_trans.specs.StatementMaps.{first_of_ids, is_used}
-use Rattle.blog_trans.specs.Passing.{HavePassed}
 use Rattle.blog_trans.proofs.ProgressSteps.{reverse-behind, IsChecked}
 use Rattle.blog_trans.proofs.ProgressRows.{AreChecked, kept_so_far, with-checked, no-rows-kept, found-stays}
 use Rattle.blog_trans.proofs.ProgressState.{open-kept}

@@ -13,10 +13,9 @@ use Rattle.blog_trans.specs.declared.kind.EventKind.TheVariants as kind
 use Rattle.blog_trans.specs.Selection.{Selection}
 use Rattle.blog_trans.specs.Kinds.{rows_of_kind}
 use Rattle.blog_trans.specs.Places.{kind_at, is_begin, is_rows, is_last_rows, since, is_map_of, map_in}
-use Rattle.blog_trans.specs.Acceptance.{is_selected}
+use Rattle.blog_trans.specs.Acceptance.{is_selected, HavePassed}
 use Rattle.blog_trans.specs.Groups.{PlacedRows, rows_by_kind, kept_rows}
 use Rattle.blog_trans.specs.Progress.{appended_if}
-use Rattle.blog_trans.specs.Passing.{HavePassed}
 use Rattle.blog_trans.proofs.ProgressSteps.{reverse-latest, reverse-behind, IsChecked, Step, begins, ends, rows, other, step-of}
 
 -- each rows event was checked, with the events of the statement before it

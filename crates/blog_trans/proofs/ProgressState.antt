@@ -8,7 +8,7 @@ use Rattle.blog_trans.specs.Selection.{Selection}
 use Rattle.blog_trans.specs.Places.{is_begin, is_rows, place, is_inside, since}
 use Rattle.blog_trans.specs.Groups.{PlacedTransaction, kept_rows}
 use Rattle.blog_trans.specs.Progress.{Open, Progress, appended_if, ended_if, rows_taken, advance, progress}
-use Rattle.blog_trans.specs.Passing.{HavePassed}
+use Rattle.blog_trans.specs.Acceptance.{HavePassed}
 use Rattle.blog_trans.proofs.ProgressSteps.{Begins, Ends, IsRowsStep, IsOther, Step, begins, ends, rows, other, step-of}
 use Rattle.blog_trans.proofs.ProgressRows.{kept_so_far, no-rows-kept, none-kept}
 

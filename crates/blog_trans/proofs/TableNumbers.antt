@@ -12,13 +12,12 @@ use Rattle.indexmap.proofs.CallerLemmas.{insert_entry-new, keys-insert_entry-pre
 use Rattle.blog_row.specs.declared.layout.Layout.{Layout}
 use Rattle.blog_row.specs.TableMap.{Table, Names, names_of}
 use Rattle.blog_trans.specs.declared.layouts.SelectedTable.{SelectedTable}
-use Rattle.blog_trans.specs.declared.maps.MapSeen.{MapSeen}
+use Rattle.blog_trans.specs.declared.checker.MapSeen.{MapSeen}
 use Rattle.blog_trans.specs.declared.table_name.TableName.{TableName}
 use Rattle.blog_trans.specs.Acceptance.{is_same_table}
 use Rattle.blog_trans.specs.Changes.{table_of}
 use Rattle.blog_trans.specs.CheckerView.{is_same_name}
-use Rattle.blog_trans.specs.TableNameView.{table_named}
-use Rattle.blog_trans.specs.TablesView.{tables_known, HaveGrown, IsNumbered}
+use Rattle.blog_trans.specs.TablesView.{table_named, tables_known, HaveGrown, IsNumbered}
 use Rattle.blog_trans.proofs.Growing.{front-place}
 use Rattle.blog_trans.proofs.Tables.{same-table}
 

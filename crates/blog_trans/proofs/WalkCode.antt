@@ -15,8 +15,7 @@ use Rattle.blog_event.proofs.Going.{left-more, left-none}
 use Rattle.blog_event.proofs.Opened.{LogReads}
 use Rattle.blog_trans.specs.declared.builder.IndexBuilder.{IndexBuilder}
 use Rattle.blog_trans.specs.Selection.{Selection}
-use Rattle.blog_trans.specs.Acceptance.{is_in_range, range, is_start_inside, read_fault, first_read_fault}
-use Rattle.blog_trans.specs.Refusals.{IsRefusal}
+use Rattle.blog_trans.specs.Acceptance.{is_in_range, range, is_start_inside, read_fault, first_read_fault, IsRefusal}
 use Rattle.blog_trans.specs.BuilderView.{HasTaken, IsWithin}
 use Rattle.blog_trans.specs.WalkView.{walk_fault}
 use Rattle.blog_trans.proofs.CountsCode.{few-upto}

@@ -1,11 +1,11 @@
 -- Which logs are accepted under a selection, and the first fault of each other log
 -- (MySQL Internals manual, "Event Classes and Types", "Query_event", "Xid_event", "Table_map_event", "Rows_event").
 -- `earlier` has the events before one, the latest first.
-use Rattle.std.specs.Prelude.{◌≡◌, ℕ, ◌+◌, ◌^◌, Bool, true, false, ◌&&◌, not, if◌then◌else◌, List, [], ◌∷◌, length, take, reverse, filter, Option, Some, None, Result, Ok, Err, nat_lt, nat_le, ◌==◌, bytes_eq, is_some}
+use Rattle.std.specs.Prelude.{◌≡◌, ℕ, ◌+◌, ◌^◌, Bool, true, false, ◌&&◌, not, if◌then◌else◌, List, [], ◌∷◌, length, take, reverse, filter, Option, Some, None, Result, Ok, Err, nat_lt, nat_le, ◌==◌, bytes_eq, is_some, ◌⊎◌}
 use Rattle.std.specs.Option.{option_map_or}
 use Rattle.std.specs.List.{list_any}
 use Rattle.blog_event.specs.declared.fault.Fault.{Fault}
-use Rattle.blog_event.specs.declared.fault.Fault.TheVariants.{NotABinlog, CutEvent, NoEventAt, Statement, RolledBack, OutOfPlace, Unended, NoMap, MapClash, PartialImage, UnknownType, BadBody, UnknownEvent, TooLong}
+use Rattle.blog_event.specs.declared.fault.Fault.TheVariants.{NotABinlog, CutEvent, NoEventAt, Statement, RolledBack, OutOfPlace, Unended, NoMap, MapClash, PartialImage, UnknownType, BadBody, UnknownEvent, TooLong, OutOfMemory}
 use Rattle.blog_event.specs.Fault.{Cause, needs, first_failing, fault_at}
 use Rattle.blog_event.specs.Event.{Event, event_size}
 use Rattle.blog_event.specs.File.{magic, Placed, placed_from, end_of, is_below, read}
@@ -115,6 +115,16 @@ checks sel earlier p kind.Unknown = Some UnknownEvent ∷ []
 abbrev pub event_fault : Selection → List Placed → Placed → Option Cause
 event_fault sel earlier p = first_failing (checks sel earlier p (kind_at p))
 
+-- each of the events has passed. They stand latest first.
+abbrev pub HavePassed : Selection → List Placed → Type 0
+HavePassed sel [] = Unit {0}
+HavePassed sel (p ∷ earlier) = (event_fault sel earlier p ≡ None) × HavePassed sel earlier
+
+-- each of these events passes in turn. They stand in order, behind the earlier ones, which stand latest first.
+abbrev pub Passes : Selection → List Placed → List Placed → Type 0
+Passes sel earlier [] = Unit {0}
+Passes sel earlier (p ∷ ps) = (event_fault sel earlier p ≡ None) × Passes sel (p ∷ earlier) ps
+
 -- ---- the range
 
 -- not the event at 4, and not before the start
@@ -175,3 +185,7 @@ fault bytes sel = first_failing (lines bytes sel (read bytes sel.stop))
 -- no fault is there
 abbrev pub IsAccepted : List ℕ → Selection → Type 0
 IsAccepted bytes sel = fault bytes sel ≡ None
+
+-- how a log is refused: memory was refused, or this is its fault
+abbrev pub IsRefusal : Option Fault → Fault → Type 0
+IsRefusal wanted fault = (fault ≡ OutOfMemory) ⊎ (wanted ≡ Some fault)

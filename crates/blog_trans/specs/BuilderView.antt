@@ -8,16 +8,15 @@ use Rattle.blog_event.specs.Fault.{Cause, fault_at}
 use Rattle.blog_event.specs.File.{Placed}
 use Rattle.blog_row.specs.TableMap.{Table}
 pub use Rattle.blog_trans.specs.Places.{placed}
-use Rattle.blog_trans.specs.declared.taken.KeptRows.{KeptRows}
+use Rattle.blog_trans.specs.declared.checker.KeptRows.{KeptRows}
 use Rattle.blog_trans.specs.declared.builder.IndexBuilder.{IndexBuilder}
 use Rattle.blog_trans.specs.Selection.{Selection}
 use Rattle.blog_trans.specs.TablesView.{tables_known}
 use Rattle.blog_trans.specs.Places.{since}
-use Rattle.blog_trans.specs.Groups.{PlacedRows, PlacedStatement, rows_value}
+use Rattle.blog_trans.specs.Groups.{PlacedRows, PlacedStatement, rows_value, PlacedTransaction}
 use Rattle.blog_trans.specs.Changes.{Change, table_of, changes_of_rows}
 use Rattle.blog_trans.specs.Progress.{Open, Progress, progress}
-use Rattle.blog_trans.specs.Passing.{HavePassed}
-use Rattle.blog_trans.specs.Refusals.{IsRefusal}
+use Rattle.blog_trans.specs.Acceptance.{HavePassed, IsRefusal}
 use Rattle.blog_trans.specs.CheckerView.{HasChecked}
 use Rattle.blog_trans.specs.ListsView.{HasKept}
 use Rattle.blog_trans.specs.CountsView.{AreCounts, AreFew}
@@ -41,6 +40,13 @@ statements_tables ss = flat_map (λ s. map (λ m. table_of m.event.body) s.maps)
 
 abbrev pub progress_tables : Progress → List Table
 progress_tables k = flat_map (λ t. statements_tables t.statements) k.done ++ option_map_or (λ o. statements_tables o.statements) k.current []
+
+-- the same of groups as they stand in the log
+abbrev pub placed_changes : List PlacedTransaction → List Change
+placed_changes ts = progress_changes (record { done = ts; current = None })
+
+abbrev pub placed_tables : List PlacedTransaction → List Table
+placed_tables ts = progress_tables (record { done = ts; current = None })
 
 -- ---- the builder
 

@@ -1,12 +1,20 @@
 -- What counts hold of the rows of tables.
-use Rattle.std.specs.Prelude.{◌≡◌, ◌≤◌, ◌<◌, IfSome, ℕ, Bool, false, List, [], map, length, slice_get, Option, Some, None}
+use Rattle.std.specs.Prelude.{◌≡◌, ◌≤◌, ◌<◌, IfSome, ℕ, Bool, false, List, [], map, length, slice_get, Option, Some, None, ◌+◌, ◌/◌}
 use Rattle.std.specs.List.{list_any, AllByRecursion, IsDistinct}
 use Rattle.blog_row.specs.TableMap.{Table}
+use Rattle.blog_row.specs.declared.kind.RowsAction.{RowsAction}
+use Rattle.blog_row.specs.declared.kind.RowsAction.TheVariants.{Write, Update, Delete}
 use Rattle.blog_trans.specs.declared.counts.Count.{Count}
 use Rattle.blog_trans.specs.declared.counts.Counts.{Counts}
-use Rattle.blog_trans.specs.declared.maps.MapSeen.{MapSeen}
+use Rattle.blog_trans.specs.declared.checker.MapSeen.{MapSeen}
 use Rattle.blog_trans.specs.Acceptance.{is_same_table}
 use Rattle.blog_trans.specs.Changes.{Change, TableCount, count_of, first_tables}
+
+-- the numbers, and one row more for each image, or for each two of an update
+abbrev pub with_images : RowsAction → ℕ → Count → Count
+with_images Write n c = record c { inserts = c.inserts + n }
+with_images Update n c = record c { updates = c.updates + n / 2 }
+with_images Delete n c = record c { deletes = c.deletes + n }
 
 -- the numbers of a table, nothing where none are held
 abbrev pub counted : Table → Option Count → TableCount

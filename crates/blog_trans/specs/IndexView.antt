@@ -4,8 +4,10 @@ use Rattle.blog_event.specs.File.{Placed}
 use Rattle.blog_event.specs.LogView.{log_bytes}
 pub use Rattle.blog_trans.specs.Places.{placed}
 use Rattle.blog_trans.specs.declared.groups.Index.{Index}
+use Rattle.blog_trans.specs.declared.groups.TableCount as told
 use Rattle.blog_trans.specs.Selection.{Selection, selection_of}
 use Rattle.blog_trans.specs.Groups.{PlacedRows, PlacedStatement, PlacedTransaction, placed_groups}
+use Rattle.blog_trans.specs.Changes.{TableCount}
 
 -- the bytes of its log
 abbrev pub index_bytes : {A : Type 0} → Index A → List ℕ
@@ -32,3 +34,9 @@ map_at ts t s m = option_and_then (λ x. slice_get x.maps m) (statement_at ts t 
 -- a rows event of a statement
 abbrev pub rows_at : List PlacedTransaction → ℕ → ℕ → ℕ → Option PlacedRows
 rows_at ts t s r = option_and_then (λ x. slice_get x.rows r) (statement_at ts t s)
+
+-- ---- numbers
+
+-- the numbers of a table, without where its names lie
+abbrev pub table_counted : told.TableCount → TableCount
+table_counted c = record { table = record { schema = c.schema.now; name = c.table.now }; inserts = c.inserts; updates = c.updates; deletes = c.deletes }

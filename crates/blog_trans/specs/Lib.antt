@@ -9,17 +9,10 @@ pub mod Changes
 pub mod Progress
 pub mod Entries
 pub mod ListsView
-pub mod TableNameView
 pub mod TablesView
 pub mod StatementMaps
-pub mod TakenView
-pub mod Refusals
 pub mod CheckerView
 pub mod CountsView
-pub mod Counting
-pub mod PlacedChanges
-pub mod TableCountView
-pub mod Passing
 pub mod BuilderView
 pub mod PlacedFacts
 pub mod WalkView

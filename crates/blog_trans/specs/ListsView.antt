@@ -13,7 +13,7 @@ pub record AreMarks (transaction first statement : ℕ) (done : List PlacedTrans
   pub first_is : first ≡ statements_in done
   pub statement_is : statement ≡ length (entries_of done) + 1 + length (flat_map statement_entries o.statements)
 
--- the lists's lists show what is kept, and its marks lie where the open transaction and its open statement begin
+-- the lists show what is kept, and the marks lie where the open transaction and its open statement begin
 pub record HasKept {A : Type 0} (lists : IndexLists A) (k : Progress) : Type 0 where
   pub shows : Shows lists.entries.items lists.transactions.items lists.statements.items k
   pub marked : (o : Open) → k.current ≡ Some o → AreMarks lists.transaction_start lists.first_statement lists.statement_start k.done o

@@ -8,7 +8,7 @@ use Rattle.blog_row.specs.Column.{Layout}
 use Rattle.blog_row.specs.LayoutView.{layout_columns}
 use Rattle.blog_row.specs.TableMap.{layout_of}
 use Rattle.blog_row.specs.RowsEvent.{table_id}
-use Rattle.blog_trans.specs.declared.maps.MapSeen.{MapSeen}
+use Rattle.blog_trans.specs.declared.checker.MapSeen.{MapSeen}
 use Rattle.blog_trans.specs.Selection.{Selection}
 use Rattle.blog_trans.specs.Places.{is_map, is_rows, is_map_of}
 use Rattle.blog_trans.specs.Acceptance.{is_selected}

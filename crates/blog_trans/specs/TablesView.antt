@@ -4,11 +4,14 @@ use Rattle.std.specs.List.{list_any}
 use Rattle.indexmap.specs.IndexMap.{IndexMap, keys}
 use Rattle.blog_row.specs.declared.layout.Layout.{Layout}
 use Rattle.blog_row.specs.TableMap.{Table}
-use Rattle.blog_trans.specs.declared.maps.MapSeen.{MapSeen}
+use Rattle.blog_trans.specs.declared.checker.MapSeen.{MapSeen}
 use Rattle.blog_trans.specs.declared.table_name.TableName.{TableName}
 use Rattle.blog_trans.specs.Acceptance.{is_same_table}
 use Rattle.blog_trans.specs.Changes.{table_of}
-use Rattle.blog_trans.specs.TableNameView.{table_named}
+
+-- the table of a name
+abbrev pub table_named : TableName → Table
+table_named name = record { schema = name.schema.now; name = name.table.now }
 
 -- the tables whose layouts are known, by their numbers
 abbrev pub tables_known : {S : Type 0} → IndexMap TableName Layout S → List Table

@@ -8,8 +8,7 @@ use Rattle.blog_trans.specs.declared.builder.IndexBuilder.{IndexBuilder}
 use Rattle.blog_trans.specs.declared.place.Place.{Place}
 use Rattle.blog_trans.specs.Selection.{Selection}
 use Rattle.blog_trans.specs.Places.{is_outside}
-use Rattle.blog_trans.specs.Acceptance.{range, first_read_fault, is_cut}
-use Rattle.blog_trans.specs.Refusals.{IsRefusal}
+use Rattle.blog_trans.specs.Acceptance.{range, first_read_fault, is_cut, IsRefusal}
 use Rattle.blog_trans.specs.BuilderView.{HasTaken}
 
 -- an event is read: it passed and is walked, or the log is refused at it. `read` has it and the events before it.

@@ -1,11 +1,38 @@
 //! Walking through a log: each event of the range is checked, and what the groups take of it is kept.
 
-use crate::checker::Checker;
+ghost use Rattle.std.specs.Prelude.{◌≡◌, ◌+◌, ◌≤◌, ◌<◌, ◌^◌, ℕ, Option, List, [], ◌∷◌, map, length, Some, None, IsOk, OnOk, IfErr, IfSome, MatchResult, vec_len, vec_capacity, reverse, IfOk};
+ghost use Rattle.blog_trans.specs.Places.{since};
+ghost use Rattle.indexmap.specs.IndexMap.{values, index_map_len};
+ghost use Rattle.blog_event.specs.declared.fault.Fault.TheVariants.{OutOfMemory};
+ghost use Rattle.blog_event.specs.Fault.{fault_at};
+ghost use Rattle.blog_event.specs.Event.{event_of, event_size};
+ghost use Rattle.blog_event.specs.File.{Placed, is_below};
+ghost use Rattle.blog_trans.specs.Selection.{Selection as Sel, selection_of};
+ghost use Rattle.blog_trans.specs.Acceptance.{event_fault, HavePassed, IsRefusal, IsAccepted, fault, is_start_inside, range, read_fault};
+ghost use Rattle.blog_trans.specs.Groups.{PlacedRows};
+ghost use Rattle.blog_trans.specs.Changes.{table_of};
+ghost use Rattle.blog_trans.specs.Progress.{Open, Progress, with_rows, progress};
+ghost use Rattle.blog_trans.specs.TablesView.{tables_known, table_at};
+ghost use Rattle.blog_trans.specs.StatementMaps.{used_maps};
+ghost use Rattle.blog_row.specs.declared.kind.RowsKind.{RowsKind};
+ghost use Rattle.blog_trans.specs.declared.taken.Taken.TheVariants as taken;
+ghost use Rattle.blog_trans.specs.CheckerView.{IsKept, IsTaken, HasChecked};
+ghost use Rattle.blog_trans.specs.ListsView.{closed_by};
+ghost use Rattle.blog_trans.specs.CountsView.{AreBelow, AreFew};
+ghost use Rattle.blog_trans.specs.BuilderView.{HasTaken, IsWithin, IsTakenOrRefused, Keeps, images_of, placed};
+ghost use Rattle.blog_event.specs.LogView.{log_bytes};
+ghost use Rattle.blog_trans.specs.WalkView.{IsRead, IsThrough, end_fault};
+ghost use Rattle.blog_trans.specs.IndexView.{index_bytes, index_selection};
+ghost use Rattle.blog_trans.specs.Shown.{ShowsEachOnce};
+
+use crate::checker::{Checker, KeptRows};
 use crate::counts::Counts;
+use crate::groups::Index;
 use crate::lists::IndexLists;
+use crate::place::Place;
 use crate::selection::Selection;
-use crate::taken::{KeptRows, Taken};
-use blog_event::{Event, Fault};
+use crate::taken::Taken;
+use blog_event::{Event, Fault, Log};
 use std::alloc::Allocator;
 
 /// What is known and kept of the events of the range so far.
@@ -17,31 +44,6 @@ pub(crate) struct IndexBuilder<'a, A: Allocator> {
 }
 
 impl<'a, A: Allocator + Copy> IndexBuilder<'a, A> {
-    ghost use Rattle.std.specs.Prelude.{◌≡◌, ◌+◌, ◌≤◌, ◌<◌, ◌^◌, ℕ, Option, List, [], ◌∷◌, map, length, Some, None, IsOk, OnOk, IfErr, IfSome, MatchResult, vec_len, vec_capacity};
-    ghost use Rattle.blog_trans.specs.Places.{since};
-    ghost use Rattle.indexmap.specs.IndexMap.{values, index_map_len};
-    ghost use Rattle.blog_event.specs.declared.fault.Fault.TheVariants.{OutOfMemory};
-    ghost use Rattle.blog_event.specs.Fault.{fault_at};
-    ghost use Rattle.blog_event.specs.Event.{event_of};
-    ghost use Rattle.blog_event.specs.File.{Placed};
-    ghost use Rattle.blog_trans.specs.Selection.{Selection as Sel, selection_of};
-    ghost use Rattle.blog_trans.specs.Acceptance.{event_fault};
-    ghost use Rattle.blog_trans.specs.Groups.{PlacedRows};
-    ghost use Rattle.blog_trans.specs.Changes.{table_of};
-    ghost use Rattle.blog_trans.specs.Progress.{Open, Progress, with_rows};
-    ghost use Rattle.blog_trans.specs.TablesView.{tables_known, table_at};
-    ghost use Rattle.blog_trans.specs.StatementMaps.{used_maps};
-    ghost use Rattle.blog_row.specs.declared.kind.RowsKind.{RowsKind};
-    ghost use Rattle.blog_trans.specs.declared.taken.Taken.TheVariants as taken;
-    ghost use Rattle.blog_trans.specs.TakenView.{IsKept, IsTaken};
-    ghost use Rattle.blog_trans.specs.Passing.{HavePassed};
-    ghost use Rattle.blog_trans.specs.Progress.{progress};
-    ghost use Rattle.blog_trans.specs.Refusals.{IsRefusal};
-    ghost use Rattle.blog_trans.specs.ListsView.{closed_by};
-    ghost use Rattle.blog_trans.specs.CheckerView.{HasChecked};
-    ghost use Rattle.blog_trans.specs.CountsView.{AreBelow, AreFew};
-    ghost use Rattle.blog_trans.specs.BuilderView.{HasTaken, IsWithin, IsTakenOrRefused, Keeps, images_of, placed};
-
     /// Nothing was read yet.
     pub(crate) fn new(alloc: A) -> Self
         ensures walks { (sel : Sel) → HasTaken sel [] result }
@@ -157,4 +159,119 @@ impl<'a, A: Allocator + Copy> IndexBuilder<'a, A> {
         }
         Ok(())
     }
+}
+
+/// Whether a position lies below a stop, where there is one.
+pub(crate) fn is_below(at: u32, stop: Option<u32>) -> bool
+    ensures { result ≡ is_below at stop }
+{
+    match stop {
+        Some(stop) => at < stop,
+        None => true,
+    }
+}
+
+/// Whether the start lies strictly inside an event, and below the stop.
+pub(crate) fn is_start_inside(sel: &Selection<'_>, event: &Event<'_>) -> bool
+    requires { event.now.header.size ≡ event_size (event_of event.now) }
+    ensures { result ≡ is_start_inside (selection_of sel.now) (placed event.now) }
+{
+    is_below(sel.start, sel.stop)
+        && event.pos < sel.start
+        && sel.start - event.pos < event.header.size
+}
+
+/// One more event that is read: before the range nothing is asked of it but that the start isn't inside it.
+fn read<'a, A: Allocator + Copy>(
+    builder: &mut IndexBuilder<'a, A>,
+    sel: &Selection<'_>,
+    event: &Event<'a>,
+) -> Result<(), Fault>
+    requires behind { 4 < event.now.pos }
+    requires size { event.now.header.size ≡ event_size (event_of event.now) }
+    requires ends { event.now.pos + event_size (event_of event.now) < 2 ^ 32 }
+    requires within { IsWithin event.now.pos builder.old }
+    ensures walks { (earlier : List Placed) → HasTaken (selection_of sel.now) (range (selection_of sel.now) earlier) builder.old
+        → IsRead (read_fault (selection_of sel.now) earlier (placed event.now)) (selection_of sel.now) (placed event.now ∷ earlier) result builder.new }
+    ensures within { OnOk result (IsWithin (event.now.pos + event_size (event_of event.now)) builder.new) }
+{
+    if is_start_inside(sel, event) {
+        return Err(Fault::NoEventAt { pos: sel.start });
+    }
+    if event.pos >= sel.start {
+        builder.step(sel, event)?;
+    }
+    Ok(())
+}
+
+/// Walks through the events of a log behind its format description, as far as they are read. Answers where the last one
+/// ends.
+pub(crate) fn walk<'a, A: Allocator + Copy>(
+    builder: &mut IndexBuilder<'a, A>,
+    log: &Log<'a>,
+    sel: &Selection<'_>,
+) -> Result<u32, Fault>
+    requires begins { IsWithin 0 builder.old }
+    requires walks { HasTaken (selection_of sel.now) [] builder.old }
+    ensures through { IsThrough (log_bytes log.now) (selection_of sel.now) result builder.new }
+{
+    if is_start_inside(sel, &log.format()) {
+        return Err(Fault::NoEventAt { pos: sel.start });
+    }
+    let mut at = log.first();
+    'events: while is_below(at, sel.stop) && at != log.end() {
+        let Ok(event) = log.event_at(at) else {
+            return Err(Fault::CutEvent { pos: at });
+        };
+        match read(builder, sel, &event) {
+            Ok(()) => at += event.header.size,
+            Err(fault) => return Err(fault),
+        }
+    }
+    Ok(at)
+}
+
+/// The fault of a log that was read up to `at`, where none of its events has one: a start past its end, or a range that
+/// ends inside a transaction or behind a transaction's id.
+fn end_fault(end: u32, sel: &Selection<'_>, place: Place, at: u32) -> Option<Fault>
+    ensures { result ≡ end_fault end (selection_of sel.now) place at }
+{
+    if is_below(sel.start, sel.stop) && sel.start > end {
+        return Some(Fault::NoEventAt { pos: sel.start });
+    }
+    if !place.is_outside() {
+        return Some(Fault::Unended { pos: at });
+    }
+    None
+}
+
+/// Goes through a log once, and answers its groups under a selection. Nothing is copied from the log: the index has 16
+/// bytes for each event of the groups, and for each selected table where its names and columns lie, and its
+/// numbers of rows. The groups have events of the range, none of them twice. Fails with the first fault of the log, at its position; with `OutOfMemory` where a
+/// growth is refused, whatever later events would tell.
+pub fn index<'a, 's, A: Allocator + Copy>(
+    alloc: A,
+    log: &Log<'a>,
+    sel: &Selection<'s>,
+) -> Result<Index<'a, 's, A>, Fault>
+    ensures accepted { IfOk result (λ index. IsAccepted (log_bytes log.now) (selection_of sel.now)) }
+    ensures bytes { IfOk result (λ index. index_bytes index ≡ log_bytes log.now) }
+    ensures selection { IfOk result (λ index. index_selection index ≡ selection_of sel.now) }
+    ensures shown { OnOk result (ShowsEachOnce (log_bytes log.now) (selection_of sel.now)) }
+    ensures refused { IfErr result (IsRefusal (fault (log_bytes log.now) (selection_of sel.now))) }
+{
+    let mut builder = IndexBuilder::new(alloc);
+    let at = match walk(&mut builder, log, sel) {
+        Ok(at) => at,
+        Err(fault) => return Err(fault),
+    };
+    if let Some(fault) = end_fault(log.end(), sel, builder.checker.place(), at) {
+        return Err(fault);
+    }
+    let IndexBuilder {
+        checker,
+        lists,
+        counts,
+    } = builder;
+    Ok(Index::new(*log, *sel, lists, checker.into_layouts(), counts))
 }

@@ -13,21 +13,20 @@ ghost use Rattle.blog_row.specs.TableMap.{HasNames, map_names};
 ghost use Rattle.blog_trans.specs.Acceptance.{end_checks};
 ghost use Rattle.blog_trans.specs.Kinds.{kind_of, is_end_kind};
 ghost use Rattle.blog_trans.specs.declared.kind.EventKind.TheVariants as told;
-ghost use Rattle.blog_trans.specs.CheckerView.{HasChecked, IsChecked, IsCheckedBy, IsReadBy, IsMapCompared};
+ghost use Rattle.blog_trans.specs.CheckerView.{HasChecked, IsChecked, IsCheckedBy, IsReadBy, IsMapCompared, images_taken};
 ghost use Rattle.blog_trans.specs.Places.{since};
 ghost use Rattle.blog_trans.specs.TablesView.{tables_known, HaveGrown};
-ghost use Rattle.blog_trans.specs.TakenView.{images_taken};
 ghost use Rattle.blog_trans.specs.Selection.{Selection as Sel, selection_of};
 
 use crate::kind::{EventKind, event_kind};
-use crate::layouts::{Layouts, body_fault, take_table};
-use crate::maps::{MapSeen, Maps};
+use crate::layouts::{Layouts, SelectedTable, body_fault, take_table};
 use crate::place::Place;
 use crate::selection::Selection;
+use crate::table_ids::TableIdHasher;
 use crate::table_name::TableName;
-use crate::taken::{KeptRows, Taken};
+use crate::taken::Taken;
 use blog_event::{Event, Fault};
-use blog_row::{RowsEvent, RowsHead, RowsKind, TableMap};
+use blog_row::{RowsAction, RowsEvent, RowsHead, RowsKind, TableMap};
 use indexmap::IndexMap;
 use std::alloc::Allocator;
 use std::hash::BuildHasherDefault;
@@ -35,7 +34,36 @@ use std::hash::BuildHasherDefault;
 /// The size of an Xid event's body in bytes.
 const XID_LEN: usize = 8;
 
-/// What has to be known of the events before one to checker it.
+/// A table map of the open statement, the first of its table id.
+#[derive(Clone, Copy, Debug)]
+pub(crate) struct MapSeen<'a> {
+    /// The event's body.
+    pub(crate) body: &'a [u8],
+    /// The table, where it is selected.
+    pub(crate) table: Option<SelectedTable<'a>>,
+    /// Where its event begins, in bytes from the file's start.
+    pub(crate) at: u32,
+    /// Whether a rows event of a selected table goes by it.
+    pub(crate) used: bool,
+}
+
+/// The table maps of the open statement by their table ids, in the order of the log.
+pub(crate) type Maps<'a, A> = IndexMap<u64, MapSeen<'a>, BuildHasherDefault<TableIdHasher>, A>;
+
+/// A rows event of a selected table.
+#[derive(Clone, Copy, Debug)]
+pub(crate) struct KeptRows {
+    /// Where its table map begins, in bytes from the file's start.
+    pub(crate) map: u32,
+    /// The number of its table.
+    pub(crate) table: u32,
+    /// What is done to the rows.
+    pub(crate) action: RowsAction,
+    /// How many images it has.
+    pub(crate) images: usize,
+}
+
+/// What has to be known of the events before one to check it.
 #[derive(Drop)]
 pub(crate) struct Checker<'a, A: Allocator> {
     place: Place,

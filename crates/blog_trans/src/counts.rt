@@ -1,7 +1,6 @@
 //! Counting the rows of the groups by table.
 
-use crate::maps::Maps;
-use crate::taken::KeptRows;
+use crate::checker::{KeptRows, Maps};
 use blog_event::Fault;
 use blog_row::RowsAction;
 use std::alloc::Allocator;
@@ -27,7 +26,7 @@ pub(crate) struct Counts<A: Allocator> {
 
 impl Count {
     ghost use Rattle.std.specs.Prelude.{◌≡◌, ◌+◌, ◌<◌, ◌^◌, ◌/◌};
-    ghost use Rattle.blog_trans.specs.Counting.{with_images};
+    ghost use Rattle.blog_trans.specs.CountsView.{with_images};
 
     /// No rows.
     const NONE: Count = Count {

@@ -7,16 +7,15 @@ ghost use Rattle.blog_event.specs.LogView.{log_bytes};
 ghost use Rattle.blog_trans.specs.Selection.{selection_of};
 ghost use Rattle.blog_trans.specs.Acceptance.{fault};
 ghost use Rattle.blog_trans.specs.Groups.{placed_groups};
-ghost use Rattle.blog_trans.specs.PlacedChanges.{placed_changes, placed_tables};
+ghost use Rattle.blog_trans.specs.BuilderView.{placed_changes, placed_tables};
 ghost use Rattle.blog_trans.specs.CountsView.{AreCounts};
 ghost use Rattle.blog_trans.specs.TablesView.{tables_known};
 ghost use Rattle.blog_trans.specs.Entries.{entries_of, statement_starts, statements_in, transaction_starts};
 
 use crate::counts::Counts;
-use crate::entry::{Entry, StatementStart, TransactionStart};
 use crate::kind::{EventKind, event_kind};
 use crate::layouts::Layouts;
-use crate::lists::IndexLists;
+use crate::lists::{Entry, IndexLists, StatementStart, TransactionStart};
 use crate::selection::Selection;
 use blog_event::{Event, Log};
 use blog_row::{Layout, RowsEvent, TableMap};
@@ -65,10 +64,9 @@ impl<'a, 's, A: Allocator> Index<'a, 's, A> {
     ghost use Rattle.blog_row.specs.RowsEventView.{rows_kind, rows_layout, rows_body};
     ghost use Rattle.blog_trans.specs.Groups.{PlacedStatement, PlacedTransaction, groups};
     ghost use Rattle.blog_trans.specs.Changes.{counts_of};
-    ghost use Rattle.blog_trans.specs.TableCountView.{table_counted};
+    ghost use Rattle.blog_trans.specs.IndexView.{table_counted, index_bytes, index_groups, index_selection, placed, map_at, rows_at, statement_at};
     ghost use Rattle.blog_trans.specs.Entries.{ShowsGroups, statement_place, transaction_place};
     ghost use Rattle.blog_trans.specs.Shown.{events_in_range, shown_positions};
-    ghost use Rattle.blog_trans.specs.IndexView.{index_bytes, index_groups, index_selection, placed, map_at, rows_at, statement_at};
 
     /// The groups of a log, of what was kept of it.
     pub(crate) fn new(

@@ -10,8 +10,7 @@ ghost use Rattle.blog_trans.specs.CheckerView.{LayoutsAgree, AreSelectedColumns,
 ghost use Rattle.blog_trans.specs.Kinds.{kind_of};
 ghost use Rattle.blog_trans.specs.declared.kind.EventKind.TheVariants as kind;
 ghost use Rattle.blog_trans.specs.Selection.{Selection as Sel, selection_of, is_wanted};
-ghost use Rattle.blog_trans.specs.TableNameView.{table_named};
-ghost use Rattle.blog_trans.specs.TablesView.{tables_known, HaveGrown};
+ghost use Rattle.blog_trans.specs.TablesView.{table_named, tables_known, HaveGrown};
 
 use crate::selection::Selection;
 use crate::table_name::{TableName, TableNameHasher};

@@ -4,22 +4,19 @@
 mod builder;
 mod checker;
 mod counts;
-mod entry;
 mod group_events;
 mod groups;
 mod kind;
 mod laws;
 mod layouts;
 mod lists;
-mod maps;
 mod place;
 mod selection;
 mod table_ids;
 mod table_name;
 mod taken;
-mod walking;
 
-pub use entry::Entry;
+pub use builder::index;
 pub use group_events::{GroupEvent, GroupEvents, GroupRows};
 pub use groups::{Index, TableCount};
 pub use kind::{EventKind, event_kind};
@@ -27,6 +24,6 @@ pub use laws::{
     accepted_logs_have_groups, groups_are_of_events, opening_asks_the_first_lines,
     progress_gives_groups, statements_have_used_maps,
 };
+pub use lists::Entry;
 pub use place::Place;
 pub use selection::Selection;
-pub use walking::index;

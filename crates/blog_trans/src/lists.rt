@@ -1,4 +1,5 @@
-//! Keeping the events of the groups: the lists of the index, as they grow.
+//! The index's lists, as they grow: an entry for each event of the groups, and where transactions and statements begin
+//! among these.
 
 ghost use Rattle.std.specs.Prelude.{◌≡◌, ◌+◌, ◌<◌, ◌≤◌, ◌^◌, List, [], ◌∷◌, ◌++◌, map, take, drop, length, Some, None, IsOk, OnOk, OnErr, IfOk, IfErr, vec_len, vec_capacity};
 ghost use Rattle.indexmap.specs.IndexMap.{index_map_len, values};
@@ -9,10 +10,35 @@ ghost use Rattle.blog_trans.specs.Progress.{Open, Progress, ended, with_rows};
 ghost use Rattle.blog_trans.specs.StatementMaps.{used_maps};
 ghost use Rattle.blog_trans.specs.Entries.{map_entries};
 
-use crate::entry::{Entry, StatementStart, TransactionStart};
-use crate::maps::Maps;
+use crate::checker::Maps;
 use blog_event::Fault;
 use std::alloc::Allocator;
+
+/// An event of the groups, by where its header begins in the log.
+#[derive(Clone, Copy, Debug, PartialEq, Eq)]
+pub struct Entry {
+    pub(crate) at: u32,
+    // Of a rows event where its map begins in the log, of another event 0.
+    pub(crate) map: u32,
+}
+
+/// Where a transaction begins.
+#[derive(Clone, Copy, Debug)]
+pub(crate) struct TransactionStart {
+    /// Its first entry.
+    pub(crate) entry: u32,
+    /// Its first statement, counted over the whole log.
+    pub(crate) statement: u32,
+}
+
+/// Where a statement begins.
+#[derive(Clone, Copy, Debug)]
+pub(crate) struct StatementStart {
+    /// Its first entry.
+    pub(crate) entry: u32,
+    /// How many maps it has.
+    pub(crate) maps: u32,
+}
 
 /// The lists of what is kept of the events so far.
 #[derive(Drop)]
@@ -29,6 +55,15 @@ pub(crate) struct IndexLists<A: Allocator> {
     ghost statement_in: { statement_start ≤ vec_len entries },
     ghost few_statements: { vec_len statements ≤ statement_start },
     ghost few_before: { first_statement ≤ transaction_start },
+}
+
+impl Entry {
+    /// Where the event's header begins, in bytes from the file's start.
+    pub fn at(&self) -> u32
+        ensures { result ≡ self.now.at }
+    {
+        self.at
+    }
 }
 
 impl<A: Allocator + Copy> IndexLists<A> {

@@ -4,8 +4,7 @@ use Rattle.blog_row.specs.LayoutView.{layout_columns}
 use Rattle.blog_row.specs.TableMap.{layout_of, is_same_layout, map_names}
 use Rattle.indexmap.specs.IndexMap.{get}
 use Rattle.blog_trans.specs.CheckerView.{is_same_name}
-use Rattle.blog_trans.specs.TableNameView.{table_named}
-use Rattle.blog_trans.specs.TablesView.{tables_known}
+use Rattle.blog_trans.specs.TablesView.{table_named, tables_known}
 use Rattle.blog_trans.proofs.CheckingLayouts.{selected-known, selected-new, takes-known, takes-new, layouts-taken}
 use Rattle.blog_trans.proofs.TableNumbers.{inserted-number, tables-stay, tables-more}
 use Rattle.blog_trans.proofs.layouts.take_selected.Goals.{in_default-known-via-in-Some+else-not-same, in_default-known-via-in_default-known}

@@ -3,8 +3,7 @@ use Rattle.indexmap.specs.IndexMap.{index_map_len}
 use Rattle.blog_trans.specs.Selection.{selection_of}
 use Rattle.blog_trans.specs.Places.{kind_at}
 use Rattle.blog_trans.specs.Progress.{progress}
-use Rattle.blog_trans.specs.CheckerView.{HasChecked}
-use Rattle.blog_trans.specs.TakenView.{IsTaken, images_taken}
+use Rattle.blog_trans.specs.CheckerView.{HasChecked, IsTaken, images_taken}
 use Rattle.blog_trans.specs.TablesView.{tables_known}
 use Rattle.blog_trans.specs.BuilderView.{placed, images_of}
 use Rattle.blog_trans.proofs.CountsCode.{few-more, few-upto}

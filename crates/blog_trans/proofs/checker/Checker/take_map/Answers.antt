@@ -10,10 +10,9 @@ use Rattle.blog_trans.specs.Acceptance.{event_fault}
 use Rattle.blog_trans.specs.Places.{is_inside, is_map_of, place, since}
 use Rattle.blog_trans.specs.Selection.{Selection, selection_of}
 use Rattle.blog_trans.specs.CheckerView.{IsPassed}
-use Rattle.blog_trans.specs.TableNameView.{table_named}
-use Rattle.blog_trans.specs.TablesView.{tables_known}
+use Rattle.blog_trans.specs.TablesView.{table_named, tables_known}
 use Rattle.blog_trans.proofs.TableNumbers.{new-numbered}
-use Rattle.blog_trans.specs.declared.maps.MapSeen.{MapSeen}
+use Rattle.blog_trans.specs.declared.checker.MapSeen.{MapSeen}
 use Rattle.blog_row.specs.RowsEvent.{table_id}
 use Rattle.blog_trans.proofs.CheckingMaps.{map-id}
 use Rattle.blog_trans.proofs.Checking.{or-bad-some, new-facts, knows-map-seen, knows-map-new, map-fault-named}

@@ -1,6 +1,5 @@
-use Rattle.std.proofs.Common.{◌≡◌, Bool, true, Some, None, rules, refl, sym, ap, ◌∙◌}
+use Rattle.std.proofs.Common.{◌≡◌, Bool, true, Some, None, rules, refl, sym, ap, ◌∙◌, inr}
 use Rattle.std.specs.Prelude.{nat_eq, is_some, reverse}
-use Rattle.std.proofs.Common.{inr}
 use Rattle.std.proofs.lemmas.Result.{err_from_is_err_and}
 use Rattle.indexmap.specs.IndexMap.{get}
 use Rattle.blog_event.specs.declared.fault.Fault.TheVariants.{NoMap}
@@ -8,7 +7,7 @@ use Rattle.blog_event.specs.Event.{event_of}
 use Rattle.blog_event.specs.Fault.{fault_at}
 use Rattle.blog_event.specs.File.{Placed}
 use Rattle.blog_row.specs.RowsEvent.{table_id}
-use Rattle.blog_trans.specs.declared.maps.MapSeen.{MapSeen}
+use Rattle.blog_trans.specs.declared.checker.MapSeen.{MapSeen}
 use Rattle.blog_trans.specs.TablesView.{tables_known, IsNumbered}
 use Rattle.blog_trans.specs.Acceptance.{rows_check, event_fault}
 use Rattle.blog_trans.specs.Places.{is_inside, map_in, place, since}

@@ -1,6 +1,6 @@
 use Rattle.std.proofs.Common.{◌∙◌, ◌+◌, ap, sym, slice_set, subst, arith, refl}
 use Rattle.std.proofs.lemmas.Option.{slice_get_read, slice_get_within}
-use Rattle.blog_trans.specs.Counting.{with_images}
+use Rattle.blog_trans.specs.CountsView.{with_images}
 use Rattle.blog_trans.proofs.CountsCode.{IsFew, counts-more, few-read, few-more, few-set, with-few}
 use Rattle.blog_trans.proofs.counts.Counts.count.Goals as goal
 

@@ -1,5 +1,5 @@
 use Rattle.std.proofs.Common.{◌≡◌, ◌++◌, ◌∷◌, List, [], length, Some, sym, ap, subst, ◌∙◌, arith}
-use Rattle.blog_trans.specs.declared.entry.Entry.{Entry}
+use Rattle.blog_trans.specs.declared.lists.Entry.{Entry}
 use Rattle.blog_trans.specs.Progress.{Open}
 use Rattle.blog_trans.specs.Entries.{entry_at, event_entry, Shows}
 use Rattle.blog_trans.proofs.EntriesMarked.{marks_at, begun_holds}

@@ -1,7 +1,7 @@
 use Rattle.std.proofs.Common.{◌≡◌, ◌++◌, ◌∷◌, List, [], Some, length, take, drop, sym, ap, subst, arith}
 use Rattle.indexmap.specs.IndexMap.{values}
-use Rattle.blog_trans.specs.declared.entry.Entry.{Entry}
-use Rattle.blog_trans.specs.declared.entry.StatementStart.{StatementStart}
+use Rattle.blog_trans.specs.declared.lists.Entry.{Entry}
+use Rattle.blog_trans.specs.declared.lists.StatementStart.{StatementStart}
 use Rattle.blog_trans.specs.Entries.{map_entries, statement_start, Shows}
 use Rattle.blog_trans.specs.StatementMaps.{used_maps}
 use Rattle.blog_trans.specs.ListsView.{closed_by}

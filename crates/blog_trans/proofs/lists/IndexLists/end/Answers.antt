@@ -1,6 +1,6 @@
 use Rattle.std.proofs.Common.{◌≡◌, ◌++◌, ◌∷◌, List, [], sym, ap, subst, ◌∙◌, arith}
-use Rattle.blog_trans.specs.declared.entry.Entry.{Entry}
-use Rattle.blog_trans.specs.declared.entry.TransactionStart.{TransactionStart}
+use Rattle.blog_trans.specs.declared.lists.Entry.{Entry}
+use Rattle.blog_trans.specs.declared.lists.TransactionStart.{TransactionStart}
 use Rattle.blog_trans.specs.Progress.{ended}
 use Rattle.blog_trans.specs.Entries.{entry_at, event_entry, transaction_start, Shows}
 use Rattle.blog_trans.proofs.EntriesEnded.{left_out, kept}

@@ -3,7 +3,7 @@ use Rattle.blog_event.specs.LogView.{log_bytes}
 use Rattle.blog_trans.specs.Selection.{selection_of}
 use Rattle.blog_trans.specs.BuilderView.{IsWithin}
 use Rattle.blog_trans.proofs.WalkCode.{Left}
-use Rattle.blog_trans.proofs.walking.walk.Given as goal
+use Rattle.blog_trans.proofs.builder.walk.Given as goal
 
 abbrev pub invariant-events : goal.invariant-events
 invariant-events g l = record {

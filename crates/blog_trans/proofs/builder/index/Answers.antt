@@ -5,13 +5,12 @@ use Rattle.blog_trans.specs.Selection.{selection_of}
 use Rattle.blog_trans.specs.Entries.{Shows}
 use Rattle.blog_trans.specs.Progress.{Progress}
 use Rattle.blog_trans.specs.Groups.{placed_groups}
-use Rattle.blog_trans.specs.PlacedChanges.{placed_changes, placed_tables}
+use Rattle.blog_trans.specs.BuilderView.{placed_changes, placed_tables, progress_changes, progress_tables}
 use Rattle.blog_trans.specs.TablesView.{tables_known}
 use Rattle.blog_trans.specs.CountsView.{AreCounts}
-use Rattle.blog_trans.specs.BuilderView.{progress_changes, progress_tables}
 use Rattle.blog_trans.proofs.IndexCode.{walk-refused, end-refused, last-is, progress-is}
 use Rattle.blog_trans.proofs.Shown.{shows-each-once}
-use Rattle.blog_trans.proofs.walking.index.Goals as goal
+use Rattle.blog_trans.proofs.builder.index.Goals as goal
 
 pub walk-requires-clause-walks : goal.walk-requires-clause-walks
 walk-requires-clause-walks g c = c.new-builder.ensures.walks (selection_of c.args.sel.now)
