@@ -11,8 +11,6 @@ use Rattle.blog_trans.specs.declared.kind.EventKind.{EventKind}
 use Rattle.blog_trans.specs.declared.kind.EventKind.TheVariants as kind
 use Rattle.blog_trans.specs.Selection.{Selection}
 use Rattle.blog_trans.specs.Kinds.{is_begin_kind, is_end_kind}
-use Rattle.blog_trans.specs.declared.place.Place.{Place}
-use Rattle.blog_trans.specs.declared.place.Place.TheVariants.{Outside, Announced, Inside}
 use Rattle.blog_trans.specs.Places.{kind_at, is_end, is_last_rows, place, is_inside, is_outside, leads_to}
 use Rattle.blog_trans.specs.Acceptance.{checks, Passes}
 use Rattle.blog_trans.specs.Groups.{Span, cons_if, spans, onto_first, statements_of}

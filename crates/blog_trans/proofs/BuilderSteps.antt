@@ -1,5 +1,6 @@
 -- One more event, and what the builder's parts hold.
-use Rattle.std.proofs.Common.{◌≡◌, Bool, true, false, not, if◌then◌else◌, ◌&&◌, ◌==◌, List, [], ◌∷◌, map, length, filter, reverse, Option, Some, None, option_map, is_some, refl, sym, ap, ◌∙◌, subst}
+use Rattle.std.proofs.Common.{◌≡◌, ◌≤◌, ◌+◌, ℕ, Bool, true, false, not, if◌then◌else◌, ◌&&◌, ◌==◌, List, [], ◌∷◌, map, length, filter, reverse, Option, Some, None, option_map, is_some, refl, sym, ap, ◌∙◌, subst, inl, inr, arith}
+use Rattle.std.specs.Prelude.{◌⊎◌, vec_len}
 use Rattle.std.specs.List.{list_any, AllByRecursion}
 use Rattle.std.specs.Option.{option_map_or}
 use Rattle.std.proofs.lemmas.Bool.{false≢true}
@@ -10,7 +11,6 @@ use Rattle.blog_row.specs.declared.kind.RowsKind.{RowsKind}
 use Rattle.blog_row.specs.RowsEvent.{has_end_flag}
 use Rattle.blog_row.specs.TableMap.{Table}
 use Rattle.blog_trans.specs.declared.checker.Checker.{Checker}
-use Rattle.blog_trans.specs.declared.kind.EventKind.{EventKind}
 use Rattle.blog_trans.specs.declared.kind.EventKind.TheVariants as kind
 use Rattle.blog_trans.specs.declared.builder.IndexBuilder.{IndexBuilder}
 use Rattle.blog_trans.specs.Selection.{Selection}
@@ -19,51 +19,51 @@ use Rattle.blog_trans.specs.Places.{kind_at, is_begin, is_map, is_rows, place, i
 use Rattle.blog_trans.specs.Acceptance.{end_checks, checks, event_fault, HavePassed}
 use Rattle.blog_trans.specs.Groups.{PlacedRows, kept_rows, first_maps}
 use Rattle.blog_trans.specs.Changes.{table_of}
-use Rattle.blog_trans.specs.Progress.{Open, Progress, appended_if, with_rows, closed, ended, ended_if, rows_taken, advance_by, progress}
+use Rattle.blog_trans.specs.Progress.{Open, Progress, appended_if, with_rows, closed, ended, rows_taken, advance_by, advance, progress}
 use Rattle.blog_trans.specs.StatementMaps.{first_of_ids, used_maps, is_used}
 use Rattle.blog_trans.specs.TablesView.{tables_known, HaveGrown, table_at, IsNumbered}
-use Rattle.blog_trans.specs.CheckerView.{is_other_kind, statement_with, HasChecked}
+use Rattle.blog_trans.specs.CheckerView.{HasChecked}
 use Rattle.blog_trans.specs.ListsView.{statement_behind, closed_by}
-use Rattle.blog_trans.specs.BuilderView.{HasTaken, Keeps, progress_changes, progress_tables}
-use Rattle.indexmap.specs.IndexMap.{values}
+use Rattle.blog_trans.specs.BuilderView.{HasTaken, IsWithin, Keeps, progress_changes, progress_tables}
+use Rattle.indexmap.specs.IndexMap.{values, index_map_len}
 use Rattle.blog_trans.specs.declared.checker.MapSeen.{MapSeen}
 use Rattle.blog_trans.specs.declared.layouts.SelectedTable.{SelectedTable}
+use Rattle.blog_trans.specs.CountsView.{AreFew}
 use Rattle.blog_trans.proofs.Growing.{counts-grown}
-use Rattle.blog_trans.proofs.ProgressSteps.{begin-kind, Step, begins, ends, rows, other, step-of, needs-passed, not-holds}
-use Rattle.blog_trans.proofs.ProgressState.{open-inside, since-other, since-rows, since-last}
+use Rattle.blog_trans.proofs.CountsCode.{few-more}
+use Rattle.blog_trans.proofs.Checking.{knows-quiet}
+use Rattle.blog_trans.proofs.ProgressSteps.{needs-passed, not-holds}
+use Rattle.blog_trans.proofs.ProgressState.{open-inside, since-rows, since-last}
 use Rattle.blog_trans.proofs.ProgressMaps.{used_statement, taken-maps, taken-closed}
 use Rattle.blog_trans.proofs.ProgressFirsts.{ids_of}
 use Rattle.blog_trans.proofs.BuilderCode.{used-held, held-facts, log-facts}
 
--- ---- kinds
+-- ---- ends
 
--- a kind that is no other
-other-kind : (k : EventKind) → is_other_kind k ≡ true → (is_begin_kind k ≡ false) × (is_some (rows_of_kind k) ≡ false)
-    × ((sel : Selection) (earlier : List Placed) (p : Placed) (x : Progress) → advance_by k sel earlier p x ≡ x)
-other-kind kind.Begin e = absurd (false≢true e)
-other-kind kind.Commit e = absurd (false≢true e)
-other-kind kind.Xid e = absurd (false≢true e)
-other-kind (kind.Rows rows_kind) e = absurd (false≢true e)
-other-kind k e = (refl, refl, λ sel earlier p x. refl)
+-- what a `COMMIT` and an Xid of this length have in common
+pub record IsEnding (sel : Selection) (earlier : List Placed) (p : Placed) : Type 0 where
+  pub ends : is_end_kind (kind_at p) ≡ true
+  pub checks_are : event_fault sel earlier p ≡ first_failing (end_checks earlier)
+  pub progress_is : (o : Open) → (progress sel earlier).current ≡ Some o → progress sel (p ∷ earlier) ≡ ended p (progress sel earlier).done o
 
-end-kind : (k : EventKind) → is_end_kind k ≡ true → (is_begin_kind k ≡ false) × (is_some (rows_of_kind k) ≡ false)
-    × ((sel : Selection) (earlier : List Placed) (p : Placed) (x : Progress) → advance_by k sel earlier p x ≡ ended_if p x)
-end-kind kind.Commit e = (refl, refl, λ sel earlier p x. refl)
-end-kind kind.Xid e = (refl, refl, λ sel earlier p x. refl)
-end-kind k e = absurd (false≢true e)
+pub ending : (sel : Selection) (earlier : List Placed) (p : Placed) → (kind_at p ≡ kind.Commit) ⊎ ((kind_at p ≡ kind.Xid) × (length p.event.body ≡ 8)) → IsEnding sel earlier p
+ending sel earlier p (inl is) = record {
+  ends = rw is refl;
+  checks_are = rw is refl;
+  progress_is = λ o current. rw is (ap (λ c. option_map_or (ended p (progress sel earlier).done) c (progress sel earlier)) current);
+}
+ending sel earlier p (inr xid) = record {
+  ends = rw (xid.0) refl;
+  checks_are = rw (xid.0) (ap (λ (n : ℕ). first_failing (needs (n == 8) BadBody ∷ end_checks earlier)) xid.1);
+  progress_is = λ o current. rw (xid.0) (ap (λ c. option_map_or (ended p (progress sel earlier).done) c (progress sel earlier)) current);
+}
 
 -- the checks of an end
-end-checked : (earlier : List Placed) → first_failing (end_checks earlier) ≡ None → (is_inside (place earlier) ≡ true) × (list_any is_rows (since earlier) ≡ false)
+pub end-checked : (earlier : List Placed) → first_failing (end_checks earlier) ≡ None → (is_inside (place earlier) ≡ true) × (list_any is_rows (since earlier) ≡ false)
 end-checked earlier h =
     let unended : Option Cause = needs (not (list_any is_rows (since earlier))) Unended in
     let inside = needs-passed (is_inside (place earlier)) OutOfPlace (unended ∷ []) h in
     (inside.0, not-holds (list_any is_rows (since earlier)) (needs-passed (not (list_any is_rows (since earlier))) Unended [] inside.1).0)
-
-pub end-passed : (sel : Selection) (earlier : List Placed) (p : Placed) (k : EventKind) → is_end_kind k ≡ true → first_failing (checks sel earlier p k) ≡ None
-    → (is_inside (place earlier) ≡ true) × (list_any is_rows (since earlier) ≡ false)
-end-passed sel earlier p kind.Commit e h = end-checked earlier h
-end-passed sel earlier p kind.Xid e h = end-checked earlier (needs-passed (length p.event.body == 8) BadBody (end_checks earlier) h).1
-end-passed sel earlier p k e h = absurd (false≢true e)
 
 -- ---- the open transaction
 
@@ -75,34 +75,15 @@ some-open None e = absurd (false≢true e)
 pub open-there : (sel : Selection) (earlier : List Placed) → HavePassed sel earlier → is_inside (place earlier) ≡ true → (o : Open) × ((progress sel earlier).current ≡ Some o)
 open-there sel earlier passed inside = some-open (progress sel earlier).current (open-inside sel earlier passed ∙ inside)
 
-rows-inside : (sel : Selection) (earlier : List Placed) (p : Placed) (k : RowsKind) → kind_at p ≡ kind.Rows k → Step sel earlier p → is_inside (place earlier) ≡ true
-rows-inside sel earlier p k is (begins b) = absurd (false≢true (ap is_begin_kind (sym is) ∙ ap is_begin_kind b.kind_is))
-rows-inside sel earlier p k is (ends e) = absurd (false≢true (sym e.rows ∙ ap (λ j. is_some (rows_of_kind j)) is))
-rows-inside sel earlier p k is (rows r) = r.before
-rows-inside sel earlier p k is (other o) = absurd (false≢true (sym o.rows ∙ ap (λ j. is_some (rows_of_kind j)) is))
-
 -- before a rows event that passed
 pub open-rows-event : (sel : Selection) (earlier : List Placed) (p : Placed) (k : RowsKind) → kind_at p ≡ kind.Rows k → HavePassed sel (p ∷ earlier) → (o : Open) × ((progress sel earlier).current ≡ Some o)
-open-rows-event sel earlier p k is passed = open-there sel earlier passed.1 (rows-inside sel earlier p k is (step-of sel earlier p passed.0))
+open-rows-event sel earlier p k is passed = open-there sel earlier passed.1 (needs-passed (is_inside (place earlier)) OutOfPlace _ (ap (λ j. first_failing (checks sel earlier p j)) (sym is) ∙ passed.0)).0
 
 -- a `BEGIN` that passed stands outside
-pub begin-outside : (sel : Selection) (earlier : List Placed) (p : Placed) → is_begin_kind (kind_at p) ≡ true → event_fault sel earlier p ≡ None → is_inside (place earlier) ≡ false
-begin-outside sel earlier p is fault = at (step-of sel earlier p fault)
-  where
-    at : Step sel earlier p → is_inside (place earlier) ≡ false
-    at (begins b) = b.before
-    at (ends e) = absurd (false≢true (sym e.begin ∙ is))
-    at (rows r) = absurd (false≢true (ap is_begin_kind (sym r.kind_is) ∙ is))
-    at (other o) = absurd (false≢true (sym o.begin ∙ is))
-
--- a statement with a rows event
-pub with-rows-event : (earlier : List Placed) (p : Placed) (k : RowsKind) → kind_at p ≡ kind.Rows k → statement_with p earlier ≡ p ∷ since earlier
-with-rows-event earlier p k is = ap (λ j. if is_begin_kind j then [] else p ∷ since earlier) is
+pub begin-outside : (sel : Selection) (earlier : List Placed) (p : Placed) → kind_at p ≡ kind.Begin → event_fault sel earlier p ≡ None → is_inside (place earlier) ≡ false
+begin-outside sel earlier p is fault = not-holds (is_inside (place earlier)) (needs-passed (not (is_inside (place earlier))) OutOfPlace [] (ap (λ j. first_failing (checks sel earlier p j)) (sym is) ∙ fault)).0
 
 -- ---- what one more event makes of the progress
-
-since-begin : (earlier : List Placed) (p : Placed) → is_begin p ≡ true → since (p ∷ earlier) ≡ []
-since-begin earlier p is = rw is refl
 
 -- a rows event
 rows-progress : (sel : Selection) (earlier : List Placed) (p : Placed) (k : RowsKind) (o : Open) (last : Bool) → kind_at p ≡ kind.Rows k → (progress sel earlier).current ≡ Some o → has_end_flag p.event.body ≡ last
@@ -188,37 +169,25 @@ keeps-grown k w checker grown keeps = record {
   counts = counts-grown (tables_known w.checker.layouts) (tables_known checker.layouts) (progress_changes k) (progress_tables k) w.counts grown keeps.counts;
 }
 
+-- an event adds no more than one entry or map, and no more than one table
+pub within-event : {A : Type 0} (n size : ℕ) (w after : IndexBuilder A) → IsWithin n w
+    → vec_len after.lists.entries + index_map_len after.checker.maps ≤ vec_len w.lists.entries + index_map_len w.checker.maps + 1
+    → index_map_len after.checker.layouts ≤ index_map_len w.checker.layouts + 1 → after.counts ≡ w.counts → IsWithin (n + (19 + size)) after
+within-event n size w after h entries tables counts = record {
+  entries = omega (arith, h.entries, entries);
+  tables = omega (arith, h.tables, tables);
+  numbers = subst (AreFew (n + (19 + size))) (sym counts) (few-more n (19 + size) w.counts.rows.items h.numbers);
+}
+
 module _ {A : Type 0} (w : IndexBuilder A) (sel : Selection) (earlier : List Placed) (p : Placed) (passed : HavePassed sel (p ∷ earlier)) where
   -- one that is nothing to the groups
-  pub walks-other : is_other_kind (kind_at p) ≡ true → HasChecked sel (statement_with p earlier) (p ∷ earlier) w.checker → Keeps (progress sel earlier) w → HasTaken sel (p ∷ earlier) w
-  walks-other is knows keeps =
-      let k = other-kind (kind_at p) is in
-      record {
-        passed = passed;
-        checker = subst (λ st. HasChecked sel st (p ∷ earlier) w.checker) (rw (k.0) refl ∙ sym (since-other earlier p k.0 k.1)) knows;
-        keeps = subst (λ x. Keeps x w) (sym (k.2 sel earlier p (progress sel earlier))) keeps;
-      }
+  pub walks-other : ((k : Progress) → advance sel earlier p k ≡ k) → HasChecked sel (since (p ∷ earlier)) (p ∷ earlier) w.checker → Keeps (progress sel earlier) w → HasTaken sel (p ∷ earlier) w
+  walks-other same knows keeps = record { passed = passed; checker = knows; keeps = subst (λ k. Keeps k w) (sym (same (progress sel earlier))) keeps }
 
-  -- a `BEGIN`
-  pub walks-begin : is_begin_kind (kind_at p) ≡ true → HasChecked sel (statement_with p earlier) (p ∷ earlier) w.checker
-      → Keeps (record { done = (progress sel earlier).done; current = Some (record { begin = p; statements = []; rows = [] }) }) w → HasTaken sel (p ∷ earlier) w
-  walks-begin is knows keeps =
-      record {
-        passed = passed;
-        checker = subst (λ st. HasChecked sel st (p ∷ earlier) w.checker) (rw is refl ∙ sym (since-begin earlier p is)) knows;
-        keeps = subst (λ x. Keeps x w) (sym (ap (λ k. advance_by k sel earlier p (progress sel earlier)) (begin-kind (kind_at p) is))) keeps;
-      }
-
-  -- the end of a transaction
-  pub walks-end : (o : Open) → (progress sel earlier).current ≡ Some o → is_end_kind (kind_at p) ≡ true → HasChecked sel (statement_with p earlier) (p ∷ earlier) w.checker
-      → Keeps (ended p (progress sel earlier).done o) w → HasTaken sel (p ∷ earlier) w
-  walks-end o current is knows keeps =
-      let k = end-kind (kind_at p) is in
-      record {
-        passed = passed;
-        checker = subst (λ st. HasChecked sel st (p ∷ earlier) w.checker) (rw (k.0) refl ∙ sym (since-other earlier p k.0 k.1)) knows;
-        keeps = subst (λ x. Keeps x w) (sym (k.2 sel earlier p (progress sel earlier) ∙ ap (λ c. option_map_or (ended p (progress sel earlier).done) c (progress sel earlier)) current)) keeps;
-      }
+  -- one that leads nowhere either
+  pub walks-quiet : is_begin p ≡ false → is_map p ≡ false → is_rows p ≡ false → place earlier ≡ place (p ∷ earlier) → ((k : Progress) → advance sel earlier p k ≡ k) → HasTaken sel earlier w → HasTaken sel (p ∷ earlier) w
+  walks-quiet no_begin no_map no_rows led same h =
+      walks-other same (knows-quiet sel p earlier w.checker w.checker.place no_begin no_map no_rows (h.checker.place_is ∙ led) h.checker) h.keeps
 
   -- a rows event in its statement
   pub walks-rows : (k : RowsKind) (o : Open) → kind_at p ≡ kind.Rows k → (progress sel earlier).current ≡ Some o → has_end_flag p.event.body ≡ false

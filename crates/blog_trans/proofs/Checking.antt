@@ -6,7 +6,7 @@ use Rattle.std.specs.List.{list_any, AllByRecursion}
 use Rattle.std.proofs.lemmas.List.{map-append}
 use Rattle.indexmap.specs.IndexMap.{values}
 use Rattle.byteorder.specs.Endian.{little_number}
-use Rattle.blog_event.specs.declared.fault.Fault.TheVariants.{BadBody, MapClash, OutOfPlace}
+use Rattle.blog_event.specs.declared.fault.Fault.TheVariants.{BadBody, MapClash}
 use Rattle.blog_event.specs.Fault.{needs, first_failing}
 use Rattle.blog_event.specs.File.{Placed}
 use Rattle.blog_row.specs.Checks.{or_bad}
@@ -26,7 +26,7 @@ use Rattle.blog_trans.specs.Acceptance.{is_selected, clashes_by_id, end_checks, 
 use Rattle.blog_trans.specs.Places.{kind_at, is_begin, is_map, is_rows, is_map_of, leads_to, is_inside, place, since}
 use Rattle.blog_trans.specs.TablesView.{tables_known, HaveGrown, IsNumbered}
 use Rattle.blog_trans.specs.StatementMaps.{MapFacts, first_of_ids, facts_of, facts_held, is_used}
-use Rattle.blog_trans.specs.CheckerView.{statement_with, HasChecked, LayoutsAgree, IsPassed, IsPassedStatement, is_rows_of, columns_known, column_checks}
+use Rattle.blog_trans.specs.CheckerView.{HasChecked, LayoutsAgree, IsPassed, IsPassedStatement, is_rows_of, columns_known, column_checks}
 use Rattle.blog_trans.proofs.ProgressFirsts.{and-false}
 use Rattle.blog_trans.proofs.CheckingStatement.{facts-quiet, facts-kept, passed-quiet, passed-map}
 use Rattle.blog_trans.proofs.CheckingMaps.{all-snoc, maps-more}
@@ -35,8 +35,8 @@ use Rattle.blog_trans.proofs.TableNumbers.{numbered-grown}
 
 -- an event that is neither `BEGIN`, a map nor a rows event
 pub knows-quiet : {A : Type 0} (sel : Selection) (p : Placed) (earlier : List Placed) (checker : Checker A) (to : Place) → is_begin p ≡ false → is_map p ≡ false → is_rows p ≡ false
-    → to ≡ place (p ∷ earlier) → HasChecked sel (since earlier) earlier checker → HasChecked sel (statement_with p earlier) (p ∷ earlier) (record checker { place = to })
-knows-quiet sel p earlier checker to no_begin no_map no_rows led h = rw no_begin (record {
+    → to ≡ place (p ∷ earlier) → HasChecked sel (since earlier) earlier checker → HasChecked sel (since (p ∷ earlier)) (p ∷ earlier) (record checker { place = to })
+knows-quiet sel p earlier checker to no_begin no_map no_rows led h = rw (no_begin, no_rows) (record {
   place_is = led;
   open_is = rw no_rows h.open_is;
   maps_are = h.maps_are ∙ sym (facts-quiet sel p (since earlier) no_map no_rows);
@@ -62,13 +62,13 @@ end-kind _ h = absurd (cc)
 -- an end passes inside, where the open statement has no rows event
 pub end-passes : {A : Type 0} (sel : Selection) (p : Placed) (earlier : List Placed) (checker : Checker A) → is_end_kind (kind_at p) ≡ true → is_inside checker.place ≡ true → checker.has_rows ≡ false
     → HasChecked sel (since earlier) earlier checker
-    → (first_failing (end_checks earlier) ≡ None) × (is_end_kind (kind_at p) ≡ true) × HasChecked sel (statement_with p earlier) (p ∷ earlier) (record checker { place = Outside })
+    → (first_failing (end_checks earlier) ≡ None) × HasChecked sel (since (p ∷ earlier)) (p ∷ earlier) (record checker { place = Outside })
 end-passes sel p earlier checker is_end inside no_rows h =
     let k = end-kind (kind_at p) is_end in
     let in_place : is_inside (place earlier) ≡ true = ap is_inside (sym h.place_is) ∙ inside in
     let none : list_any is_rows (since earlier) ≡ false = sym h.open_is ∙ no_rows in
     let led : Outside ≡ place (p ∷ earlier) = sym (ap (λ o. option_map_or (λ led. led) o (place earlier)) k.leads) in
-    (rw (in_place, none) refl, is_end, knows-quiet sel p earlier checker Outside k.no_begin k.no_map k.no_rows led h)
+    (rw (in_place, none) refl, knows-quiet sel p earlier checker Outside k.no_begin k.no_map k.no_rows led h)
 
 -- ---- maps
 
@@ -88,7 +88,7 @@ pub knows-map-seen : {A : Type 0} (sel : Selection) (p : Placed) (earlier : List
     → list_any (clashes_by_id p) (since earlier) ≡ false → list_any (is_map_of (table_id p.event.body)) (since earlier) ≡ true
     → after.place ≡ checker.place → after.has_rows ≡ checker.has_rows → after.maps.entries ≡ checker.maps.entries → LayoutsAgree sel (p ∷ earlier) after.layouts
     → HaveGrown (tables_known checker.layouts) (tables_known after.layouts)
-    → HasChecked sel (since earlier) earlier checker → HasChecked sel (statement_with p earlier) (p ∷ earlier) after
+    → HasChecked sel (since earlier) earlier checker → HasChecked sel (since (p ∷ earlier)) (p ∷ earlier) after
 knows-map-seen sel p earlier checker after is passed none there place_same rows_same maps_same agree grown h =
     let is_one : is_map p ≡ true = rw is refl in
     let no_rows : is_rows p ≡ false = rw is refl in
@@ -108,7 +108,7 @@ pub knows-map-new : {A : Type 0} (sel : Selection) (p : Placed) (earlier : List 
     → list_any (clashes_by_id p) (since earlier) ≡ false → list_any (is_map_of (table_id p.event.body)) (since earlier) ≡ false
     → after.place ≡ checker.place → after.has_rows ≡ checker.has_rows → after.maps.entries ≡ checker.maps.entries ++ (k, v) ∷ [] → LayoutsAgree sel (p ∷ earlier) after.layouts
     → HaveGrown (tables_known checker.layouts) (tables_known after.layouts) → IsNumbered (tables_known after.layouts) v → facts_held (k, v) ≡ facts_of sel (p ∷ since earlier) p
-    → HasChecked sel (since earlier) earlier checker → HasChecked sel (statement_with p earlier) (p ∷ earlier) after
+    → HasChecked sel (since earlier) earlier checker → HasChecked sel (since (p ∷ earlier)) (p ∷ earlier) after
 knows-map-new sel p earlier checker after k v is passed none new place_same rows_same maps_more agree grown own last h =
     let is_one : is_map p ≡ true = rw is refl in
     let no_rows : is_rows p ≡ false = rw is refl in

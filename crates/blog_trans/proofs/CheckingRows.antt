@@ -35,7 +35,7 @@ use Rattle.blog_trans.specs.Changes.{table_of}
 use Rattle.blog_trans.specs.Groups.{kept_rows}
 use Rattle.blog_trans.specs.TablesView.{tables_known, table_at, IsNumbered}
 use Rattle.blog_trans.specs.StatementMaps.{MapFacts, first_of_ids, facts_of, facts_held}
-use Rattle.blog_trans.specs.CheckerView.{statement_with, IsKept, HasChecked, LayoutsAgree, IsPassedStatement, columns_known, IsReadBy}
+use Rattle.blog_trans.specs.CheckerView.{IsKept, HasChecked, LayoutsAgree, IsPassedStatement, columns_known, IsReadBy}
 use Rattle.blog_trans.proofs.CheckingStatement.{map-there, passed-rows}
 use Rattle.blog_trans.proofs.CheckingMaps.{IsId, IsPassedMap, first-passed, find-first, held-some, maps-marked}
 use Rattle.blog_trans.proofs.CheckingLayouts.{layouts-quiet}
@@ -221,12 +221,12 @@ pub knows-rows : {A : Type 0} (sel : Selection) (p : Placed) (earlier : List Pla
     → IsId (table_id p.event.body) → k ≡ little_number 6 (table_id p.event.body) → IsMapHeld sel (since earlier) (table_id p.event.body) v m
     → IsDistinct nat_eq (keys_of checker.maps.entries) → lookup (nat_eq k) checker.maps.entries ≡ Some v → w ≡ record v { used = is_some v.table }
     → after.place ≡ checker.place → after.has_rows ≡ true → after.maps.entries ≡ set_value (nat_eq k) checker.maps.entries w → after.layouts ≡ checker.layouts
-    → HasChecked sel (since earlier) earlier checker → HasChecked sel (statement_with p earlier) (p ∷ earlier) after
+    → HasChecked sel (since earlier) earlier checker → HasChecked sel (p ∷ since earlier) (p ∷ earlier) after
 knows-rows sel p earlier checker after rows k v w m is is_id k_is held distinct found w_is place_same has_rows marked layouts_same h =
     let no_map : is_map p ≡ false = rw is refl in
     let is_one : is_rows p ≡ true = rw is refl in
     let there : list_any (is_map_of (table_id p.event.body)) (since earlier) ≡ true = sym (map-there (since earlier) (table_id p.event.body)) ∙ ap is_some held.found in
-    rw is (record {
+    record {
       place_is = place_same ∙ h.place_is ∙ rw is refl;
       open_is = has_rows ∙ rw is_one refl;
       maps_are = maps-marked sel p (since earlier) k v w checker.maps.entries after.maps.entries is_id k_is no_map is_one h.passed h.maps_are distinct found w_is marked;
@@ -238,4 +238,4 @@ knows-rows sel p earlier checker after rows k v w m is is_id k_is held distinct 
           subst (λ l. AllByRecursion (IsNumbered (tables_known l)) (map (λ e. e.1) after.maps.entries)) (sym layouts_same)
           (subst (λ es. AllByRecursion (IsNumbered (tables_known checker.layouts)) (map (λ e. e.1) es)) (sym marked)
           (written-all (IsNumbered (tables_known checker.layouts)) (nat_eq k) checker.maps.entries w h.numbered new));
-    })
+    }

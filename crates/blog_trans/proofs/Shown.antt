@@ -12,12 +12,8 @@ use Rattle.blog_event.specs.File.{Placed, placed_from, end_of, read}
 use Rattle.blog_event.specs.Going.{ReadsOn}
 use Rattle.blog_event.specs.Opening.{opening_fault}
 use Rattle.blog_event.proofs.Going.{opened-reads-on}
-use Rattle.blog_row.specs.declared.kind.RowsKind.{RowsKind}
-use Rattle.blog_row.specs.declared.fault.RowFault.{RowFault}
 use Rattle.blog_row.specs.RowsEvent.{table_id}
 use Rattle.blog_row.proofs.ReversedRows.{all-append}
-use Rattle.blog_trans.specs.declared.kind.EventKind.{EventKind}
-use Rattle.blog_trans.specs.declared.kind.EventKind.TheVariants as kind
 use Rattle.blog_trans.specs.Selection.{Selection}
 use Rattle.blog_trans.specs.Kinds.{is_map_kind}
 use Rattle.blog_trans.specs.Places.{is_map}

@@ -8,7 +8,6 @@ use Rattle.blog_event.specs.Fault.{Cause, fault_at}
 use Rattle.blog_event.specs.File.{Placed}
 use Rattle.blog_row.specs.TableMap.{Table}
 pub use Rattle.blog_trans.specs.Places.{placed}
-use Rattle.blog_trans.specs.declared.checker.KeptRows.{KeptRows}
 use Rattle.blog_trans.specs.declared.builder.IndexBuilder.{IndexBuilder}
 use Rattle.blog_trans.specs.Selection.{Selection}
 use Rattle.blog_trans.specs.TablesView.{tables_known}
@@ -49,10 +48,6 @@ abbrev pub placed_tables : List PlacedTransaction → List Table
 placed_tables ts = progress_tables (record { done = ts; current = None })
 
 -- ---- the builder
-
--- how many images a rows event has, if it is kept
-abbrev pub images_of : Option KeptRows → ℕ
-images_of kept = option_map_or (λ rows. rows.images) kept 0
 
 -- what is kept is this
 pub record Keeps {A : Type 0} (k : Progress) (builder : IndexBuilder A) : Type 0 where

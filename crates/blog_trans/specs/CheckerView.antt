@@ -1,6 +1,6 @@
 -- What is known of the events before one, as the program holds it, and what checking that one tells. `earlier` has the
 -- events of the range, the latest first, and `statement` those of the open statement.
-use Rattle.std.specs.Prelude.{◌≡◌, ◌&&◌, ℕ, Bool, true, false, not, List, [], ◌∷◌, length, map, reverse, Option, Some, None, Result, Ok, Err, option_map, IsOk, MatchResult, bytes_eq, if◌then◌else◌, ⊤, ◌||◌, slice_get, is_none}
+use Rattle.std.specs.Prelude.{◌≡◌, ◌&&◌, ℕ, Bool, true, false, not, List, [], ◌∷◌, length, map, reverse, Option, Some, None, Result, Ok, Err, option_map, IsOk, MatchResult, bytes_eq, if◌then◌else◌, ⊤, slice_get}
 use Rattle.std.specs.Option.{option_map_or}
 use Rattle.std.specs.Result.{result_ok}
 use Rattle.std.specs.List.{list_any, AllByRecursion}
@@ -21,15 +21,10 @@ use Rattle.blog_trans.specs.declared.layouts.SelectedTable.{SelectedTable}
 use Rattle.blog_trans.specs.declared.checker.MapSeen.{MapSeen}
 use Rattle.blog_trans.specs.declared.checker.KeptRows.{KeptRows}
 use Rattle.blog_trans.specs.declared.table_name.TableName.{TableName}
-use Rattle.blog_trans.specs.declared.taken.Taken.{Taken}
-use Rattle.blog_trans.specs.declared.kind.EventKind.TheVariants as kind
-use Rattle.blog_trans.specs.declared.taken.Taken.TheVariants as taken
 use Rattle.blog_trans.specs.Selection.{Selection}
 use Rattle.blog_trans.specs.Changes.{table_of}
 use Rattle.blog_trans.specs.Groups.{PlacedRows, kept_rows}
-use Rattle.blog_trans.specs.Kinds.{is_begin_kind, is_end_kind, rows_of_kind}
-use Rattle.blog_trans.specs.declared.kind.EventKind.{EventKind}
-use Rattle.blog_trans.specs.Places.{is_map, is_rows, is_map_of, map_in, place, since, kind_at, is_begin}
+use Rattle.blog_trans.specs.Places.{is_map, is_rows, is_map_of, map_in, place, since}
 use Rattle.blog_trans.specs.Acceptance.{is_selected, clashes_by_id, clashes_by_layout, have_same_layout, cause_of_row, selected_map_checks, event_fault, IsRefusal}
 use Rattle.blog_trans.specs.StatementMaps.{first_of_ids, facts_of, facts_held}
 use Rattle.blog_trans.specs.TablesView.{table_named, tables_known, IsNumbered}
@@ -108,12 +103,6 @@ IsReadBy kind layout p map result =
     × (k.map ≡ map.at) × (option_map (λ t. t.number) map.table ≡ Some k.table) × (k.action ≡ kind.action) × (k.images ≡ length body.images))
     (λ fault. (cause : RowFault) × (rows_of kind layout p.event.body ≡ Err cause) × (fault ≡ cause_of_row cause p.pos))
 
--- ---- what the groups take of an event
-
--- the open statement and one more event, which begins a new one if it is a `BEGIN`
-abbrev pub statement_with : Placed → List Placed → List Placed
-statement_with p earlier = if is_begin p then [] else p ∷ since earlier
-
 -- the same rows event, whose table has its number among these
 abbrev pub IsKept : List Table → Option KeptRows → Option PlacedRows → Type 0
 IsKept tables None None = ⊤
@@ -121,22 +110,9 @@ IsKept tables None (Some r) = ⊥
 IsKept tables (Some kept) None = ⊥
 IsKept tables (Some kept) (Some r) = (kept.map ≡ r.map.pos) × (slice_get tables kept.table ≡ Some (table_of r.map.event.body)) × (kept.action ≡ r.kind.action) × (kept.images ≡ length r.body.images)
 
--- it begins no transaction, ends none, and is no rows event
-abbrev pub is_other_kind : EventKind → Bool
-is_other_kind k = not (is_begin_kind k || (is_end_kind k || not (is_none (rows_of_kind k))))
-
--- what is taken is what the event is
-abbrev pub IsTaken : List Table → Selection → List Placed → Placed → Taken → Type 0
-IsTaken tables sel earlier p taken.Nothing = is_other_kind (kind_at p) ≡ true
-IsTaken tables sel earlier p taken.Begin = is_begin_kind (kind_at p) ≡ true
-IsTaken tables sel earlier p taken.End = is_end_kind (kind_at p) ≡ true
-IsTaken tables sel earlier p (taken.Rows kept last) =
-    (rows : RowsKind) × (kind_at p ≡ kind.Rows rows) × (has_end_flag p.event.body ≡ last) × IsKept tables kept (kept_rows sel (reverse (since earlier)) p)
-
--- how many images it has, if it is a rows event that is kept
-abbrev pub images_taken : Taken → ℕ
-images_taken (taken.Rows kept last) = option_map_or (λ rows. rows.images) kept 0
-images_taken _ = 0
+-- how many images a rows event has, if it is kept
+abbrev pub images_of : Option KeptRows → ℕ
+images_of kept = option_map_or (λ rows. rows.images) kept 0
 
 -- ---- all of it
 
@@ -150,11 +126,18 @@ pub record HasChecked {A : Type 0} (sel : Selection) (statement earlier : List P
   pub numbered : AllByRecursion (IsNumbered (tables_known checker.layouts)) (values checker.maps)
 
 -- what is told of an event whose checks are these: it passed and is known, or it is refused
-abbrev pub IsCheckedBy : {A : Type 0} → Option Cause → Selection → List Placed → Placed → Result Taken Fault → Checker A → Type 0
+abbrev pub IsCheckedBy : {A : Type 0} → Option Cause → Selection → List Placed → Placed → Result Unit Fault → Checker A → Type 0
 IsCheckedBy wanted sel earlier p result checker =
-    MatchResult result (λ taken. (wanted ≡ None) × IsTaken (tables_known checker.layouts) sel earlier p taken × HasChecked sel (statement_with p earlier) (p ∷ earlier) checker)
-    (λ fault. IsRefusal (fault_at p.pos wanted) fault)
+    MatchResult result (λ done. (wanted ≡ None) × HasChecked sel (since (p ∷ earlier)) (p ∷ earlier) checker) (λ fault. IsRefusal (fault_at p.pos wanted) fault)
 
-abbrev pub IsChecked : {A : Type 0} → Selection → Placed → Checker A → Result Taken Fault → Checker A → Type 0
+abbrev pub IsChecked : {A : Type 0} → Selection → Placed → Checker A → Result Unit Fault → Checker A → Type 0
 IsChecked sel p before result checker =
     (earlier : List Placed) → HasChecked sel (since earlier) earlier before → IsCheckedBy (event_fault sel earlier p) sel earlier p result checker
+
+-- and of a rows event: how it is kept, and whether it is the last of its statement
+abbrev pub AreChecked : {A : Type 0} → Selection → Placed → Checker A → Result (Option KeptRows × Bool) Fault → Checker A → Type 0
+AreChecked sel p before result checker =
+    (earlier : List Placed) → HasChecked sel (since earlier) earlier before
+    → MatchResult result (λ rows. (event_fault sel earlier p ≡ None) × HasChecked sel (p ∷ since earlier) (p ∷ earlier) checker
+    × (has_end_flag p.event.body ≡ rows.1) × IsKept (tables_known checker.layouts) rows.0 (kept_rows sel (reverse (since earlier)) p))
+    (λ fault. IsRefusal (fault_at p.pos (event_fault sel earlier p)) fault)

@@ -1,7 +1,7 @@
 //! Walking through a log: each event of the range is checked, and what the groups take of it is kept.
 
 ghost use Rattle.std.specs.Prelude.{◌≡◌, ◌+◌, ◌≤◌, ◌<◌, ◌^◌, ℕ, Option, List, [], ◌∷◌, map, length, Some, None, IsOk, OnOk, IfErr, IfSome, MatchResult, vec_len, vec_capacity, reverse, IfOk};
-ghost use Rattle.blog_trans.specs.Places.{since};
+ghost use Rattle.blog_trans.specs.Places.{kind_at, since};
 ghost use Rattle.indexmap.specs.IndexMap.{values, index_map_len};
 ghost use Rattle.blog_event.specs.declared.fault.Fault.TheVariants.{OutOfMemory};
 ghost use Rattle.blog_event.specs.Fault.{fault_at};
@@ -9,17 +9,18 @@ ghost use Rattle.blog_event.specs.Event.{event_of, event_size};
 ghost use Rattle.blog_event.specs.File.{Placed, is_below};
 ghost use Rattle.blog_trans.specs.Selection.{Selection as Sel, selection_of};
 ghost use Rattle.blog_trans.specs.Acceptance.{event_fault, HavePassed, IsRefusal, IsAccepted, fault, is_start_inside, range, read_fault};
-ghost use Rattle.blog_trans.specs.Groups.{PlacedRows};
+ghost use Rattle.blog_trans.specs.Groups.{PlacedRows, kept_rows};
 ghost use Rattle.blog_trans.specs.Changes.{table_of};
 ghost use Rattle.blog_trans.specs.Progress.{Open, Progress, with_rows, progress};
 ghost use Rattle.blog_trans.specs.TablesView.{tables_known, table_at};
 ghost use Rattle.blog_trans.specs.StatementMaps.{used_maps};
 ghost use Rattle.blog_row.specs.declared.kind.RowsKind.{RowsKind};
-ghost use Rattle.blog_trans.specs.declared.taken.Taken.TheVariants as taken;
-ghost use Rattle.blog_trans.specs.CheckerView.{IsKept, IsTaken, HasChecked};
+ghost use Rattle.blog_row.specs.RowsEvent.{has_end_flag};
+ghost use Rattle.blog_trans.specs.declared.kind.EventKind.TheVariants as kind;
+ghost use Rattle.blog_trans.specs.CheckerView.{IsKept, HasChecked, images_of};
 ghost use Rattle.blog_trans.specs.ListsView.{closed_by};
 ghost use Rattle.blog_trans.specs.CountsView.{AreBelow, AreFew};
-ghost use Rattle.blog_trans.specs.BuilderView.{HasTaken, IsWithin, IsTakenOrRefused, Keeps, images_of, placed};
+ghost use Rattle.blog_trans.specs.BuilderView.{HasTaken, IsWithin, IsTakenOrRefused, Keeps, placed};
 ghost use Rattle.blog_event.specs.LogView.{log_bytes};
 ghost use Rattle.blog_trans.specs.WalkView.{IsRead, IsThrough, end_fault};
 ghost use Rattle.blog_trans.specs.IndexView.{index_bytes, index_selection};
@@ -28,12 +29,15 @@ ghost use Rattle.blog_trans.specs.Shown.{ShowsEachOnce};
 use crate::checker::{Checker, KeptRows};
 use crate::counts::Counts;
 use crate::groups::Index;
+use crate::kind::{EventKind, event_kind};
 use crate::lists::IndexLists;
 use crate::place::Place;
 use crate::selection::Selection;
-use crate::taken::Taken;
 use blog_event::{Event, Fault, Log};
 use std::alloc::Allocator;
+
+/// The size of an Xid event's body in bytes.
+const XID_LEN: usize = 8;
 
 /// What is known and kept of the events of the range so far.
 #[derive(Drop)]
@@ -126,7 +130,8 @@ impl<'a, A: Allocator + Copy> IndexBuilder<'a, A> {
         requires few { AreFew 4294967295 self.old.counts }
         requires images { IfSome kept (λ rows. rows.images ≤ 4294967295) }
         requires room { vec_len self.old.lists.entries + index_map_len self.old.checker.maps + 1 < 2 ^ 32 }
-        ensures walks { (sel : Sel) (earlier : List Placed) (p : Placed) → p.pos ≡ at → IsTaken (tables_known self.old.checker.layouts) sel earlier p (taken.Rows kept last) → HavePassed sel (p ∷ earlier)
+        ensures walks { (sel : Sel) (earlier : List Placed) (p : Placed) (k : RowsKind) → p.pos ≡ at → kind_at p ≡ kind.Rows k → has_end_flag p.event.body ≡ last
+            → IsKept (tables_known self.old.checker.layouts) kept (kept_rows sel (reverse (since earlier)) p) → HavePassed sel (p ∷ earlier)
             → HasChecked sel (p ∷ since earlier) (p ∷ earlier) self.old.checker → Keeps (progress sel earlier) self.old → OnOk result (HasTaken sel (p ∷ earlier) self.new) }
         ensures layouts { OnOk result (self.new.checker.layouts ≡ self.old.checker.layouts) }
         ensures few { OnOk result (vec_len self.new.lists.entries + index_map_len self.new.checker.maps ≤ vec_len self.old.lists.entries + index_map_len self.old.checker.maps + 1) }
@@ -151,11 +156,37 @@ impl<'a, A: Allocator + Copy> IndexBuilder<'a, A> {
             → IsTakenOrRefused (event_fault (selection_of sel.now) earlier (placed event.now)) (selection_of sel.now) (placed event.now ∷ earlier) event.now.pos result self.new }
         ensures within { OnOk result (IsWithin (event.now.pos + (19 + length event.now.body.now)) self.new) }
     {
-        match self.checker.check(sel, event)? {
-            Taken::Nothing => {}
-            Taken::Begin => self.lists.begin(event.pos)?,
-            Taken::End => self.lists.end(event.pos)?,
-            Taken::Rows { kept, last } => self.take_rows(event.pos, kept, last)?,
+        let pos = event.pos;
+        let place = self.checker.place();
+        match event_kind(event) {
+            EventKind::Begin => {
+                self.checker.begin(pos)?;
+                self.lists.begin(pos)?;
+            }
+            EventKind::Xid if event.body.len() != XID_LEN => return Err(Fault::BadBody { pos }),
+            EventKind::Commit | EventKind::Xid => {
+                self.checker.end(pos)?;
+                self.lists.end(pos)?;
+            }
+            EventKind::Announcement => self.checker.announce(pos)?,
+            EventKind::TableMap => self.checker.take_map(sel, event)?,
+            EventKind::Rows(kind) => {
+                let (kept, last) = self.checker.take_rows(kind, event)?;
+                self.take_rows(pos, kept, last)?;
+            }
+            EventKind::Savepoint if place.is_inside() => {}
+            EventKind::Between if place.is_outside() => {}
+            EventKind::Savepoint | EventKind::Between | EventKind::SecondFormat => {
+                return Err(Fault::OutOfPlace { pos });
+            }
+            EventKind::RowsQuery | EventKind::Skippable => {}
+            EventKind::Rollback => return Err(Fault::RolledBack { pos }),
+            EventKind::OtherQuery | EventKind::StatementChange => {
+                return Err(Fault::Statement { pos });
+            }
+            EventKind::BadQuery => return Err(Fault::BadBody { pos }),
+            EventKind::PartialRows => return Err(Fault::PartialImage { pos }),
+            EventKind::Unknown => return Err(Fault::UnknownEvent { pos }),
         }
         Ok(())
     }

@@ -1,4 +1,4 @@
-//! Checking events: whether one may stand where it stands, and what the groups take of it.
+//! Checking events: whether one may stand where it stands.
 
 ghost use Rattle.std.specs.Prelude.{◌≡◌, ◌<◌, ◌≤◌, ◌+◌, ◌^◌, true, List, [], length, None, Some, Ok, OnOk, IfOk, is_some, option_map, nat_eq};
 ghost use Rattle.std.specs.Option.{option_map_or};
@@ -13,26 +13,21 @@ ghost use Rattle.blog_row.specs.TableMap.{HasNames, map_names};
 ghost use Rattle.blog_trans.specs.Acceptance.{end_checks};
 ghost use Rattle.blog_trans.specs.Kinds.{kind_of, is_end_kind};
 ghost use Rattle.blog_trans.specs.declared.kind.EventKind.TheVariants as told;
-ghost use Rattle.blog_trans.specs.CheckerView.{HasChecked, IsChecked, IsCheckedBy, IsReadBy, IsMapCompared, images_taken};
+ghost use Rattle.blog_trans.specs.CheckerView.{HasChecked, IsChecked, IsCheckedBy, AreChecked, IsReadBy, IsMapCompared, images_of};
 ghost use Rattle.blog_trans.specs.Places.{since};
 ghost use Rattle.blog_trans.specs.TablesView.{tables_known, HaveGrown};
 ghost use Rattle.blog_trans.specs.Selection.{Selection as Sel, selection_of};
 
-use crate::kind::{EventKind, event_kind};
 use crate::layouts::{Layouts, SelectedTable, body_fault, take_table};
 use crate::place::Place;
 use crate::selection::Selection;
 use crate::table_ids::TableIdHasher;
 use crate::table_name::TableName;
-use crate::taken::Taken;
 use blog_event::{Event, Fault};
 use blog_row::{RowsAction, RowsEvent, RowsHead, RowsKind, TableMap};
 use indexmap::IndexMap;
 use std::alloc::Allocator;
 use std::hash::BuildHasherDefault;
-
-/// The size of an Xid event's body in bytes.
-const XID_LEN: usize = 8;
 
 /// A table map of the open statement, the first of its table id.
 #[derive(Clone, Copy, Debug)]
@@ -89,7 +84,7 @@ fn kept_rows<'a>(
     ensures unselected { map.now.table ≡ None → result ≡ Ok None }
     ensures read { (layout : Layout) → option_map (λ t. layout_columns t.layout) map.now.table ≡ Some layout → IsReadBy kind layout (record { pos = event.now.pos; event = event_of event.now }) map.now result }
     ensures selected { IfOk result (λ kept. is_some kept ≡ is_some map.now.table) }
-    ensures images { IfOk result (λ kept. option_map_or (λ rows. rows.images) kept 0 ≤ length event.now.body.now) }
+    ensures images { IfOk result (λ kept. images_of kept ≤ length event.now.body.now) }
 {
     let Some(table) = &map.table else {
         return Ok(None);
@@ -142,42 +137,10 @@ impl<'a, A: Allocator + Copy> Checker<'a, A> {
         self.layouts
     }
 
-    /// Checks the next event of the range: what the groups take of it, or the first check that it fails.
-    pub(crate) fn check(&mut self, sel: &Selection<'_>, event: &Event<'a>) -> Result<Taken, Fault>
-        requires few { index_map_len self.old.layouts < 2 ^ 32 }
-        ensures checked { IsChecked (selection_of sel.now) (record { pos = event.now.pos; event = event_of event.now }) self.old result self.new }
-        ensures len { OnOk result (index_map_len self.new.maps ≤ index_map_len self.old.maps + 1) }
-        ensures images { IfOk result (λ taken. images_taken taken ≤ length event.now.body.now) }
-        ensures grown { OnOk result (HaveGrown (tables_known self.old.layouts) (tables_known self.new.layouts)) }
-        ensures tables { OnOk result (index_map_len self.new.layouts ≤ index_map_len self.old.layouts + 1) }
-    {
-        let pos = event.pos;
-        match event_kind(event) {
-            EventKind::Begin => self.begin(pos),
-            EventKind::Commit => self.end(pos),
-            EventKind::Xid if event.body.len() != XID_LEN => Err(Fault::BadBody { pos }),
-            EventKind::Xid => self.end(pos),
-            EventKind::Rollback => Err(Fault::RolledBack { pos }),
-            EventKind::Savepoint if self.place.is_inside() => Ok(Taken::Nothing),
-            EventKind::Savepoint => Err(Fault::OutOfPlace { pos }),
-            EventKind::OtherQuery | EventKind::StatementChange => Err(Fault::Statement { pos }),
-            EventKind::BadQuery => Err(Fault::BadBody { pos }),
-            EventKind::Announcement => self.announce(pos),
-            EventKind::Between if self.place.is_outside() => Ok(Taken::Nothing),
-            EventKind::Between | EventKind::SecondFormat => Err(Fault::OutOfPlace { pos }),
-            EventKind::RowsQuery | EventKind::Skippable => Ok(Taken::Nothing),
-            EventKind::TableMap => self.take_map(sel, event),
-            EventKind::Rows(kind) => self.take_rows(kind, event),
-            EventKind::PartialRows => Err(Fault::PartialImage { pos }),
-            EventKind::Unknown => Err(Fault::UnknownEvent { pos }),
-        }
-    }
-
     /// A `BEGIN`: a transaction begins, and with it a statement.
-    fn begin(&mut self, pos: u32) -> Result<Taken, Fault>
+    pub(crate) fn begin(&mut self, pos: u32) -> Result<(), Fault>
         ensures checked { (sel : Sel) (e : Fields) → kind_of e ≡ told.Begin → IsChecked sel (record { pos = pos; event = e }) self.old result self.new }
         ensures len { OnOk result (index_map_len self.new.maps ≡ 0) }
-        ensures images { IfOk result (λ taken. images_taken taken ≡ 0) }
         ensures layouts { OnOk result (self.new.layouts ≡ self.old.layouts) }
     {
         if self.place.is_inside() {
@@ -185,14 +148,13 @@ impl<'a, A: Allocator + Copy> Checker<'a, A> {
         }
         self.close();
         self.place = Place::Inside;
-        Ok(Taken::Begin)
+        Ok(())
     }
 
     /// The end of a transaction.
-    fn end(&mut self, pos: u32) -> Result<Taken, Fault>
+    pub(crate) fn end(&mut self, pos: u32) -> Result<(), Fault>
         ensures checked { (sel : Sel) (e : Fields) (earlier : List Placed) → is_end_kind (kind_of e) ≡ true → HasChecked sel (since earlier) earlier self.old → IsCheckedBy (first_failing (end_checks earlier)) sel earlier (record { pos = pos; event = e }) result self.new }
         ensures maps { self.new.maps ≡ self.old.maps }
-        ensures images { IfOk result (λ taken. images_taken taken ≡ 0) }
         ensures layouts { self.new.layouts ≡ self.old.layouts }
     {
         if !self.place.is_inside() {
@@ -202,21 +164,20 @@ impl<'a, A: Allocator + Copy> Checker<'a, A> {
             return Err(Fault::Unended { pos });
         }
         self.place = Place::Outside;
-        Ok(Taken::End)
+        Ok(())
     }
 
     /// The id of a transaction.
-    fn announce(&mut self, pos: u32) -> Result<Taken, Fault>
+    pub(crate) fn announce(&mut self, pos: u32) -> Result<(), Fault>
         ensures checked { (sel : Sel) (e : Fields) → kind_of e ≡ told.Announcement → IsChecked sel (record { pos = pos; event = e }) self.old result self.new }
         ensures maps { self.new.maps ≡ self.old.maps }
-        ensures images { IfOk result (λ taken. images_taken taken ≡ 0) }
         ensures layouts { self.new.layouts ≡ self.old.layouts }
     {
         if !self.place.is_outside() {
             return Err(Fault::OutOfPlace { pos });
         }
         self.place = Place::Announced;
-        Ok(Taken::Nothing)
+        Ok(())
     }
 
     /// Whether a table map is the first of its table id in the open statement; a later one has the same body.
@@ -234,12 +195,11 @@ impl<'a, A: Allocator + Copy> Checker<'a, A> {
     }
 
     /// A table map.
-    fn take_map(&mut self, sel: &Selection<'_>, event: &Event<'a>) -> Result<Taken, Fault>
+    pub(crate) fn take_map(&mut self, sel: &Selection<'_>, event: &Event<'a>) -> Result<(), Fault>
         requires kind { kind_of (event_of event.now) ≡ told.TableMap }
         requires few { index_map_len self.old.layouts < 2 ^ 32 }
         ensures checked { IsChecked (selection_of sel.now) (record { pos = event.now.pos; event = event_of event.now }) self.old result self.new }
         ensures len { OnOk result (index_map_len self.new.maps ≤ index_map_len self.old.maps + 1) }
-        ensures images { IfOk result (λ taken. images_taken taken ≡ 0) }
         ensures grown { OnOk result (HaveGrown (tables_known self.old.layouts) (tables_known self.new.layouts)) }
         ensures tables { OnOk result (index_map_len self.new.layouts ≤ index_map_len self.old.layouts + 1) }
     {
@@ -269,15 +229,19 @@ impl<'a, A: Allocator + Copy> Checker<'a, A> {
                 return Err(Fault::OutOfMemory);
             };
         }
-        Ok(Taken::Nothing)
+        Ok(())
     }
 
-    /// A rows event.
-    fn take_rows(&mut self, kind: RowsKind, event: &Event<'a>) -> Result<Taken, Fault>
+    /// A rows event: how it is kept, if its table is selected, and whether it is the last of its statement.
+    pub(crate) fn take_rows(
+        &mut self,
+        kind: RowsKind,
+        event: &Event<'a>,
+    ) -> Result<(Option<KeptRows>, bool), Fault>
         requires { kind_of (event_of event.now) ≡ told.Rows kind }
-        ensures checked { (sel : Sel) → IsChecked sel (record { pos = event.now.pos; event = event_of event.now }) self.old result self.new }
+        ensures checked { (sel : Sel) → AreChecked sel (record { pos = event.now.pos; event = event_of event.now }) self.old result self.new }
         ensures len { OnOk result (index_map_len self.new.maps ≡ index_map_len self.old.maps) }
-        ensures images { IfOk result (λ taken. images_taken taken ≤ length event.now.body.now) }
+        ensures images { IfOk result (λ rows. images_of rows.0 ≤ length event.now.body.now) }
         ensures layouts { OnOk result (self.new.layouts ≡ self.old.layouts) }
     {
         let pos = event.pos;
@@ -295,10 +259,7 @@ impl<'a, A: Allocator + Copy> Checker<'a, A> {
         let kept = kept_rows(map, kind, event)?;
         map.used = kept.is_some();
         self.has_rows = true;
-        Ok(Taken::Rows {
-            kept,
-            last: head.ends(),
-        })
+        Ok((kept, head.ends()))
     }
 
     /// The open statement ends: a new one has no maps and no rows events yet.

@@ -14,7 +14,6 @@ mod place;
 mod selection;
 mod table_ids;
 mod table_name;
-mod taken;
 
 pub use builder::index;
 pub use group_events::{GroupEvent, GroupEvents, GroupRows};

@@ -10,15 +10,15 @@ use Rattle.blog_trans.proofs.BuilderSteps.{open-rows-event, used-ats, used-table
 use Rattle.blog_trans.proofs.builder.IndexBuilder.take_rows.Goals as goal
 
 pub returns-in_ok-close-clause-walks : goal.returns-in_ok-close-clause-walks
-returns-in_ok-close-clause-walks g c = λ sel earlier p at taken passed knows keeps.
-    let there = open-rows-event sel earlier p taken.0 taken.1 passed in
+returns-in_ok-close-clause-walks g c = λ sel earlier p k at is flag taken passed knows keeps.
+    let there = open-rows-event sel earlier p k is passed in
     let o = there.0 in
     let kept = kept_rows sel (reverse (since earlier)) p in
     let now = with_rows kept o in
     let ms = filter (is_used sel (p ∷ since earlier)) (first_of_ids (p ∷ since earlier)) in
-    let keeps1 = c.in_ok-keep_if.ensures.kept (progress sel earlier) o kept (λ r is. ap (λ (e : Placed). e.pos) (kept-facts sel (reverse (since earlier)) p r is).event_is ∙ at) taken.3 there.1 keeps in
+    let keeps1 = c.in_ok-keep_if.ensures.kept (progress sel earlier) o kept (λ r is. ap (λ (e : Placed). e.pos) (kept-facts sel (reverse (since earlier)) p r is).event_is ∙ at) taken there.1 keeps in
     let knows1 = subst (HasChecked sel (p ∷ since earlier) (p ∷ earlier)) (sym c.in_ok-keep_if.ensures.checker) knows in
-    walks-last c.close.new.self sel earlier p passed taken.0 o taken.1 there.1 (taken.2 ∙ c.if-last.true)
+    walks-last c.close.new.self sel earlier p passed k o is there.1 (flag ∙ c.if-last.true)
     (c.in_ok-close.ensures.checker sel (p ∷ since earlier) (p ∷ earlier) knows1)
     (c.in_ok-close.ensures.kept (record { done = (progress sel earlier).done; current = Some now }) now ms
     (used-ats c.keep_if.new.self.checker sel (p ∷ since earlier) (p ∷ earlier) knows1)
@@ -29,9 +29,9 @@ pub returns-in_ok-close-clause-numbers : goal.returns-in_ok-close-clause-numbers
 returns-in_ok-close-clause-numbers g c = λ n few. c.in_ok-close.ensures.numbers _ (c.in_ok-keep_if.ensures.numbers n few)
 
 pub returns-else-last-clause-walks : goal.returns-else-last-clause-walks
-returns-else-last-clause-walks g c = λ sel earlier p at taken passed knows keeps.
-    let there = open-rows-event sel earlier p taken.0 taken.1 passed in
+returns-else-last-clause-walks g c = λ sel earlier p k at is flag taken passed knows keeps.
+    let there = open-rows-event sel earlier p k is passed in
     let kept = kept_rows sel (reverse (since earlier)) p in
-    walks-rows c.keep_if.new.self sel earlier p passed taken.0 there.0 taken.1 there.1 (taken.2 ∙ c.if-last.false)
+    walks-rows c.keep_if.new.self sel earlier p passed k there.0 is there.1 (flag ∙ c.if-last.false)
     (subst (HasChecked sel (p ∷ since earlier) (p ∷ earlier)) (sym c.in_ok-keep_if.ensures.checker) knows)
-    (c.in_ok-keep_if.ensures.kept (progress sel earlier) there.0 kept (λ r is. ap (λ (e : Placed). e.pos) (kept-facts sel (reverse (since earlier)) p r is).event_is ∙ at) taken.3 there.1 keeps)
+    (c.in_ok-keep_if.ensures.kept (progress sel earlier) there.0 kept (λ r is. ap (λ (e : Placed). e.pos) (kept-facts sel (reverse (since earlier)) p r is).event_is ∙ at) taken there.1 keeps)

@@ -8,4 +8,4 @@ pub returns-clause-checked : goal.returns-clause-checked
 returns-clause-checked g c = λ sel e is earlier h.
     let now : is_outside c.args.self.now.place ≡ true = search rules in
     let out : is_outside (place earlier) ≡ true = ap is_outside (sym h.place_is) ∙ now in
-    (rw (is, out) refl, rw is refl, knows-quiet sel _ earlier c.args.self.now Announced (rw is refl) (rw is refl) (rw is refl) (rw is refl) h)
+    (rw (is, out) refl, knows-quiet sel _ earlier c.args.self.now Announced (rw is refl) (rw is refl) (rw is refl) (rw is refl) h)

@@ -40,7 +40,6 @@ returns-in-Ok-insert-clause-checked g c = λ earlier h.
     let number = subst (λ t. IfSome v.table (λ x. slice_get (tables_known layouts) x.number ≡ Some t)) name c.in_ok-table.ensures.number in
     let last = new-facts sel p (since earlier) c.id.result v c.requires.kind h.passed new (c.id.ensures ∙ id.1) refl refl columns.0 refl in (
       fault,
-      rw c.requires.kind refl,
       knows-map-new sel p earlier c.args.self.now _ c.id.result v c.requires.kind passed compared.0 new refl refl
           (c.in-Ok-insert.ensures.entries ∙ insert_entry-new nat_eq c.args.self.now.maps c.id.result v none) columns.3 c.in_ok-table.ensures.grown (new-numbered (tables_known layouts) v n names number refl) last h,
     )
@@ -61,6 +60,5 @@ returns-else-first-clause-checked g c = λ earlier h.
     let fault : event_fault sel earlier p ≡ None = map-fault-named sel p earlier n false c.requires.kind inside names compared.0 ∙ columns.2 in
     let there : list_any (is_map_of (table_id e.body)) (since earlier) ≡ true = compared.1 ∙ ap not c.if-first.false in (
       fault,
-      rw c.requires.kind refl,
       knows-map-seen sel p earlier c.args.self.now _ c.requires.kind passed compared.0 there refl refl refl columns.3 c.in_ok-table.ensures.grown h,
     )

@@ -64,6 +64,7 @@ returns-clause-checked g c = λ sel earlier h.
     let w : MapSeen = record v { used = c.is_some-map.result } in
     let w_is : w ≡ record v { used = is_some v.table } = ap (λ (u : Bool). record v { used = u }) (c.is_some-map.ensures ∙ c.in_ok-kept.ensures.selected) in (
       check ∙ passed.0,
-      (c.args.kind, c.requires, sym (c.ends.ensures.body c.args.kind.version e.body (sym c.in-Ok.ensures)), passed.1),
       knows-rows sel p earlier c.args.self.now _ c.args.kind c.table_id.result v w held.0 c.requires id number held.1 c.get_mut.ensures.unique found w_is refl refl (c.get_mut.follows.holds w).0 refl h,
+      sym (c.ends.ensures.body c.args.kind.version e.body (sym c.in-Ok.ensures)),
+      passed.1,
     )
