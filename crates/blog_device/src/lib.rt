@@ -15,4 +15,4 @@ mod writing;
 pub use devices::Watched;
 pub use fault::RunFault;
 pub use reading::read_log;
-pub use writing::put;
+pub use writing::{put, put_part};

@@ -21,12 +21,12 @@ pub fn put<W: Write>(writer: &mut Watched<W>, bytes: &[u8]) -> Result<(), RunFau
     ensures fault { IfErr result (λ e. e ≡ RunFault.Write) }
     ensures mark { has_failed writer.new ≡ (has_failed writer.old || is_write_fault result) }
 {
-    put_bytes(writer, bytes)?;
+    put_part(writer, bytes)?;
     writer.flush().map_err(|_| RunFault::Write)
 }
 
-// Writes the bytes, as many a call as the writer takes.
-fn put_bytes<W: Write>(writer: &mut Watched<W>, bytes: &[u8]) -> Result<(), RunFault>
+/// Writes the bytes, all of them, and doesn't flush. The rest is as for `put`.
+pub fn put_part<W: Write>(writer: &mut Watched<W>, bytes: &[u8]) -> Result<(), RunFault>
     ensures written { OnOk result (Appends (W.contents (device_of writer.old))
         (W.contents (device_of writer.new)) bytes.now) }
     ensures beginning { OnErr result (AppendsBeginning (W.contents (device_of writer.old))

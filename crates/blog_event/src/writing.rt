@@ -38,13 +38,15 @@ fn joined_len(parts: &[&[u8]]) -> usize
 }
 
 /// Makes room for an event with a body of `body_len` bytes, and appends its header, with its size and where it ends.
+/// `out` holds the file from position `from` on.
 fn put_header<A: Allocator>(
     out: &mut Vec<u8, A>,
+    from: usize,
     header: Header,
     body_len: usize,
 ) -> Result<(), Fault>
-    requires { vec_len out.old + (19 + body_len) ≤ 4294967295 }
-    ensures ok { OnOk result (out.new.items ≡ out.old.items ++ header_text (ending (vec_len out.old) (19 + body_len) header)) }
+    requires { from + vec_len out.old + (19 + body_len) ≤ 4294967295 }
+    ensures ok { OnOk result (out.new.items ≡ out.old.items ++ header_text (ending (from + vec_len out.old) (19 + body_len) header)) }
     ensures len { OnOk result (vec_len out.new ≡ vec_len out.old + 19) }
     ensures left { OnOk result (vec_len out.new + body_len ≤ vec_capacity out.new) }
     ensures err { OnErr result (out.new.items ≡ out.old.items) }
@@ -57,7 +59,7 @@ fn put_header<A: Allocator>(
     out.reserve(size)?;
     let bytes = header_bytes(Header {
         size: size as u32,
-        log_pos: (out.len() + size) as u32,
+        log_pos: (from + out.len() + size) as u32,
         ..header
     });
     out.extend_from_slice(&bytes).unwrap();
@@ -96,13 +98,33 @@ pub fn put_event<A: Allocator>(
     ensures room { vec_len out.old + (19 + length (joined parts.now)) ≤ vec_capacity out.old → IsOk result }
     ensures capacity { vec_capacity out.old ≤ vec_capacity out.new }
 {
-    put_header(out, header, joined_len(parts))?;
+    put_event_from(out, 0, header, parts)
+}
+
+/// Appends an event to a part of a file: `out` holds the file's bytes from position `from` on. The rest is as for
+/// `put_event`, its errors too; `log_pos` is a position of the whole file.
+pub fn put_event_from<A: Allocator>(
+    out: &mut Vec<u8, A>,
+    from: usize,
+    header: Header,
+    parts: &[&[u8]],
+) -> Result<(), Fault>
+    requires { from + vec_len out.old + (19 + length (joined parts.now)) ≤ 4294967295 }
+    ensures ok { OnOk result (out.new.items ≡ out.old.items ++ event_text (appended (from + vec_len out.old) header (joined parts.now))) }
+    ensures len { OnOk result (vec_len out.new ≡ vec_len out.old + (19 + length (joined parts.now))) }
+    ensures err { OnErr result (out.new.items ≡ out.old.items) }
+    ensures kept { OnErr result (vec_capacity out.new ≡ vec_capacity out.old) }
+    ensures refused { IfErr result (λ fault. fault ≡ OutOfMemory) }
+    ensures room { vec_len out.old + (19 + length (joined parts.now)) ≤ vec_capacity out.old → IsOk result }
+    ensures capacity { vec_capacity out.old ≤ vec_capacity out.new }
+{
+    put_header(out, from, header, joined_len(parts))?;
     put_parts(out, parts);
     Ok(())
 }
 
-/// Appends an event whose body is `body_len` zero bytes, to be written over. Returns the position at which the body
-/// begins. The rest is as for `put_event`: its size and `log_pos` are computed.
+/// Appends an event whose body is `body_len` zero bytes, to be written over. Returns the position in `out` at which the
+/// body begins. The rest is as for `put_event`: its size and `log_pos` are computed.
 ///
 /// Fails with `OutOfMemory` if `out` can't grow, and then keeps its bytes and its capacity; never if its capacity has room
 /// for the event.
@@ -121,7 +143,28 @@ pub fn open_event<A: Allocator>(
     ensures room { vec_len out.old + (19 + body_len) ≤ vec_capacity out.old → IsOk result }
     ensures capacity { vec_capacity out.old ≤ vec_capacity out.new }
 {
-    put_header(out, header, body_len)?;
+    open_event_from(out, 0, header, body_len)
+}
+
+/// Appends an event to a part of a file that begins at position `from`, with a body to be written over. The rest is as for
+/// `open_event` and `put_event_from`.
+pub fn open_event_from<A: Allocator>(
+    out: &mut Vec<u8, A>,
+    from: usize,
+    header: Header,
+    body_len: usize,
+) -> Result<usize, Fault>
+    requires { from + vec_len out.old + (19 + body_len) ≤ 4294967295 }
+    ensures ok { OnOk result (out.new.items ≡ out.old.items ++ event_text (appended (from + vec_len out.old) header (replicate body_len 0))) }
+    ensures body { IfOk result (λ at. at ≡ vec_len out.old + 19) }
+    ensures len { OnOk result (vec_len out.new ≡ vec_len out.old + (19 + body_len)) }
+    ensures err { OnErr result (out.new.items ≡ out.old.items) }
+    ensures kept { OnErr result (vec_capacity out.new ≡ vec_capacity out.old) }
+    ensures refused { IfErr result (λ fault. fault ≡ OutOfMemory) }
+    ensures room { vec_len out.old + (19 + body_len) ≤ vec_capacity out.old → IsOk result }
+    ensures capacity { vec_capacity out.old ≤ vec_capacity out.new }
+{
+    put_header(out, from, header, body_len)?;
     let body = out.len();
     out.resize(body + body_len, 0).unwrap();
     Ok(body)

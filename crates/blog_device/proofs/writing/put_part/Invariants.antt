@@ -2,7 +2,7 @@
 use Rattle.std.proofs.Common.{◌≡◌, ℕ, List, ◌++◌, length}
 use Rattle.std.specs.Io.KnownBytes.{Appends}
 use Rattle.blog_device.specs.Watched.{device_of, has_failed}
-use Rattle.blog_device.proofs.writing.put_bytes.Given as goal
+use Rattle.blog_device.proofs.writing.put_part.Given as goal
 
 abbrev pub invariant-loop-rest : goal.invariant-loop-rest
 invariant-loop-rest g l = record {

@@ -2,7 +2,7 @@
 use Rattle.std.proofs.Common.{◌≡◌, ◌+◌, ◌-◌, ◌++◌, ◌≤◌, length, take, replicate, sym, arith}
 use Rattle.std.proofs.lemmas.List.{length-replicate, take_all}
 use Rattle.blog_event.proofs.Headers.{head-and-body}
-use Rattle.blog_event.proofs.writing.open_event.Goals as goal
+use Rattle.blog_event.proofs.writing.open_event_from.Goals as goal
 
 pub returns-clause-ok : goal.returns-clause-ok
 returns-clause-ok g c =
