@@ -1,5 +1,5 @@
 -- The table maps of an accepted log's groups have names and layouts, and those of one table the same layout.
-use Rattle.std.proofs.Common.{◌≡◌, ℕ, true, List, [], Ok, bytes_eq, sym, ap, ap₂, ◌∙◌, subst, arith}
+use Rattle.std.proofs.Common.{◌≡◌, ℕ, true, List, Ok, bytes_eq, sym, ap, ap₂, ◌∙◌, subst}
 use Rattle.std.specs.Prelude.{Contains}
 use Rattle.std.specs.List.{AllByRecursion, list_all, flat_map}
 use Rattle.std.proofs.lemmas.Bool.{and_parts}

@@ -1,12 +1,20 @@
 -- What is promised of the answer to a log.
 use Rattle.std.proofs.Common.{◌≡◌, ℕ, List, Vec, Result, Ok, Err, None, IfOk, IfErr, refl, sym, ap, ap₂, subst, ◌∙◌, inl, inr}
+use Rattle.std.specs.Prelude.{true, Option}
+use Rattle.std.specs.Io.KnownBytes.{Keeps}
 use Rattle.std.proofs.lemmas.Option.{none-some}
+use Rattle.blog_device.specs.Devices.{ReadsLog}
+use Rattle.blog_device.specs.declared.fault.RunFault.{RunFault}
+use Rattle.blog_device.specs.declared.fault.RunFault.TheVariants.{Log, Read, Write}
 use Rattle.blog_event.specs.File.{AreBytes, read}
 use Rattle.blog_event.specs.declared.fault.Fault.{Fault}
 use Rattle.blog_trans.specs.Selection.{Selection, all}
 use Rattle.blog_trans.specs.Acceptance.{fault, IsAccepted, IsRefusal}
 use Rattle.blog_trans.specs.Groups.{groups}
 use Rattle.blog_flash.specs.Answers.{Answers, IsOutput}
+use Rattle.blog_flash.specs.Runs.{IsOutputWritten, IsWritten, Runs, ends_before_writing, mode_in}
+use Rattle.blog_row.specs.declared.order.Order.{Order}
+use Rattle.blog_flash.specs.declared.modes.Mode.{Mode}
 use Rattle.blog_flash.specs.declared.modes.Mode.TheVariants.{Flashback, Forward, FlashbackSql, ForwardSql, Summary}
 use Rattle.blog_row.specs.declared.order.Order.TheVariants as order
 use Rattle.blog_flash.specs.LaidOut.{groups_in}
@@ -95,3 +103,25 @@ pub summary-answers : {A : Type 0} (bytes : List ℕ) (sel : Selection) (r : Res
     → IfErr r (IsRefusal (fault bytes sel)) → Answers bytes Summary sel r
 summary-answers bytes sel (Ok text) accepted is refused = subst (IsOutput bytes Summary sel) (sym is) (summary-output bytes sel accepted)
 summary-answers bytes sel (Err f) accepted is refused = refused
+
+-- ---- what is written while it is laid out
+
+pub output-laid : (order : Order) (log : List ℕ) (sel : Selection) → AreBytes log → IsAccepted log sel → IsOutput log (mode_in order) sel (laid_out_after (read log sel.stop) (groups_in order (groups log sel)))
+output-laid order.Backward log sel are accepted = subst (IsOutput log Flashback sel) (sym (undoing-text log sel)) (undoing-output log sel are accepted)
+output-laid order.Forward log sel are accepted = subst (IsOutput log Forward sel) (sym (normal-laid log sel)) (normal-output log sel are accepted)
+
+pub output-written : (log : List ℕ) (mode : Mode) (sel : Selection) (had has : Option (List ℕ)) (text : List ℕ) (r : Result Unit RunFault) → IsOutput log mode sel text → IsWritten had has text r
+    → IsOutputWritten log mode sel had has r
+output-written log mode sel had has text (Ok done) output written = (text, output, written)
+output-written log mode sel had has text (Err (Log f)) output none = inl none
+output-written log mode sel had has text (Err Read) output written = absurd written
+output-written log mode sel had has text (Err Write) output beginning = (text, output, beginning)
+
+-- writing the output of the log that was read is a run
+pub runs-written : (old new had has : Option (List ℕ)) (log : List ℕ) (mode : Mode) (sel : Selection) (r : Result Unit RunFault) → ReadsLog old new log
+    → IsOutputWritten log mode sel had has r → (ends_before_writing r ≡ true → Keeps had has) → Runs old new mode sel had has r
+runs-written old new had has log mode sel (Ok done) reads (text, output, appended) kept = (log, text, reads, output, appended)
+runs-written old new had has log mode sel (Err (Log f)) reads (inl none) kept = (inl none, kept refl)
+runs-written old new had has log mode sel (Err (Log f)) reads (inr refused) kept = (inr (inl (log, reads, refused)), kept refl)
+runs-written old new had has log mode sel (Err Read) reads written kept = absurd written
+runs-written old new had has log mode sel (Err Write) reads (text, output, beginning) kept = (log, text, reads, output, beginning)

@@ -1,9 +1,12 @@
 -- What is written for the events of groups in turn is what their groups are laid out as.
-use Rattle.std.proofs.Common.{◌≡◌, false, List, [], ◌∷◌, ◌++◌, map, reverse, refl, sym, ap, ap₂, ◌∙◌}
+use Rattle.std.proofs.Common.{◌≡◌, ◌+◌, false, List, [], ◌∷◌, ◌++◌, length, map, reverse, refl, sym, ap, ap₂, ◌∙◌}
 use Rattle.std.specs.List.{flat_map}
 use Rattle.std.proofs.lemmas.List.{map-append}
 use Rattle.std.proofs.lemmas.List.Folds.{flat_map-map}
 use Rattle.blog_flash.proofs.Reversing.{map-reverse}
+use Rattle.blog_event.specs.Event.{event_size}
+use Rattle.blog_row.specs.RowsEventView.{rows_content}
+use Rattle.blog_row.specs.RowsWriting.{RowsContent, content_in, written_body}
 use Rattle.blog_row.specs.declared.order.Order.{Order}
 use Rattle.blog_row.specs.declared.order.Order.TheVariants.{Forward, Backward}
 use Rattle.blog_trans.specs.Groups.{PlacedRows, PlacedStatement, PlacedTransaction, event_value, rows_value, statement_value, transaction_value}
@@ -14,6 +17,7 @@ use Rattle.blog_trans.specs.declared.group_events.GroupRows.{GroupRows}
 use Rattle.blog_trans.specs.declared.group_events.GroupEvent.TheVariants as given
 use Rattle.blog_flash.specs.Reversal.{reversed_rows, reversed_statement, reversed_transaction}
 use Rattle.blog_flash.specs.Texts.{group_events, rows_event, rows_events, statement_events, transaction_events}
+use Rattle.blog_flash.proofs.RowsText.{body-size, content-seen}
 
 map-map : {A B C : Type 0} (f : B → C) (g : A → B) (xs : List A) → map f (map g xs) ≡ map (λ x. f (g x)) xs
 map-map f g [] = refl
@@ -73,3 +77,9 @@ pub row-written : (order : Order) (rows : GroupRows) → rows_event rows.last (r
 unfolding rows_event
 row-written Forward rows = refl
 row-written Backward rows = refl
+
+-- how long it is
+pub row-size : (order : Order) (rows : GroupRows) → event_size (written_event order (event_seen (given.Rows rows))) ≡ 19 + length (written_body rows.last (content_in order (rows_content rows.rows)))
+row-size order rows =
+    ap event_size (sym (row-written order rows)) ∙ body-size rows.last (rows_in order (rows_seen rows.event rows.rows))
+    ∙ ap (λ (content : RowsContent). 19 + length (written_body rows.last content)) (content-seen order rows.event rows.rows)

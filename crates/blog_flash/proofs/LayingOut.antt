@@ -1,5 +1,5 @@
 -- The log that is laid out of an accepted log's groups: how long it is, and what stands in its front.
-use Rattle.std.proofs.Common.{◌≡◌, ℕ, ◌+◌, ◌≤◌, true, List, ◌++◌, length, take, drop, Some, bytes_eq, sym, ap, ap₂, ◌∙◌, arith, append_assoc, take_at, length-drop, Option, option_map, refl}
+use Rattle.std.proofs.Common.{◌≡◌, ℕ, ◌+◌, ◌≤◌, true, List, [], ◌++◌, length, take, drop, Some, bytes_eq, sym, ap, ap₂, ◌∙◌, arith, append_assoc, append-nil, take_at, length-drop, Option, option_map, refl}
 use Rattle.std.proofs.lemmas.List.{take-append-drop}
 use Rattle.std.proofs.lemmas.Slice.Eq.{bytes_eq-Decides}
 use Rattle.std.proofs.Math.Seq.{take-append-add}
@@ -114,3 +114,29 @@ laid-written order bytes sel e front all len h copied long is =
     ∙ append_assoc magic (event_text e) (text_from (4 + event_size e) (group_events ts))
     ∙ ap (laid_out e) (sym (groups-laid order bytes sel))
     ∙ sym (first-laid bytes sel.stop e (groups_in order (groups bytes sel)) h.mark h.stands)
+
+-- ---- what stands in its front
+
+-- the magic number and the event at 4 alone
+pub front-laid : (bytes : List ℕ) (sel : Selection) (e : Event) → IsOpened bytes sel e → take (4 + event_size e) bytes ≡ laid_out_after (read bytes sel.stop) []
+unfolding laid_out
+front-laid bytes sel e h =
+    front-copied bytes sel e h ∙ ap (λ (text : List ℕ). magic ++ text) (sym (append-nil (event_text e))) ∙ sym (first-laid bytes sel.stop e [] h.mark h.stands)
+
+-- the groups in an order are laid out behind it, and all is no longer than the log
+pub record IsFront (order : Order) (bytes : List ℕ) (sel : Selection) (front : List ℕ) : Type 0 where
+  pub text : front ++ text_from (length front) (group_events (transactions_of order (placed_groups bytes sel))) ≡ laid_out_after (read bytes sel.stop) (groups_in order (groups bytes sel))
+  pub ends : end_of (length front) (group_events (transactions_of order (placed_groups bytes sel))) ≡ length (laid_out_after (read bytes sel.stop) (groups bytes sel))
+  pub within : length (laid_out_after (read bytes sel.stop) (groups bytes sel)) ≤ length bytes
+
+pub is-front : (order : Order) (bytes : List ℕ) (sel : Selection) (e : Event) (front : List ℕ) → IsOpened bytes sel e → front ≡ laid_out_after (read bytes sel.stop) [] → IsFront order bytes sel front
+unfolding laid_out
+is-front order bytes sel e front h is =
+    let laid : front ≡ laid_out e [] = is ∙ first-laid bytes sel.stop e [] h.mark h.stands in
+    let long : length front ≡ 4 + event_size e = ap length laid ∙ laid-end e [] in
+    let copied : front ≡ magic ++ event_text e = laid ∙ ap (λ (text : List ℕ). magic ++ text) (append-nil (event_text e)) in
+    record {
+      text = laid-written order bytes sel e front _ (length front) h copied long refl;
+      ends = ap (λ (n : ℕ). end_of n (group_events (transactions_of order (placed_groups bytes sel)))) long ∙ sym (written-end order bytes sel e h);
+      within = laid-within Forward bytes sel e h;
+    }

@@ -15,6 +15,7 @@ pub mod Totals
 pub mod Agreement
 pub mod OwnMaps
 pub mod Written
+pub mod WritingOut
 pub mod Placing
 pub mod RowsText
 pub mod LayingOut

@@ -78,10 +78,10 @@ header-and-body e =
     ∙ ap (λ (xs : List ℕ). size ++ xs) (append_assoc pos flags e.body))))
 
 -- a body is written into the room behind the header
-pub body-written : (old opened body : List ℕ) (last : Bool) (v : RowsEvent) (pos kind at : ℕ) (zeros : List ℕ) → kind ≡ number_of_kind v.content.kind → body ≡ written_body last v.content
-    → pos ≡ length old → at ≡ pos + 19 → opened ≡ old ++ event_text (appended_as v pos kind zeros) → length zeros ≡ length body
+pub body-written : (old opened body : List ℕ) (last : Bool) (v : RowsEvent) (pos n kind at : ℕ) (zeros : List ℕ) → kind ≡ number_of_kind v.content.kind → body ≡ written_body last v.content
+    → n ≡ length old → at ≡ n + 19 → opened ≡ old ++ event_text (appended_as v pos kind zeros) → length zeros ≡ length body
     → take at opened ++ body ≡ old ++ text_from pos (rows_event last v ∷ [])
-body-written old opened body last v pos kind at zeros numbered is begins behind room size =
+body-written old opened body last v pos n kind at zeros numbered is begins behind room size =
     let e = appended_as v pos kind zeros in
     let header = header-len e in
     let parts : opened ≡ (old ++ header_of e) ++ zeros = room ∙ ap (λ (xs : List ℕ). old ++ xs) (header-and-body e) ∙ sym (append_assoc old (header_of e) zeros) in

@@ -8,8 +8,12 @@ use Rattle.blog_device.specs.Devices.{greatest_length, PassesLimit, ReadsLog, Ap
 use Rattle.blog_device.specs.declared.fault.RunFault.{RunFault}
 use Rattle.blog_device.specs.declared.fault.RunFault.TheVariants.{Log, Read, Write}
 use Rattle.blog_trans.specs.Selection.{Selection}
+use Rattle.blog_trans.specs.Acceptance.{fault, IsRefusal}
 use Rattle.blog_flash.specs.Answers.{IsOutput, IsRefused}
 use Rattle.blog_flash.specs.declared.modes.Mode.{Mode}
+use Rattle.blog_flash.specs.declared.modes.Mode.TheVariants as mode
+use Rattle.blog_row.specs.declared.order.Order.{Order}
+use Rattle.blog_row.specs.declared.order.Order.TheVariants.{Forward, Backward}
 
 -- the answer is that of a run which ended before its first write
 abbrev pub ends_before_writing : {X : Type 0} → Result X RunFault → Bool
@@ -38,3 +42,24 @@ Runs old new mode sel had has (Ok done) = (log text : List ℕ) × ReadsLog old 
 Runs old new mode sel had has (Err (Log fault)) = RefusesLog old new mode sel fault × Keeps had has
 Runs old new mode sel had has (Err Read) = Keeps had has
 Runs old new mode sel had has (Err Write) = (log text : List ℕ) × ReadsLog old new log × IsOutput log mode sel text × AppendsBeginning had has text
+
+-- ---- a text that is written while it is made
+
+-- what comes of it: all is written, or a beginning where a write failed; or memory was refused
+abbrev pub IsWritten : Option (List ℕ) → Option (List ℕ) → List ℕ → Result Unit RunFault → Type 0
+IsWritten had has text (Ok done) = Appends had has text
+IsWritten had has text (Err (Log fault)) = fault ≡ OutOfMemory
+IsWritten had has text (Err Read) = ⊥
+IsWritten had has text (Err Write) = AppendsBeginning had has text
+
+-- the mode whose output is the groups in an order, laid out
+abbrev pub mode_in : Order → Mode
+mode_in Forward = mode.Forward
+mode_in Backward = mode.Flashback
+
+-- what comes of writing the output of a log: as above, or the log is refused
+abbrev pub IsOutputWritten : List ℕ → Mode → Selection → Option (List ℕ) → Option (List ℕ) → Result Unit RunFault → Type 0
+IsOutputWritten log mode sel had has (Ok done) = (text : List ℕ) × IsOutput log mode sel text × Appends had has text
+IsOutputWritten log mode sel had has (Err (Log f)) = IsRefusal (fault log sel) f
+IsOutputWritten log mode sel had has (Err Read) = ⊥
+IsOutputWritten log mode sel had has (Err Write) = (text : List ℕ) × IsOutput log mode sel text × AppendsBeginning had has text

@@ -1,7 +1,7 @@
 //! Laying out the groups of an index as a log: in normal form, or as the log that undoes them.
 
 ghost use Rattle.std.specs.Prelude.{◌≡◌, ◌+◌, ◌≤◌, [], ◌∷◌, ◌++◌, length, take, IfOk, IfErr, vec_len, vec_capacity};
-ghost use Rattle.blog_event.specs.Event.{event_of, unplaced};
+ghost use Rattle.blog_event.specs.Event.{event_of, event_size, unplaced};
 ghost use Rattle.blog_event.specs.File.{end_of, read};
 ghost use Rattle.blog_event.specs.declared.fault.Fault.TheVariants.{OutOfMemory};
 ghost use Rattle.blog_row.specs.RowsEventView.{rows_content};
@@ -13,23 +13,28 @@ ghost use Rattle.blog_flash.specs.LaidOut.{text_from, rows_in, rows_seen, groups
 ghost use Rattle.blog_flash.specs.Texts.{rows_event, group_events, laid_out_after};
 
 use crate::lengths::text_len;
-use blog_event::{Event, Fault, Header, open_event, put_event};
+use blog_event::{Event, Fault, Header, open_event_from, put_event_from};
 use blog_row::{Order, RowsEvent};
 use blog_trans::{GroupEvent, Index};
 use std::alloc::Allocator;
 
-/// The length of the magic number.
-const MAGIC_LEN: usize = 4;
+/// What stands in front of the groups: the magic number and the format description, as they are.
+pub(crate) fn front<'b, A: Allocator>(bytes: &'b [u8], index: &Index<'_, '_, A>) -> &'b [u8]
+    requires { bytes.now ≡ index_bytes index.now }
+    ensures { result.now ≡ laid_out_after (read (index_bytes index.now) (index_selection index.now).stop) [] }
+{
+    &bytes[..index.log().first() as usize]
+}
 
-/// Appends an event as it is, with the log_pos that it has there.
-fn put_same<A: Allocator>(out: &mut Vec<u8, A>, event: &Event<'_>)
-    requires room { end_of (vec_len out.old) (event_of event.now ∷ []) ≤ vec_capacity out.old }
-    requires short { end_of (vec_len out.old) (event_of event.now ∷ []) ≤ 4294967295 }
-    ensures items { out.new.items ≡ out.old.items ++ text_from (vec_len out.old) (unplaced (event_of event.now) ∷ []) }
-    ensures len { vec_len out.new ≡ end_of (vec_len out.old) (event_of event.now ∷ []) }
+/// Appends an event as it is, with the log_pos that it has there. `out` holds the log from position `from` on.
+fn put_same<A: Allocator>(out: &mut Vec<u8, A>, from: usize, event: &Event<'_>)
+    requires room { vec_len out.old + event_size (event_of event.now) ≤ vec_capacity out.old }
+    requires short { from + vec_len out.old + event_size (event_of event.now) ≤ 4294967295 }
+    ensures items { out.new.items ≡ out.old.items ++ text_from (from + vec_len out.old) (unplaced (event_of event.now) ∷ []) }
+    ensures len { vec_len out.new ≡ vec_len out.old + event_size (event_of event.now) }
     ensures capacity { vec_capacity out.old ≤ vec_capacity out.new }
 {
-    put_event(out, event.header, &[event.body]).unwrap();
+    put_event_from(out, from, event.header, &[event.body]).unwrap();
 }
 
 /// Writes the body of a rows event over the last bytes, from position `at` on.
@@ -49,41 +54,50 @@ fn put_body_at<A: Allocator>(
 }
 
 /// Appends a rows event, with the log_pos that it has there and without extra bytes; backward it undoes its rows, the
-/// last one first.
+/// last one first. `out` holds the log from position `from` on.
 fn put_rows_event<A: Allocator>(
     out: &mut Vec<u8, A>,
+    from: usize,
     order: Order,
     event: &Event<'_>,
     rows: &RowsEvent<'_>,
     last: bool,
 )
-    requires room { end_of (vec_len out.old) (rows_event last (rows_in order (rows_seen event.now rows.now)) ∷ []) ≤ vec_capacity out.old }
-    requires short { end_of (vec_len out.old) (rows_event last (rows_in order (rows_seen event.now rows.now)) ∷ []) ≤ 4294967295 }
-    ensures items { out.new.items ≡ out.old.items ++ text_from (vec_len out.old) (rows_event last (rows_in order (rows_seen event.now rows.now)) ∷ []) }
-    ensures len { vec_len out.new ≡ end_of (vec_len out.old) (rows_event last (rows_in order (rows_seen event.now rows.now)) ∷ []) }
+    requires room { vec_len out.old + event_size (rows_event last (rows_in order (rows_seen event.now rows.now))) ≤ vec_capacity out.old }
+    requires short { from + vec_len out.old + event_size (rows_event last (rows_in order (rows_seen event.now rows.now))) ≤ 4294967295 }
+    ensures items { out.new.items ≡ out.old.items ++ text_from (from + vec_len out.old) (rows_event last (rows_in order (rows_seen event.now rows.now)) ∷ []) }
+    ensures len { vec_len out.new ≡ vec_len out.old + event_size (rows_event last (rows_in order (rows_seen event.now rows.now))) }
     ensures capacity { vec_capacity out.old ≤ vec_capacity out.new }
 {
     let header = Header {
         kind: order.kind(rows.kind()).number(),
         ..event.header
     };
-    let body = open_event(out, header, rows.body_len()).unwrap();
+    let body = open_event_from(out, from, header, rows.body_len()).unwrap();
     put_body_at(out, body, order, rows, last);
 }
 
-/// Appends what is written for an event of the groups, with the log_pos that it has there.
-fn put_group_event<A: Allocator>(out: &mut Vec<u8, A>, order: Order, event: &GroupEvent<'_>)
-    requires room { end_of (vec_len out.old) (written_event order (event_seen event.now) ∷ []) ≤ vec_capacity out.old }
-    requires short { end_of (vec_len out.old) (written_event order (event_seen event.now) ∷ []) ≤ 4294967295 }
-    ensures items { out.new.items ≡ out.old.items ++ text_from (vec_len out.old) (written_event order (event_seen event.now) ∷ []) }
-    ensures len { vec_len out.new ≡ end_of (vec_len out.old) (written_event order (event_seen event.now) ∷ []) }
+/// Appends what is written for an event of the groups, with the log_pos that it has there. `out` holds the log from
+/// position `from` on.
+pub(crate) fn put_group_event<A: Allocator>(
+    out: &mut Vec<u8, A>,
+    from: usize,
+    order: Order,
+    event: &GroupEvent<'_>,
+)
+    requires room { vec_len out.old + event_size (written_event order (event_seen event.now)) ≤ vec_capacity out.old }
+    requires short { from + vec_len out.old + event_size (written_event order (event_seen event.now)) ≤ 4294967295 }
+    ensures items { out.new.items ≡ out.old.items ++ text_from (from + vec_len out.old) (written_event order (event_seen event.now) ∷ []) }
+    ensures len { vec_len out.new ≡ vec_len out.old + event_size (written_event order (event_seen event.now)) }
     ensures capacity { vec_capacity out.old ≤ vec_capacity out.new }
 {
     match event {
         GroupEvent::Begin(event) | GroupEvent::Map(event) | GroupEvent::End(event) => {
-            put_same(out, event);
+            put_same(out, from, event);
         }
-        GroupEvent::Rows(rows) => put_rows_event(out, order, &rows.event, &rows.rows, rows.last),
+        GroupEvent::Rows(rows) => {
+            put_rows_event(out, from, order, &rows.event, &rows.rows, rows.last);
+        }
     }
 }
 
@@ -100,7 +114,7 @@ fn put_transactions<A: Allocator, B: Allocator>(
     ensures capacity { vec_capacity out.old ≤ vec_capacity out.new }
 {
     for event in index.in_turn(order) {
-        put_group_event(out, order, &event);
+        put_group_event(out, 0, order, &event);
     }
 }
 
@@ -117,12 +131,10 @@ pub fn lay_out<A: Allocator, B: Allocator>(
     ensures ok { IfOk result (λ text. text.items ≡ laid_out_after (read (index_bytes index.now) (index_selection index.now).stop) (groups_in order (groups (index_bytes index.now) (index_selection index.now)))) }
     ensures refused { IfErr result (λ fault. fault ≡ OutOfMemory) }
 {
-    let format = index.log().format();
-    let front = MAGIC_LEN + format.header.size as usize;
     let Ok(mut out) = Vec::with_capacity(alloc, text_len(index)) else {
         return Err(Fault::OutOfMemory);
     };
-    out.extend_from_slice(&bytes[..front]).unwrap();
+    out.extend_from_slice(front(bytes, index)).unwrap();
     put_transactions(&mut out, index, order);
     Ok(out)
 }

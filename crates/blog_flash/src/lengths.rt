@@ -1,23 +1,24 @@
 //! How long the groups of an index are, laid out: from sizes alone, so that no row is read. Reversed groups are as long.
 
-ghost use Rattle.std.specs.Prelude.{◌≡◌, ◌≤◌, [], ◌∷◌, length};
+ghost use Rattle.std.specs.Prelude.{◌≡◌, ◌≤◌, length};
+ghost use Rattle.blog_event.specs.Event.{event_size};
 ghost use Rattle.blog_event.specs.File.{end_of, read};
+ghost use Rattle.blog_row.specs.declared.order.Order.{Order};
 ghost use Rattle.blog_trans.specs.Groups.{groups};
 ghost use Rattle.blog_trans.specs.GroupEventsView.{event_seen};
-ghost use Rattle.blog_trans.specs.IndexView.{index_bytes, index_selection};
-ghost use Rattle.blog_flash.specs.LaidOut.{written_event};
-ghost use Rattle.blog_flash.specs.Texts.{rows_event, laid_out_after};
-ghost use Rattle.blog_row.specs.declared.order.Order.TheVariants.{Forward};
+ghost use Rattle.blog_trans.specs.IndexView.{index_bytes, index_groups, index_selection};
+ghost use Rattle.blog_flash.specs.LaidOut.{largest, transactions_of, written_event};
+ghost use Rattle.blog_flash.specs.Texts.{group_events, laid_out_after};
 
 use blog_event::HEADER_LEN;
 use blog_row::Order;
 use blog_trans::{GroupEvent, Index};
 use std::alloc::Allocator;
 
-/// Where the event ends that is written at a position for one of the groups, in bytes.
-fn event_end(event: &GroupEvent<'_>, pos: usize) -> usize
-    requires short { end_of pos (written_event Forward (event_seen event.now) ∷ []) ≤ 4294967295 }
-    ensures { result ≡ end_of pos (written_event Forward (event_seen event.now) ∷ []) }
+/// How many bytes the event has that is written for one of the groups, in either order.
+pub(crate) fn event_len(event: &GroupEvent<'_>) -> usize
+    requires short { (order : Order) × (event_size (written_event order (event_seen event.now)) ≤ 4294967295) }
+    ensures { (order : Order) → result ≡ event_size (written_event order (event_seen event.now)) }
 {
     let len = match event {
         GroupEvent::Begin(event) | GroupEvent::Map(event) | GroupEvent::End(event) => event
@@ -25,7 +26,23 @@ fn event_end(event: &GroupEvent<'_>, pos: usize) -> usize
             .len(),
         GroupEvent::Rows(rows) => rows.rows.body_len(),
     };
-    pos + HEADER_LEN + len
+    HEADER_LEN + len
+}
+
+/// The length of the largest event that is written for the groups, or `least` where that is more, in bytes.
+pub(crate) fn largest_len<A: Allocator>(
+    index: &Index<'_, '_, A>,
+    order: Order,
+    least: usize,
+) -> usize
+    requires short { end_of 0 (group_events (transactions_of order (index_groups index.now))) ≤ 4294967295 }
+    ensures { result ≡ largest least (group_events (transactions_of order (index_groups index.now))) }
+{
+    let mut most = least;
+    for event in index.in_turn(order) {
+        most = most.max(event_len(&event));
+    }
+    most
 }
 
 /// How many bytes the groups have, laid out behind the format description in either order.
@@ -35,7 +52,7 @@ pub fn text_len<A: Allocator>(index: &Index<'_, '_, A>) -> usize
 {
     let mut end = index.log().first() as usize;
     for event in index.in_turn(Order::Forward) {
-        end = event_end(&event, end);
+        end += event_len(&event);
     }
     end
 }

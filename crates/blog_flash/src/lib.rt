@@ -10,12 +10,13 @@ mod put_summary;
 mod runs;
 mod theorems;
 mod worked_logs;
+mod written_out;
 
 pub use blog_device::{RunFault, Watched, put};
 pub use blog_event::Fault;
 pub use blog_trans::Selection;
 pub use modes::{Mode, answer, flashback, forward, sql, summary};
-pub use runs::{prepare, run};
+pub use runs::{prepare, run, run_by_chunks};
 pub use theorems::{
     every_stop_stands, flashback_undoes, forward_is_normal, groups_show_each_event_once,
     maps_agree_on_layouts, written_changes_are_inverse, written_logs_are_no_longer,

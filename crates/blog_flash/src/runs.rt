@@ -4,10 +4,12 @@ ghost use Rattle.std.specs.Prelude.{◌≡◌, ◌||◌, true};
 ghost use Rattle.blog_trans.specs.Selection.{selection_of};
 ghost use Rattle.blog_device.specs.Watched.{device_of, has_failed};
 ghost use Rattle.blog_device.specs.Devices.{is_read_fault, is_write_fault};
-ghost use Rattle.blog_flash.specs.Runs.{Prepares, Runs, ends_before_writing};
+ghost use Rattle.blog_flash.specs.Runs.{IsOutputWritten, Prepares, Runs, ends_before_writing, mode_in};
 
-use crate::modes::{Mode, answer};
+use crate::modes::{Mode, answer, selected};
+use crate::written_out::write_out;
 use blog_device::{RunFault, Watched, put, read_log};
+use blog_row::Order;
 use blog_trans::Selection;
 use std::alloc::Allocator;
 use std::io::{Read, Write};
@@ -31,8 +33,33 @@ pub fn prepare<A: Allocator + Copy, R: Read>(
     answer(alloc, &bytes, mode, sel).map_err(RunFault::Log)
 }
 
-/// Reads a log to the reader's end and writes what it is answered with in this mode: `prepare`,
-/// then `put`, with their faults. After `Log` or `Read` the writer was not called.
+/// How much of a log is collected before it is written, in bytes.
+const CHUNK_LEN: usize = 1 << 18;
+
+/// Writes the selected changes of a log as a log, in an order, by chunks of `chunk_len` bytes. `Log` where the log is refused
+/// or memory was, and then the writer was not called; `Write` where a write failed.
+fn write_log<A: Allocator + Copy, W: Write>(
+    alloc: A,
+    bytes: &[u8],
+    sel: &Selection<'_>,
+    order: Order,
+    writer: &mut Watched<W>,
+    chunk_len: usize,
+) -> Result<(), RunFault>
+    ensures written { IsOutputWritten bytes.now (mode_in order) (selection_of sel.now) (W.contents (device_of writer.old)) (W.contents (device_of writer.new)) result }
+    ensures untouched { ends_before_writing result ≡ true → writer.new ≡ writer.old }
+    ensures mark { has_failed writer.new ≡ (has_failed writer.old || is_write_fault result) }
+{
+    let groups = match selected(alloc, bytes, sel) {
+        Ok(groups) => groups,
+        Err(fault) => return Err(RunFault::Log(fault)),
+    };
+    write_out(alloc, bytes, &groups, order, writer, chunk_len)
+}
+
+/// Reads a log to the reader's end and writes what it is answered with in this mode, with the faults of `prepare` and then
+/// those of `put`. After `Log` or `Read` the writer was not called: all memory is taken before the first write. A log is
+/// written while it is laid out, by some 256 KB at once.
 pub fn run<A: Allocator + Copy, R: Read, W: Write>(
     alloc: A,
     reader: &mut Watched<R>,
@@ -47,6 +74,33 @@ pub fn run<A: Allocator + Copy, R: Read, W: Write>(
     ensures reader_mark { has_failed reader.new ≡ (has_failed reader.old || is_read_fault result) }
     ensures writer_mark { has_failed writer.new ≡ (has_failed writer.old || is_write_fault result) }
 {
-    let text = prepare(alloc, reader, mode, sel)?;
-    put(writer, &text)
+    run_by_chunks(alloc, reader, mode, sel, writer, CHUNK_LEN)
+}
+
+/// `run`, where a log is written by `chunk_len` bytes at once, or as many as the front of the log or its largest event has
+/// where these are more.
+pub fn run_by_chunks<A: Allocator + Copy, R: Read, W: Write>(
+    alloc: A,
+    reader: &mut Watched<R>,
+    mode: Mode,
+    sel: &Selection,
+    writer: &mut Watched<W>,
+    chunk_len: usize,
+) -> Result<(), RunFault>
+    ensures runs { Runs (R.remaining (device_of reader.old)) (R.remaining (device_of reader.new))
+        mode (selection_of sel.now)
+        (W.contents (device_of writer.old)) (W.contents (device_of writer.new)) result }
+    ensures untouched { ends_before_writing result ≡ true → writer.new ≡ writer.old }
+    ensures reader_mark { has_failed reader.new ≡ (has_failed reader.old || is_read_fault result) }
+    ensures writer_mark { has_failed writer.new ≡ (has_failed writer.old || is_write_fault result) }
+{
+    let bytes = read_log(alloc, reader)?;
+    match mode {
+        Mode::Flashback => write_log(alloc, &bytes, sel, Order::Backward, writer, chunk_len),
+        Mode::Forward => write_log(alloc, &bytes, sel, Order::Forward, writer, chunk_len),
+        Mode::FlashbackSql | Mode::ForwardSql | Mode::Summary => {
+            let text = answer(alloc, &bytes, mode, sel).map_err(RunFault::Log)?;
+            put(writer, &text)
+        }
+    }
 }

@@ -1,7 +1,7 @@
 //! Runs over devices that move 1, 7 or all bytes a call, and that fail at each of their calls.
 
 use crate::logs::{TWO_TRANSACTIONS, TWO_TRANSACTIONS_UNDONE, log_of};
-use blog_flash::{Fault, Mode, RunFault, Selection, Watched, prepare, run};
+use blog_flash::{Fault, Mode, RunFault, Selection, Watched, prepare, run, run_by_chunks};
 use std::process::Abort;
 use std::test::Fail;
 use test_devices::{ALL, Failure, KINDS, SlowReader, SlowWriter};
@@ -11,6 +11,13 @@ const READERS: [(usize, u64); 3] = [(1, 500), (7, 73), (ALL, 2)];
 
 // How many bytes a writer takes a call, and its writes of the output of 411 bytes. A flush follows them.
 const WRITERS: [(usize, u64); 3] = [(1, 411), (7, 59), (ALL, 1)];
+
+// The same where each write has one chunk, which has room for 120 bytes: the front of the log, and then as many events of 39,
+// 37, 36, 27, 39, 37, 36 and 40 bytes as fit.
+const WRITERS_OF_CHUNKS: [(usize, u64); 3] = [(1, 411), (7, 60), (ALL, 4)];
+
+// How many bytes were written before each chunk.
+const CHUNKS: [(u64, usize); 4] = [(1, 0), (2, 120), (3, 232), (4, 335)];
 
 // A device: how many bytes it moves a call, and when it fails.
 type Habit = (usize, Failure);
@@ -26,18 +33,27 @@ struct Outcome {
     taken: usize,
 }
 
-// A log, and the log that undoes it.
+// A log, the log that undoes it, and by how many bytes at once it is written, where that is told.
 #[derive(Drop)]
 struct Logs {
     log: Vec<u8>,
     undone: Vec<u8>,
+    chunk_len: Option<usize>,
 }
 
 fn two_transactions(rt: &impl AllocGlobal) -> Result<Logs, Fail> {
     Ok(Logs {
         log: log_of(rt.alloc(), &TWO_TRANSACTIONS)?,
         undone: log_of(rt.alloc(), &TWO_TRANSACTIONS_UNDONE)?,
+        chunk_len: None,
     })
+}
+
+// The same, written by chunks that are as small as may be.
+fn two_transactions_by_chunks(rt: &impl AllocGlobal) -> Result<Logs, Fail> {
+    let mut logs = two_transactions(rt)?;
+    logs.chunk_len = Some(1);
+    Ok(logs)
 }
 
 // Runs the reader into the writer. Each mark then tells whether a call of its device failed, and no
@@ -46,9 +62,14 @@ fn run_marked<R: AllocGlobal + Abort>(
     rt: &R,
     reader: &mut Watched<SlowReader<'_>>,
     writer: &mut Watched<SlowWriter>,
+    chunk_len: Option<usize>,
 ) -> Result<(), RunFault> {
     let sel = Selection::all();
-    let answer = run(rt.alloc(), reader, Mode::Flashback, &sel, writer);
+    let mode = Mode::Flashback;
+    let answer = match chunk_len {
+        Some(len) => run_by_chunks(rt.alloc(), reader, mode, &sel, writer, len),
+        None => run(rt.alloc(), reader, mode, &sel, writer),
+    };
     check_mark(rt, reader.failed(), reader.device().failed_calls);
     check_mark(rt, writer.failed(), writer.device().failed_calls);
     assert_eq!(rt; reader.failed(), answer == Err(RunFault::Read));
@@ -73,7 +94,8 @@ fn check_run<R: AllocGlobal + Abort>(
     let mut reader = Watched::new(SlowReader::new(&logs.log, step, failure));
     let (step, failure) = writer;
     let mut writer = Watched::new(SlowWriter::new(rt, step, failure));
-    assert_eq!(rt; run_marked(rt, &mut reader, &mut writer), wanted.answer);
+    let answer = run_marked(rt, &mut reader, &mut writer, logs.chunk_len);
+    assert_eq!(rt; answer, wanted.answer);
     assert_eq!(rt; reader.device().calls, wanted.reads);
     assert_eq!(rt; writer.device().calls, wanted.writes);
     let taken = logs.undone.get(..wanted.taken);
@@ -140,6 +162,21 @@ fn writes_the_output_from_short_reads_by_short_writes(rt: HostRuntime) -> Result
     let logs = two_transactions(&rt)?;
     for (step, reads) in READERS {
         check_writers(&rt, &logs, step, reads);
+    }
+    Ok(())
+}
+
+#[test]
+fn writes_the_output_by_chunks(rt: HostRuntime) -> Result<(), Fail> {
+    let logs = two_transactions_by_chunks(&rt)?;
+    for (step, writes) in WRITERS_OF_CHUNKS {
+        let wanted = Outcome {
+            answer: Ok(()),
+            reads: 2,
+            writes: writes.saturating_add(1),
+            taken: 411,
+        };
+        check_writer(&rt, &logs, (step, Failure::Never), &wanted);
     }
     Ok(())
 }
@@ -226,6 +263,19 @@ fn a_failed_write_ends_the_run(rt: HostRuntime) -> Result<(), Fail> {
 }
 
 #[test]
+fn a_failed_write_of_a_chunk_ends_the_run(rt: HostRuntime) -> Result<(), Fail> {
+    let logs = two_transactions_by_chunks(&rt)?;
+    check_failed_writes(&rt, &logs, 1, 411);
+    for (number, taken) in CHUNKS {
+        check_failed_write(&rt, &logs, ALL, number, taken);
+    }
+    for (step, writes) in WRITERS_OF_CHUNKS {
+        check_failed_flush(&rt, &logs, step, writes);
+    }
+    Ok(())
+}
+
+#[test]
 fn a_write_that_takes_nothing_ends_the_run(rt: HostRuntime) -> Result<(), Fail> {
     let logs = two_transactions(&rt)?;
     for (step, taken) in [(1, 2), (7, 14)] {
@@ -257,7 +307,8 @@ fn a_refused_log_leaves_the_writer_alone(rt: HostRuntime) -> Result<(), Fail> {
     let mut reader = Watched::new(SlowReader::new(b"no log", 1, Failure::Never));
     let mut writer = Watched::new(SlowWriter::new(&rt, ALL, Failure::Never));
     let refused = RunFault::Log(Fault::NotABinlog { pos: 0 });
-    assert_eq!(rt; run_marked(&rt, &mut reader, &mut writer), Err(refused));
+    let answer = run_marked(&rt, &mut reader, &mut writer, Some(1));
+    assert_eq!(rt; answer, Err(refused));
     assert_eq!(rt; reader.device().calls, 7);
     assert_eq!(rt; writer.device().calls, 0);
     Ok(())

@@ -1,7 +1,7 @@
-use Rattle.std.proofs.Common.{[], ◌∷◌, map, vec_len, sym, ap, subst, ◌∙◌, arith}
+use Rattle.std.proofs.Common.{◌≡◌, ℕ, ◌+◌, [], ◌∷◌, ◌++◌, map, vec_len, sym, ap, subst, ◌∙◌, arith}
 use Rattle.blog_trans.specs.GroupEventsView.{event_seen, events_left}
 use Rattle.blog_trans.specs.IndexView.{index_groups}
-use Rattle.blog_flash.specs.LaidOut.{transactions_of, written_event}
+use Rattle.blog_flash.specs.LaidOut.{text_from, transactions_of, written_event}
 use Rattle.blog_flash.specs.Texts.{group_events}
 use Rattle.blog_flash.proofs.InTurn.{written-in-turn}
 use Rattle.blog_flash.proofs.Placing.{IsPut, Splits, put-none, put-room, put-next}
@@ -22,7 +22,7 @@ put_group_event-requires g c =
     let next : Splits (map write (events_left c.loop-event.event-iterator)) (write (event_seen c.in-Some.event) ∷ []) (map write (events_left c.next.new.self)) = record { is = ap (map write) c.in-Some.ensures.steps.first } in
     let kept = c.loop-event.invariant.capacity in
     let room = c.requires.room in
-    record { room = put-room _ _ _ _ _ _ _ _ _ c.loop-event.invariant.put next (omega arith); short = put-room _ _ _ _ _ _ _ _ _ c.loop-event.invariant.put next c.requires.short }
+    record { room = put-room _ _ _ _ _ _ _ _ _ c.loop-event.invariant.put next (omega arith); short = omega (arith, put-room _ _ _ _ _ _ _ _ _ c.loop-event.invariant.put next c.requires.short) }
 
 pub loop-event-preserved : goal.loop-event-preserved
 loop-event-preserved g c =
@@ -30,4 +30,6 @@ loop-event-preserved g c =
     let next : Splits (map write (events_left c.loop-event.event-iterator)) (write (event_seen c.in-Some.event) ∷ []) (map write (events_left c.next.new.self)) = record { is = ap (map write) c.in-Some.ensures.steps.first } in
     let kept = c.loop-event.invariant.capacity in
     let more = c.put_group_event.ensures.capacity in
-    record { next = tt; finite = tt; put = put-next _ _ _ _ _ _ _ _ _ _ c.loop-event.invariant.put next c.put_group_event.ensures.items c.put_group_event.ensures.len; capacity = omega arith }
+    let here : 0 + vec_len c.loop-event.out ≡ vec_len c.loop-event.out = omega arith in
+    let items = c.put_group_event.ensures.items ∙ ap (λ (n : ℕ). c.loop-event.out.items ++ text_from n (write (event_seen c.in-Some.event) ∷ [])) here in
+    record { next = tt; finite = tt; put = put-next _ _ _ _ _ _ _ _ _ _ c.loop-event.invariant.put next items c.put_group_event.ensures.len; capacity = omega arith }

@@ -1,4 +1,5 @@
-use Rattle.std.proofs.Common.{[], ◌∷◌, map, ap, sym, ◌∙◌, arith}
+use Rattle.std.proofs.Common.{◌+◌, map, ap, sym, ◌∙◌, arith}
+use Rattle.blog_event.specs.Event.{event_size}
 use Rattle.blog_event.specs.File.{end_of}
 use Rattle.blog_row.specs.declared.order.Order.TheVariants.{Forward}
 use Rattle.blog_trans.specs.GroupEventsView.{event_seen, events_left}
@@ -16,10 +17,15 @@ loop-event-init g c =
     let end = log-end c.log.result Forward (index_bytes index) (index_selection index) c.first-end.result c.log.ensures.bytes c.first-end.ensures.event in
     record { next = tt; finite = tt; ends = ap (end_of c.first-end.result) left ∙ sym end }
 
-pub event_end-end-requires : goal.event_end-end-requires
-event_end-end-requires g c =
+pub event_len-end-requires : goal.event_len-end-requires
+event_len-end-requires g c =
     let next = ap (λ events. end_of c.loop-event.end (map (written_event Forward) events)) c.in-Some.ensures.steps.first in
-    let behind = end-above (end_of c.loop-event.end (written_event Forward (event_seen c.in-Some.event) ∷ [])) (map (written_event Forward) (events_left c.next.new.self)) in
-    let whole = c.loop-event.invariant.ends in
-    let short = c.requires.short in
-    record { short = omega (arith, next, behind, whole, short) }
+    let behind = end-above (c.loop-event.end + event_size (written_event Forward (event_seen c.in-Some.event))) (map (written_event Forward) (events_left c.next.new.self)) in
+    record { short = (Forward, omega (arith, next, behind, c.loop-event.invariant.ends, c.requires.short)) }
+
+pub overflow_add-end : goal.overflow_add-end
+overflow_add-end g c =
+    let next = ap (λ events. end_of c.loop-event.end (map (written_event Forward) events)) c.in-Some.ensures.steps.first in
+    let behind = end-above (c.loop-event.end + event_size (written_event Forward (event_seen c.in-Some.event))) (map (written_event Forward) (events_left c.next.new.self)) in
+    let size = c.event_len-end.ensures Forward in
+    omega (arith, next, behind, size, c.loop-event.invariant.ends, c.requires.short)

@@ -1,0 +1,20 @@
+use Rattle.std.proofs.Common.{List, ℕ, ap₂, subst, arith}
+use Rattle.blog_device.specs.Watched.{device_of}
+use Rattle.blog_event.specs.File.{read}
+use Rattle.blog_trans.specs.Groups.{groups}
+use Rattle.blog_trans.specs.Selection.{Selection, selection_of}
+use Rattle.blog_flash.specs.LaidOut.{groups_in}
+use Rattle.blog_flash.specs.Runs.{IsWritten, mode_in}
+use Rattle.blog_flash.specs.Texts.{laid_out_after}
+use Rattle.blog_flash.proofs.Answering.{output-laid, output-written}
+use Rattle.blog_flash.proofs.runs.write_log.Goals as goal
+
+pub returns-clause-written : goal.returns-clause-written
+returns-clause-written g c =
+    let log = c.args.bytes.now in
+    let sel = selection_of c.args.sel.now in
+    let had = g.W.Write.contents (device_of c.args.writer.now) in
+    let has = g.W.Write.contents (device_of c.write_out.new.writer) in
+    let same = ap₂ (λ (bytes : List ℕ) (own : Selection). laid_out_after (read bytes own.stop) (groups_in c.args.order (groups bytes own))) c.in-Ok.ensures.bytes c.in-Ok.ensures.selection in
+    output-written log (mode_in c.args.order) sel had has _ c.write_out.result (output-laid c.args.order log sel (λ i. omega (arith, c.type_inv.bytes i)) c.in-Ok.ensures.accepted)
+    (subst (λ text. IsWritten had has text c.write_out.result) same c.write_out.ensures.written)
