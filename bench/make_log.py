@@ -267,6 +267,66 @@ def many_tables(source, part, size, count=100_000, columns=TWO):
             part.xid(number)
 
 
+def whole_transaction(part, table, fill):
+    """One transaction of what is filled in behind the map of its table, and a last rows event of one row."""
+    part.query(b"shop", b"BEGIN")
+    part.map(table)
+    fill()
+    part.rows_event(table, WRITE, [table.image(random.Random(1))], last=True)
+    part.xid(1)
+
+
+def null_rows(source, part, size):
+    """Transactions that insert rows of 4,096 columns, all of them NULL."""
+    table = Table(70, b"wide", b"nulls", [NULL_LONG] * 4096)
+    while len(part.bytes) < size:
+        part.query(b"wide", b"BEGIN")
+        part.map(table)
+        for last in [False] * 99 + [True]:
+            part.rows_event(table, WRITE, [b"\xff" * 512] * 15, last)
+        part.xid(len(part.ends))
+
+
+def half_null(source, part, size):
+    """Transactions that insert rows of 4,096 columns, of which any half are NULL."""
+    kinds = [NULL_LONG, NAME, DATETIME2, TINY, DECIMAL, SHORT, DOUBLE, TITLE]
+    table = Table(70, b"wide", b"halves", [kinds[i * 5 % 8] for i in range(4096)])
+    while len(part.bytes) < size:
+        part.query(b"wide", b"BEGIN")
+        part.map(table)
+        for last in [False] * 9 + [True]:
+            part.rows_event(table, WRITE, [table.image(source, nulls=0.5)], last)
+        part.xid(len(part.ends))
+
+
+def many_events(source, part, size):
+    """One statement of rows events of one row."""
+    table = Table(70, b"shop", b"stock", [LONG, LONG, NULL_LONG, DATETIME2])
+    images = [table.image(source) for _ in range(1000)]
+
+    def fill():
+        while len(part.bytes) < size:
+            for image in images:
+                part.rows_event(table, WRITE, [image], last=False)
+    whole_transaction(part, table, fill)
+
+
+def tiny_rows(source, part, size):
+    """One rows event of rows of one byte: its null bits, and a NULL."""
+    table = Table(70, b"shop", b"flags", [TINY])
+    whole_transaction(part, table, lambda: part.rows_event(table, WRITE, [b"\xff"] * size, last=False))
+
+
+def repeated_map(source, part, size):
+    """One statement with the same table map again and again, and a rows event behind them."""
+    table = Table(70, b"shop", b"stock", [LONG, LONG, NULL_LONG, DATETIME2])
+
+    def fill():
+        while len(part.bytes) < size:
+            part.map(table)
+    whole_transaction(part, table, fill)
+
+
 def events_of(event_size):
     """Events of this many bytes: texts beside rows, as a server writes them. They are in no transaction."""
     def events(source, part, size):
@@ -289,9 +349,11 @@ def columns_of(count):
 
 
 REPEATED = {"mixed": mixed, "version_one": version_one, "one_row": one_row, "wide": wide, "many_statements": many_statements,
+            "null_rows": null_rows, "half_null": half_null,
             "small_events": events_of(36), "large_events": events_of(8192),
             "columns_10": columns_of(10), "columns_512": columns_of(512), "columns_4096": columns_of(4096)}
-WHOLE = {"many_maps": many_maps, "many_tables": many_tables}
+WHOLE = {"many_maps": many_maps, "many_tables": many_tables,
+         "many_events": many_events, "tiny_rows": tiny_rows, "repeated_map": repeated_map}
 # these take a number of maps, tables, transactions or statements
 COUNTED_REPEATED = {"transactions": one_row, "statements": many_statements}
 COUNTED_WHOLE = {"maps": partial(many_maps, columns=TEN, shuffled=False), "shuffled_maps": partial(many_maps, columns=TEN),

@@ -9,15 +9,18 @@ exit status is 1 if flashback and the plain program don't write the same log, or
 """
 
 import filecmp
+import mmap
 import os
+import struct
 import subprocess
 import sys
 import tempfile
 import threading
 import time
 
-NAMES = ["cat", "plain", "mariadb-binlog", "flashback"]
-BYTES_AN_EVENT = 64  # memory that flashback may take for each event, beside the log and the output
+NAMES = ["cat", "plain", "streaming", "mariadb-binlog", "flashback"]
+# memory that flashback may take beside the log and its largest event: for each event, and else
+BYTES_AN_EVENT, BYTES_ELSE = 16, 3_000_000
 
 
 class Best:
@@ -73,6 +76,17 @@ def measure(log, programs, runs, limit, out):
     return best, failed
 
 
+def largest_event(log):
+    """The size of the log's largest event, in bytes."""
+    largest, at = 0, 4
+    with open(log, "rb") as file, mmap.mmap(file.fileno(), 0, access=mmap.ACCESS_READ) as events:
+        size_at, end = struct.Struct("<I").unpack_from, len(events)
+        while at < end:
+            size, = size_at(events, at + 9)
+            largest, at = max(largest, size), at + size
+    return largest
+
+
 def cell(value, form):
     return form.format(value) if value is not None else "-"
 
@@ -91,8 +105,8 @@ class Tables:
         self.memory = [f"| Log | Most | {heads}|", f"|{line}"]
         self.processor = [f"| Log | MB | {heads}|", f"|{line}"]
 
-    def add(self, shape, counts, written, best):
-        size, events = counts
+    def add(self, shape, counts, best):
+        size, events, largest = counts
         wall = {name: each.wall for name, each in best.items()}
         ours = wall.get("flashback")
 
@@ -103,7 +117,7 @@ class Tables:
             return " | ".join(cell(of(best[name]) if name in best else None, form) for name in NAMES)
 
         mb = f"{size / 1e6:,.0f}"
-        most = (size + written + BYTES_AN_EVENT * events) / 1e6
+        most = (size + largest + BYTES_AN_EVENT * events + BYTES_ELSE) / 1e6
         self.speed.append(f"| {shape} | {mb} | {events:,} | {row(lambda each: size / 1e6 / each.wall, '{:,.0f}')} | "
                           f"{cell(times('plain'), '{:.2f}')} | {cell(times('mariadb-binlog'), '{:.1f}')} |")
         self.memory.append(f"| {shape} | {most:,.0f} | {row(lambda each: each.peak / 1e6, '{:,.0f}')} |")
@@ -115,7 +129,7 @@ class Tables:
 
 
 def main(plain, mariadb, flashback, runs, limit, out, *logs):
-    programs = {"cat": ["cat"], "plain": [plain, "-B"], "mariadb-binlog": [mariadb, "--flashback"],
+    programs = {"cat": ["cat"], "plain": [plain, "-B"], "streaming": [plain, "--stream"], "mariadb-binlog": [mariadb, "--flashback"],
                 "flashback": [flashback, "-B"]}
     programs = {name: words for name, words in programs.items() if words[0]}
     tables, status = Tables(), 0
@@ -126,14 +140,16 @@ def main(plain, mariadb, flashback, runs, limit, out, *logs):
         print("measuring", os.path.basename(log), file=sys.stderr)
         best, failed = measure(log, programs, int(runs), float(limit), out)
         undo = [os.path.join(out, name + ".undo") for name in ("plain", "flashback", "mariadb-binlog")]
-        if "plain" in failed:
+        if "plain" in failed or "streaming" in failed:
             sys.exit(f"measure.py: the plain program failed on {log}")
+        if not filecmp.cmp(undo[0], os.path.join(out, "streaming.undo"), shallow=False):
+            sys.exit(f"measure.py: the two forms of the plain program don't write the same log for {log}")
         if "flashback" in programs and not ("flashback" in best and filecmp.cmp(undo[0], undo[1], shallow=False)):
             print(f"flashback and the plain program don't write the same log for {log}", file=sys.stderr)
             status = 1
         if "mariadb-binlog" in best and not is_same_as_mariadb(undo[0], undo[2]):
             status = 1
-        tables.add(shape, (size, events), os.path.getsize(undo[0]), best)
+        tables.add(shape, (size, events, largest_event(log)), best)
     print(tables)
     return status
 

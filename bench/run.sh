@@ -11,7 +11,8 @@ cd "$(dirname "$0")/.."
 FLASHBACK=${FLASHBACK:-bin/flashback} RUNS=${RUNS:-3} LIMIT=${LIMIT:-600} OUT=${OUT:-bench/out}
 PLAIN=bench/plain/target/release/plain
 [ $# -gt 0 ] || set -- mixed 10 mixed 100 mixed 1000 \
-    version_one 250 one_row 250 wide 250 many_maps 50 many_tables 100 many_statements 250
+    version_one 250 one_row 250 wide 250 many_maps 50 many_tables 100 many_statements 250 \
+    null_rows 250 half_null 250 many_events 50 tiny_rows 8 repeated_map 25
 [ $(($# % 2)) -eq 0 ] || { echo "run.sh: a size in MB for each shape is wanted" >&2; exit 2; }
 mkdir -p "$OUT"
 

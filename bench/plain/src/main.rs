@@ -2,10 +2,12 @@
 //! nothing of the product is built from it.
 //!
 //!     plain -B LOG > UNDO
+//!     plain --stream LOG > UNDO
 //!
 //! It does what `flashback -B LOG` does, as an ordinary program would: it reads the log whole into memory, indexes it
 //! (the place of each event, the maps of each statement by table id, the layouts of the tables, a walk over all
-//! images), makes the whole new log in memory, and writes it out once. It makes the same checks in the same order, so
+//! images), makes the whole new log in memory, and writes it out once; with `--stream` it writes
+//! the new log while it makes it, by 256 KB at once. It makes the same checks in the same order, so
 //! that both do the same work. The byte layouts are those of docs/FORMATS.md. It has no selection and no other mode.
 
 mod columns;
@@ -132,7 +134,8 @@ fn version(field: &[u8]) -> Option<[u32; 3]> {
     Some(numbers)
 }
 
-fn flashback(log: &[u8]) -> Result<Vec<u8>, Fault> {
+/// The new log, or its end where it is written to a file.
+fn flashback(log: &[u8], out: Option<&File>) -> Result<Vec<u8>, Fault> {
     if log.len() > u32::MAX as usize {
         return Err(Fault("TooLong", 0));
     }
@@ -142,19 +145,22 @@ fn flashback(log: &[u8]) -> Result<Vec<u8>, Fault> {
     let format = Event::read(log, 4)?;
     check_format(&format)?;
     let index = index::index(log, format.end())?;
-    Ok(undo::write(log, format.end(), &index))
+    Ok(undo::write(log, format.end(), &index, out))
 }
 
 fn run(words: &[String]) -> Result<(), String> {
-    let [mode, path] = words else { return Err("plain -B LOG".into()) };
-    if mode != "-B" {
-        return Err("plain -B LOG".into());
+    let usage = "plain (-B | --stream) LOG";
+    let [mode, path] = words else { return Err(usage.into()) };
+    if mode != "-B" && mode != "--stream" {
+        return Err(usage.into());
     }
     let log = std::fs::read(path).map_err(|error| error.to_string())?;
-    let text = flashback(&log).map_err(|Fault(name, at)| format!("{name} at {at}"))?;
     // not Rust's own standard output, which looks for the ends of lines
     let out = std::io::stdout().as_fd().try_clone_to_owned().map_err(|error| error.to_string())?;
-    File::from(out).write_all(&text).map_err(|error| error.to_string())
+    let mut out = File::from(out);
+    let to = if mode == "--stream" { Some(&out) } else { None };
+    let text = flashback(&log, to).map_err(|Fault(name, at)| format!("{name} at {at}"))?;
+    out.write_all(&text).map_err(|error| error.to_string())
 }
 
 fn main() -> ExitCode {

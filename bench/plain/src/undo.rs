@@ -1,12 +1,20 @@
-//! Bench code: the new log, made in memory from the groups.
+//! Bench code: the new log, made in memory from the groups, or written while it is made.
+
+use std::fs::File;
+use std::io::Write;
 
 use crate::columns::{image_length, Storage};
 use crate::index::{Index, Rows, RowsBody};
 use crate::{Event, DELETE, DELETE_V1, HEADER, WRITE, WRITE_V1};
 
-/// The log that undoes; the first bytes up to `first` are those of the old one.
-pub fn write(log: &[u8], first: usize, index: &Index) -> Vec<u8> {
-    let mut out = Undo { log, index, text: Vec::with_capacity(log.len()) };
+/// How many bytes are written at once.
+const CHUNK: usize = 1 << 18;
+
+/// The log that undoes; the first bytes up to `first` are those of the old one. Of a log that is written to a file what
+/// is still to be written.
+pub fn write(log: &[u8], first: usize, index: &Index, file: Option<&File>) -> Vec<u8> {
+    let room = if file.is_some() { CHUNK } else { log.len() };
+    let mut out = Undo { log, index, text: Vec::with_capacity(room), file, from: 0 };
     out.text.extend_from_slice(&log[..first]);
     let mut statements_end = index.statements.len();
     for transaction in index.transactions.iter().rev() {
@@ -24,6 +32,9 @@ struct Undo<'a> {
     log: &'a [u8],
     index: &'a Index<'a>,
     text: Vec<u8>,
+    file: Option<&'a File>,
+    /// Where the text begins in the log.
+    from: usize,
 }
 
 impl<'a> Undo<'a> {
@@ -33,7 +44,12 @@ impl<'a> Undo<'a> {
 
     fn header(&mut self, old: &[u8], kind: u8, body: usize) {
         let size = HEADER + body;
-        let end = (self.text.len() + size) as u32;
+        if let Some(mut file) = self.file.filter(|_| self.text.len() + size > CHUNK) {
+            file.write_all(&self.text).expect("a file that takes what is written");
+            self.from += self.text.len();
+            self.text.clear();
+        }
+        let end = (self.from + self.text.len() + size) as u32;
         self.text.extend_from_slice(&old[..4]);
         self.text.push(kind);
         self.text.extend_from_slice(&old[5..9]);
