@@ -9,9 +9,7 @@ exit status is 1 if flashback and the plain program don't write the same log, or
 """
 
 import filecmp
-import mmap
 import os
-import struct
 import subprocess
 import sys
 import tempfile
@@ -77,13 +75,11 @@ def measure(log, programs, runs, limit, out):
 
 
 def largest_event(log):
-    """The size of the log's largest event, in bytes."""
-    largest, at = 0, 4
-    with open(log, "rb") as file, mmap.mmap(file.fileno(), 0, access=mmap.ACCESS_READ) as events:
-        size_at, end = struct.Struct("<I").unpack_from, len(events)
-        while at < end:
-            size, = size_at(events, at + 9)
-            largest, at = max(largest, size), at + size
+    """The size of the log's largest event, in bytes. Not by mmap: what this process holds would count for its children."""
+    largest, at, file = 0, 4, os.open(log, os.O_RDONLY)
+    while size := int.from_bytes(os.pread(file, 4, at + 9), "little"):
+        largest, at = max(largest, size), at + size
+    os.close(file)
     return largest
 
 
