@@ -1,7 +1,7 @@
 -- Walking over type bytes, and over the metadata bytes of their columns.
 use Rattle.std.proofs.Common.{◌≡◌, ◌<◌, ◌≤◌, ◌+◌, ◌*◌, ℕ, true, false, ◌&&◌, List, [], ◌∷◌, length, take, drop, get_or, Some, None, is_some, unwrap_or, refl, sym, ap, ◌∙◌, arith, add-one, length-take, length-drop}
 use Rattle.std.proofs.Math.Seq.{drop-cons}
-use Rattle.std.proofs.lemmas.List.{drop_all}
+use Rattle.std.proofs.lemmas.List.{drop_all, drop-drop}
 use Rattle.std.proofs.lemmas.Bool.{and_parts}
 use Rattle.std.specs.List.{list_all}
 use Rattle.blog_row.specs.Column.{metadata_len_of, storage_by, is_column, own_metadata_len, metadata_total, columns_of}
@@ -78,6 +78,28 @@ known_at kind metadata kinds e =
 -- the same of the column at i
 pub known_here : (kinds metadata : List ℕ) (i : ℕ) → i < length kinds → list_all is_column (columns_of (drop i kinds) metadata) ≡ true → KnownAt (get_or kinds i 0) metadata (drop (i + 1) kinds)
 known_here kinds metadata i h e = known_at (get_or kinds i 0) metadata (drop (i + 1) kinds) (rw (split_index kinds i h) at e)
+
+-- ---- the metadata behind that of columns
+
+-- the metadata of the first i columns is passed over
+pub record Passed (kinds metadata : List ℕ) (i : ℕ) (left : List ℕ) : Type 0 where
+  pub known : list_all is_column (columns_of (drop i kinds) left) ≡ true
+  pub behind : drop (metadata_total (drop i kinds)) left ≡ drop (metadata_total kinds) metadata
+
+pub passed_begins : (kinds metadata : List ℕ) → list_all is_column (columns_of kinds metadata) ≡ true → Passed kinds metadata 0 metadata
+passed_begins kinds metadata known = record { known = known; behind = refl }
+
+pub passed_goes_on : (kinds metadata left : List ℕ) (i n : ℕ) → i < length kinds → metadata_len_of (get_or kinds i 0) ≡ Some n → Passed kinds metadata i left → Passed kinds metadata (i + 1) (drop n left)
+passed_goes_on kinds metadata left i n h e p =
+    let own = own_is _ n e in
+    let total : metadata_total (drop i kinds) ≡ n + metadata_total (drop (i + 1) kinds) = ap metadata_total (split_index kinds i h) ∙ ap (λ m. m + metadata_total (drop (i + 1) kinds)) own in
+    record {
+      known = ap (λ m. list_all is_column (columns_of (drop (i + 1) kinds) (drop m left))) (sym own) ∙ (known_here kinds left i h p.known).others;
+      behind = drop-drop (metadata_total (drop (i + 1) kinds)) n left ∙ ap (λ m. drop m left) (sym total) ∙ p.behind;
+    }
+
+pub passed_ends : (kinds metadata left : List ℕ) (i : ℕ) → length kinds ≤ i → Passed kinds metadata i left → left ≡ drop (metadata_total kinds) metadata
+passed_ends kinds metadata left i h p = ap (λ (t : List ℕ). drop (metadata_total t) left) (sym (drop_all i kinds h)) ∙ p.behind
 
 -- ---- are the columns of the profile?
 

@@ -1,16 +1,16 @@
 //! The image of a row at the front of bytes.
 
-ghost use Rattle.std.specs.Prelude.{◌≡◌, ◌<◌, ◌≤◌, ◌*◌, true, length, option_map};
+ghost use Rattle.std.specs.Prelude.{◌≡◌, ◌<◌, ◌≤◌, ◌*◌, true, false, length, option_map, unwrap_or, IfSome};
 ghost use Rattle.std.specs.List.{list_all};
 ghost use Rattle.byteorder.specs.Endian.{little_number};
 ghost use Rattle.blog_row.specs.Checks.{cut, cut_seen};
 ghost use Rattle.blog_row.specs.Column.{value_stored, is_column, columns_of};
 ghost use Rattle.blog_row.specs.Image.{bitmap_len, is_marked, values_front, image_front};
 ghost use Rattle.blog_row.specs.StorageView.{prefix_seen, storage_seen};
-ghost use Rattle.blog_row.specs.ImageView.{front_seen, at_column};
+ghost use Rattle.blog_row.specs.ImageView.{AreNull, front_seen, at_column};
 
 use crate::column::{Prefix, Storage};
-use crate::layout::column_at;
+use crate::layout::{column_at, metadata_behind};
 use byteorder::{ByteOrder, LittleEndian};
 
 /// An image at the front of bytes.
@@ -71,7 +71,27 @@ pub(crate) fn stored_at(storage: Storage, bytes: &[u8]) -> Option<(&[u8], &[u8])
     }
 }
 
-/// The values of columns at the front, by their null bits.
+/// The first column from `from` on that is not NULL, if there is one below `columns`. Eight columns are passed over at
+/// once where they are all NULL.
+#[inline(always)]
+fn next_value(nulls: &[u8], from: usize, columns: usize) -> Option<usize>
+    requires long { columns ≤ 8 * length nulls.now }
+    ensures nulls { AreNull nulls.now from (unwrap_or result columns) }
+    ensures value { IfSome result (λ i. (from ≤ i) × (i < columns) × (is_marked nulls.now i ≡ false)) }
+{
+    let mut i = from;
+    while i < columns {
+        if !is_set(nulls, i) {
+            return Some(i);
+        }
+        let eight = i % 8 == 0 && 8 <= columns - i && nulls[i / 8] == 255;
+        i += if eight { 8 } else { 1 };
+    }
+    None
+}
+
+/// The values of columns at the front, by their null bits. The metadata of NULL columns is passed over only where a
+/// value comes after them.
 #[inline(always)]
 fn values_at<'a>(
     kinds: &[u8],
@@ -84,21 +104,25 @@ fn values_at<'a>(
     requires long { length nulls.now ≡ bitmap_len (length kinds.now) }
     ensures { option_map front_seen result ≡ option_map (at_column column) (values_front (columns_of kinds.now metadata.now) nulls.now 0 bytes.now) }
 {
-    let mut left = metadata;
+    // A column is NULL until its value is met.
+    let mut value = if column < kinds.len() {
+        Some(None)
+    } else {
+        None
+    };
     let mut rest = bytes;
-    let mut value = None;
-    for i in 0..kinds.len() {
-        let (storage, others) = column_at(kinds, i, left);
-        left = others;
-        let mut here = None;
-        if !is_set(nulls, i) {
-            let (spelled, behind) = stored_at(storage, rest)?;
-            here = Some(spelled);
-            rest = behind;
-        }
+    let mut left = metadata;
+    let mut done = 0;
+    'columns: while let Some(i) = next_value(nulls, done, kinds.len()) {
+        let own = metadata_behind(&kinds[done..i], left);
+        let (storage, others) = column_at(kinds, i, own);
+        let (here, behind) = stored_at(storage, rest)?;
         if i == column {
-            value = Some(here);
+            value = Some(Some(here));
         }
+        rest = behind;
+        left = others;
+        done = i + 1;
     }
     Some(ImageFront { value, rest })
 }

@@ -352,3 +352,58 @@ fn worked_images(rt: HostRuntime) {
         check_image(&rt, layout_at(&rt, columns), bytes, *len, *column, *value);
     }
 }
+
+/// 21 columns, VARCHAR, TINY and BLOB by turns, as they stand behind the names of a table map.
+static WIDE: &[u8] =
+    b"\x15\x0F\x01\xFC\x0F\x01\xFC\x0F\x01\xFC\x0F\x01\xFC\x0F\x01\xFC\x0F\x01\xFC\x0F\x01\xFC\x15\xFF\x00\x01\xFF\x00\x01\xFF\x00\x01\xFF\x00\x01\xFF\x00\x01\xFF\x00\x01\xFF\x00\x01\x00\x00\x00";
+
+/// An image of them, and the columns that are not NULL in it with their values.
+type WideImage = (&'static [u8], &'static [(usize, &'static [u8])]);
+
+static WIDE_IMAGES: [WideImage; 8] = [
+    // All are NULL, with the free bits set and clear.
+    (b"\xFF\xFF\xFF", &[]),
+    (b"\xFF\xFF\x1F", &[]),
+    // Sixteen NULL columns, and values behind them.
+    (
+        b"\xFF\xFF\xE0a\x01b\x02cde\x01f",
+        &[(16, b"a"), (17, b"b"), (18, b"cd"), (19, b"e"), (20, b"f")],
+    ),
+    // Seven of eight: the last of them is there, the first, and one between.
+    (b"\x7F\xFF\x1Fa", &[(7, b"a")]),
+    (b"\xFE\xFF\xEF\x01a\x02bc", &[(0, b"a"), (20, b"bc")]),
+    (b"\xFF\xFB\xFFa", &[(10, b"a")]),
+    // Eight NULL columns between values, and eight that lie across two bytes.
+    (b"\x7E\xFF\x1E\x01abc", &[(0, b"a"), (7, b"b"), (16, b"c")]),
+    (
+        b"\xE1\x1F\x1Fa\x01b\x02cdef\x02gh\x00",
+        &[
+            (1, b"a"),
+            (2, b"b"),
+            (3, b"cd"),
+            (4, b"e"),
+            (13, b"f"),
+            (14, b"gh"),
+            (15, b""),
+        ],
+    ),
+];
+
+#[test]
+fn null_columns_by_eight(rt: HostRuntime) {
+    let layout = layout_at(&rt, WIDE);
+    for (bytes, values) in &WIDE_IMAGES {
+        let len = bytes.len();
+        for column in 0..21 {
+            let mut value: Option<&[u8]> = None;
+            for (at, here) in *values {
+                if *at == column {
+                    value = Some(*here);
+                }
+            }
+            check_image(&rt, layout, bytes, Some(len), column, Some(value));
+        }
+        check_image(&rt, layout, bytes, Some(len), 21, None);
+        check_image(&rt, layout, &bytes[..len - 1], None, 20, None);
+    }
+}

@@ -49,6 +49,22 @@ fn are_columns(kinds: &[u8], metadata: &[u8]) -> bool
     true
 }
 
+/// The metadata behind that of the columns of these types, with which it begins.
+#[inline(always)]
+pub(crate) fn metadata_behind<'a>(kinds: &[u8], metadata: &'a [u8]) -> &'a [u8]
+    requires known { list_all is_column (columns_of kinds.now metadata.now) ≡ true }
+    ensures { result.now ≡ drop (metadata_total kinds.now) metadata.now }
+{
+    let mut left = metadata;
+    for kind in kinds {
+        let Some(len) = metadata_len(*kind) else {
+            unreachable!();
+        };
+        (_, left) = left.split_at(len);
+    }
+    left
+}
+
 /// How the column at `i` is stored, and the metadata of the columns after it; `metadata` begins with that of the
 /// column at `i`.
 #[inline(always)]
