@@ -1,11 +1,8 @@
 //! Tables of rows, to which the changes of a log are applied.
 
-ghost use Rattle.std.specs.Prelude.{IsSome};
-ghost use Rattle.blog_trans.specs.IndexView.{index_groups, statement_at};
-
 use blog_event::Log;
-use blog_row::{Layout, TableMap};
-use blog_trans::{Index, Selection, index};
+use blog_row::{Layout, Order, TableMap};
+use blog_trans::{GroupEvent, GroupRows, Selection, index};
 use std::alloc::{AllocError, Global};
 use std::collections::BTreeMap;
 use std::test::Fail;
@@ -55,34 +52,27 @@ pub fn changes_of<'a>(
     let log = Log::open(bytes)?;
     let index = index(alloc, &log, sel)?;
     let mut transactions = Vec::new(alloc);
-    for t in 0..index.transactions() {
-        let mut changes = Vec::new(alloc);
-        for s in 0..index.statements(t) {
-            put_changes(&mut changes, &index, t, s)?;
+    for event in index.in_turn(Order::Forward) {
+        match event {
+            GroupEvent::Begin(_) => transactions.push(Vec::new(alloc))?,
+            GroupEvent::Rows(rows) => {
+                let changes = transactions.last_mut().ok_or("rows before any BEGIN")?;
+                put_changes(changes, &rows)?;
+            }
+            GroupEvent::Map(_) | GroupEvent::End(_) => {}
         }
-        transactions.push(changes)?;
     }
     Ok(transactions)
 }
 
-/// Appends the changes of statement `s` of transaction `t`.
-fn put_changes<'a>(
-    changes: &mut Vec<Change<'a>>,
-    index: &Index<'a, '_, Global>,
-    t: usize,
-    s: usize,
-) -> Result<(), Fail>
-    requires { IsSome (statement_at (index_groups index.now) t s) }
-{
+/// Appends the changes of a rows event.
+fn put_changes<'a>(changes: &mut Vec<Change<'a>>, rows: &GroupRows<'a>) -> Result<(), Fail> {
     let alloc = *changes.allocator();
-    for r in 0..index.rows(t, s) {
-        let (_, map, rows) = index.rows_event(t, s, r);
-        let layout = rows.layout();
-        for row in rows.rows() {
-            let before = row_of(alloc, &map, &layout, row.before)?;
-            let after = row_of(alloc, &map, &layout, row.after)?;
-            changes.push(Change { before, after })?;
-        }
+    let layout = rows.rows.layout();
+    for row in rows.rows.rows() {
+        let before = row_of(alloc, &rows.table, &layout, row.before)?;
+        let after = row_of(alloc, &rows.table, &layout, row.after)?;
+        changes.push(Change { before, after })?;
     }
     Ok(())
 }
