@@ -1,5 +1,5 @@
 -- How far a walk over a log has come: what was read, and what is left.
-use Rattle.std.proofs.Common.{◌≡◌, ℕ, ◌+◌, ◌≤◌, Bool, true, false, not, ◌&&◌, ◌==◌, if◌then◌else◌, List, [], ◌∷◌, ◌++◌, length, drop, reverse, Option, Some, None, refl, sym, ap, ◌∙◌, subst, inl, inr, arith}
+use Rattle.std.proofs.Common.{◌≡◌, ℕ, ◌+◌, ◌<◌, ◌≤◌, Bool, true, false, not, ◌&&◌, ◌==◌, if◌then◌else◌, List, [], ◌∷◌, ◌++◌, length, drop, reverse, Option, Some, None, refl, sym, ap, ◌∙◌, subst, inl, inr, arith}
 use Rattle.std.proofs.lemmas.Bool.{ne_eqb, eq-eqb}
 use Rattle.std.proofs.lemmas.List.{append-nil, reverse-reverse, length-drop}
 use Rattle.std.proofs.lemmas.List.Elements.{filter-append}
@@ -11,13 +11,13 @@ use Rattle.blog_event.specs.Event.{Event, event_at, event_size}
 use Rattle.blog_event.specs.File.{Placed, placed_from, end_of, is_below, read}
 use Rattle.blog_event.specs.Going.{EndsAt, AreRead}
 use Rattle.blog_event.proofs.Headers.{event-at-short}
-use Rattle.blog_event.proofs.Going.{left-more, left-none}
+use Rattle.blog_event.proofs.Going.{event-within, left-more, left-none}
 use Rattle.blog_event.proofs.Opened.{LogReads}
 use Rattle.blog_trans.specs.declared.builder.IndexBuilder.{IndexBuilder}
 use Rattle.blog_trans.specs.Selection.{Selection}
-use Rattle.blog_trans.specs.Acceptance.{is_in_range, range, is_start_inside, read_fault, first_read_fault, IsRefusal}
+use Rattle.blog_trans.specs.Acceptance.{event_fault, is_in_range, range, is_start_inside, read_fault, first_read_fault, IsRefusal}
 use Rattle.blog_trans.specs.BuilderView.{HasTaken, IsWithin}
-use Rattle.blog_trans.specs.WalkView.{walk_fault}
+use Rattle.blog_trans.specs.WalkView.{walk_fault, IsPassedBy, Lead, IsReached}
 use Rattle.blog_trans.proofs.CountsCode.{few-upto}
 use Rattle.blog_trans.proofs.ProgressSteps.{reverse-latest, reverse-behind}
 
@@ -106,6 +106,44 @@ module _ {A : Type 0} (bytes : List ℕ) (sel : Selection) (at : ℕ) (before : 
   pub left-refused : (fault : Fault) → IsRefusal (read_fault sel l.earlier latest) fault → IsRefusal (walk_fault bytes sel) fault
   left-refused fault (inl memory) = inl memory
   left-refused fault (inr is) = inr (fault-first _ _ fault (fault-here ∙ fault-first _ _ fault is))
+
+-- ---- events of which nothing is asked
+
+-- an event that is read and of which nothing is asked
+passed-by : (sel : Selection) (earlier : List Placed) (p : Placed) → IsPassedBy sel p → read_fault sel earlier p ≡ None
+passed-by sel earlier p (out, clear) =
+    λ i. first_failing (fault_at sel.start (needs (not (clear i)) NoEventAt) ∷ (if out i then fault_at p.pos (event_fault sel (range sel earlier) p) else None) ∷ [])
+
+-- no event of those that lead to a position is in the range
+lead-on : {A : Type 0} (builder : IndexBuilder A) (bytes : List ℕ) (sel : Selection) (at : ℕ) (es : List Event) (n : ℕ) → Left bytes sel n builder → Lead bytes sel n at es → Left bytes sel at builder
+lead-on builder bytes sel at [] n l is = subst (λ (n : ℕ). Left bytes sel n builder) is l
+lead-on builder bytes sel at (e ∷ es) n l (below, stands, by, lead) =
+    let p : Placed = record { pos = n; event = e } in
+    let walks : HasTaken sel (range sel (p ∷ l.earlier)) builder = subst (λ b. HasTaken sel (if b then p ∷ range sel l.earlier else range sel l.earlier) builder) (sym by.0) l.walks in
+    lead-on builder bytes sel at es (n + event_size e) (left-on bytes sel n builder l e below stands builder (n + event_size e) refl (passed-by sel l.earlier p by) walks) lead
+
+-- a walk that begins at a position to which events lead
+pub left-reached : {A : Type 0} (builder : IndexBuilder A) (bytes : List ℕ) (sel : Selection) (at : ℕ) (reached : IsReached bytes sel at)
+    → LogReads bytes sel.stop (4 + event_size reached.first) → HasTaken sel [] builder → Left bytes sel at builder
+left-reached builder bytes sel at reached reads walks =
+    lead-on builder bytes sel at reached.later (4 + event_size reached.first)
+    (left-start builder bytes sel (4 + event_size reached.first) reached.first reads reached.stands reached.outside walks) reached.lead
+
+-- such a position lies behind the first event, and within the log
+pub record IsInside (bytes : List ℕ) (at : ℕ) : Type 0 where
+  pub behind : 4 < at
+  pub within : at ≤ length bytes
+
+lead-inside : (bytes : List ℕ) (sel : Selection) (n at : ℕ) (es : List Event) → Lead bytes sel n at es → IsInside bytes n → IsInside bytes at
+lead-inside bytes sel n at [] is inside = subst (IsInside bytes) is inside
+lead-inside bytes sel n at (e ∷ es) (below, stands, by, lead) inside =
+    let fits = event-within (drop n bytes) e stands in
+    lead-inside bytes sel (n + event_size e) at es lead (record { behind = omega (arith, inside.behind); within = omega (arith, length-drop n bytes, inside.within) })
+
+pub reached-inside : (bytes : List ℕ) (sel : Selection) (at : ℕ) → IsReached bytes sel at → IsInside bytes at
+reached-inside bytes sel at reached =
+    let fits = event-within (drop 4 bytes) reached.first reached.stands in
+    lead-inside bytes sel (4 + event_size reached.first) at reached.later reached.lead (record { behind = omega arith; within = omega (arith, length-drop 4 bytes) })
 
 -- ---- the end
 

@@ -22,7 +22,7 @@ ghost use Rattle.blog_trans.specs.ListsView.{closed_by};
 ghost use Rattle.blog_trans.specs.CountsView.{AreBelow, AreFew};
 ghost use Rattle.blog_trans.specs.BuilderView.{HasTaken, IsWithin, IsTakenOrRefused, Keeps, placed};
 ghost use Rattle.blog_event.specs.LogView.{log_bytes};
-ghost use Rattle.blog_trans.specs.WalkView.{IsRead, IsThrough, end_fault};
+ghost use Rattle.blog_trans.specs.WalkView.{IsRead, IsReached, IsThrough, end_fault};
 ghost use Rattle.blog_trans.specs.IndexView.{index_bytes, index_selection};
 ghost use Rattle.blog_trans.specs.Shown.{ShowsEachOnce};
 
@@ -235,21 +235,19 @@ fn read<'a, A: Allocator + Copy>(
     Ok(())
 }
 
-/// Walks through the events of a log behind its format description, as far as they are read. Answers where the last one
-/// ends.
+/// Walks through the events of a log from a position on, as far as they are read. Answers where the last one ends.
 pub(crate) fn walk<'a, A: Allocator + Copy>(
     builder: &mut IndexBuilder<'a, A>,
     log: &Log<'a>,
     sel: &Selection<'_>,
+    from: u32,
 ) -> Result<u32, Fault>
+    requires reached { IsReached (log_bytes log.now) (selection_of sel.now) from }
     requires begins { IsWithin 0 builder.old }
     requires walks { HasTaken (selection_of sel.now) [] builder.old }
     ensures through { IsThrough (log_bytes log.now) (selection_of sel.now) result builder.new }
 {
-    if is_start_inside(sel, &log.format()) {
-        return Err(Fault::NoEventAt { pos: sel.start });
-    }
-    let mut at = log.first();
+    let mut at = from;
     'events: while is_below(at, sel.stop) && at != log.end() {
         let Ok(event) = log.event_at(at) else {
             return Err(Fault::CutEvent { pos: at });
@@ -291,8 +289,29 @@ pub fn index<'a, 's, A: Allocator + Copy>(
     ensures shown { OnOk result (ShowsEachOnce (log_bytes log.now) (selection_of sel.now)) }
     ensures refused { IfErr result (IsRefusal (fault (log_bytes log.now) (selection_of sel.now))) }
 {
+    if is_start_inside(sel, &log.format()) {
+        return Err(Fault::NoEventAt { pos: sel.start });
+    }
+    index_from(alloc, log, sel, log.first())
+}
+
+/// The same of a log that is read from a position behind its format description on: nothing is asked of the events in front
+/// of it. So each of many ranges of a log is gone through without those before it.
+pub fn index_from<'a, 's, A: Allocator + Copy>(
+    alloc: A,
+    log: &Log<'a>,
+    sel: &Selection<'s>,
+    from: u32,
+) -> Result<Index<'a, 's, A>, Fault>
+    requires reached { IsReached (log_bytes log.now) (selection_of sel.now) from }
+    ensures accepted { IfOk result (λ index. IsAccepted (log_bytes log.now) (selection_of sel.now)) }
+    ensures bytes { IfOk result (λ index. index_bytes index ≡ log_bytes log.now) }
+    ensures selection { IfOk result (λ index. index_selection index ≡ selection_of sel.now) }
+    ensures shown { OnOk result (ShowsEachOnce (log_bytes log.now) (selection_of sel.now)) }
+    ensures refused { IfErr result (IsRefusal (fault (log_bytes log.now) (selection_of sel.now))) }
+{
     let mut builder = IndexBuilder::new(alloc);
-    let at = match walk(&mut builder, log, sel) {
+    let at = match walk(&mut builder, log, sel, from) {
         Ok(at) => at,
         Err(fault) => return Err(fault),
     };

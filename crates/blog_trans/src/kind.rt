@@ -59,8 +59,9 @@ pub enum EventKind {
 /// The header flag of an event that a reader who doesn't know its type may ignore.
 const LOG_EVENT_IGNORABLE_F: u16 = 0x80;
 
-/// The text of a query, if the body has its layout: 13 fixed bytes, status bytes, schema, a zero byte, the text.
-fn query_text(body: &[u8]) -> Option<&[u8]>
+/// The text of a query, if the body has its layout: 13 fixed bytes, status bytes, schema, a zero byte, the text
+/// (MySQL Internals manual, "Query_event").
+pub fn query_text(body: &[u8]) -> Option<&[u8]>
     ensures { option_map (λ text. text.now) result ≡ query_text body.now }
 {
     if body.len() < 13 {

@@ -15,10 +15,10 @@ mod selection;
 mod table_ids;
 mod table_name;
 
-pub use builder::index;
+pub use builder::{index, index_from};
 pub use group_events::{GroupEvent, GroupEvents, GroupRows};
 pub use groups::{Index, TableCount};
-pub use kind::{EventKind, event_kind};
+pub use kind::{EventKind, event_kind, query_text};
 pub use laws::{
     accepted_logs_have_groups, groups_are_of_events, opening_asks_the_first_lines,
     progress_gives_groups, statements_have_used_maps,

@@ -6,28 +6,22 @@ use Rattle.blog_event.proofs.Opened.{log-reads}
 use Rattle.blog_trans.specs.Selection.{selection_of}
 use Rattle.blog_trans.specs.Acceptance.{is_start_inside, range, read_fault, IsRefusal}
 use Rattle.blog_trans.specs.BuilderView.{HasTaken, placed}
-use Rattle.blog_trans.proofs.WalkCode.{within-more, below-the-end, at-the-end, none-at-end, left-start, inside-format, left-on, left-refused, left-cut, left-over}
+use Rattle.blog_trans.proofs.WalkCode.{within-more, below-the-end, at-the-end, none-at-end, left-reached, reached-inside, left-on, left-refused, left-cut, left-over}
 use Rattle.blog_trans.proofs.builder.walk.Goals as goal
 
 pub events-init : goal.events-init
 events-init g c =
+    let bytes = log_bytes c.args.log.now in
     let sel = selection_of c.args.sel.now in
-    let out : is_start_inside sel (record { pos = 4; event = event_of c.format.result }) ≡ false =
-    ap (λ (n : ℕ). is_start_inside sel (record { pos = n; event = event_of c.format.result })) (sym c.format.ensures.pos) ∙ sym c.is_start_inside.ensures ∙ c.if-is_start_inside.false in
-    let reads = log-reads c.args.log.now c.args.sel.now.stop c.first-at.result c.first-at.ensures.event in
+    let reached = c.requires.reached in
+    let inside = reached-inside bytes sel c.args.from reached in
+    let reads = log-reads c.args.log.now c.args.sel.now.stop (4 + event_size reached.first) (ap (option_map (λ e. 4 + event_size e)) reached.stands) in
     record {
-      left = left-start c.args.builder.now (log_bytes c.args.log.now) sel c.first-at.result (event_of c.format.result) reads c.format.ensures.event out c.requires.walks;
-      behind = omega (arith, reads.starts);
-      inside = c.first-at.ensures.within;
-      few = within-more c.args.builder.now 0 c.first-at.result (omega arith) c.requires.begins;
+      left = left-reached c.args.builder.now bytes sel c.args.from reached reads c.requires.walks;
+      behind = inside.behind;
+      inside = inside.within;
+      few = within-more c.args.builder.now 0 c.args.from (omega arith) c.requires.begins;
     }
-
-pub returns-then-is_start_inside : goal.returns-then-is_start_inside
-returns-then-is_start_inside g c =
-    let sel = selection_of c.args.sel.now in
-    let inside : is_start_inside sel (record { pos = 4; event = event_of c.format.result }) ≡ true =
-    ap (λ (n : ℕ). is_start_inside sel (record { pos = n; event = event_of c.format.result })) (sym c.format.ensures.pos) ∙ sym c.is_start_inside.ensures ∙ c.if-is_start_inside.true in
-    record { through = inr (inside-format (log_bytes c.args.log.now) sel _ (event_of c.format.result) (log-reads c.args.log.now c.args.sel.now.stop _ (ap (option_map (λ e. 4 + event_size e)) c.format.ensures.event)) c.format.ensures.event inside) }
 
 pub returns-in_default : goal.returns-in_default
 returns-in_default g c =
