@@ -1,0 +1,4 @@
+mod Behind
+mod Going
+mod Held
+mod Stepping

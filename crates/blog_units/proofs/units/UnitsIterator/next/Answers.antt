@@ -1,0 +1,12 @@
+use Rattle.std.proofs.Common.{refl}
+use Rattle.blog_event.specs.LogView.{log_bytes}
+use Rattle.blog_units.proofs.Stepping.{next-facts}
+use Rattle.blog_units.proofs.units.UnitsIterator.next.Goals as goal
+
+pub returns-clause-steps : goal.returns-clause-steps
+returns-clause-steps g c = record {
+  first = next-facts (log_bytes c.args.self.now.log) c.args.self.now.at c.go_through-stop.result.0 c.in_ok-first.first c.in_ok-first.part c.time_with-known.result c.go_through-stop.result.1
+      c.unwrap_or.result _ c.in_ok-first.ensures.some c.go_through-stop.ensures.stopped c.time_with-known.ensures c.unwrap_or.ensures c.global_id.ensures;
+  judged = c.groups_between.ensures;
+  log = refl;
+}

@@ -1,0 +1,4 @@
+pub mod Boundaries
+pub mod Laws
+pub mod Units
+pub mod UnitsView

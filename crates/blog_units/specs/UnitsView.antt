@@ -1,0 +1,73 @@
+-- What a contract sees of a unit, and of an iterator over the units of a log.
+use Rattle.std.specs.Prelude.{◌≡◌, ℕ, ◌+◌, ◌≤◌, List, [], ◌∷◌, length, drop, map, find, Option, None, Some, IfSome, option_map, Result, MatchResult, if◌then◌else◌}
+use Rattle.std.specs.Iterator.{YieldsFirstBy}
+use Rattle.std.specs.declared.alloc.Allocator.{Ghosts}
+use Rattle.blog_event.specs.declared.event.Event as event
+use Rattle.blog_event.specs.declared.fault.Fault.{Fault}
+use Rattle.blog_event.specs.Event.{event_of, event_size}
+use Rattle.blog_event.specs.File.{Placed}
+use Rattle.blog_event.specs.LogView.{log_bytes}
+use Rattle.blog_trans.specs.Acceptance.{fault, IsAccepted, IsRefusal}
+use Rattle.blog_trans.specs.declared.groups.Index.{Index}
+use Rattle.blog_trans.specs.IndexView.{index_bytes, index_selection}
+use Rattle.blog_trans.specs.Places.{placed}
+use Rattle.blog_units.specs.declared.part.Part.{Part}
+use Rattle.blog_units.specs.declared.unit.GlobalId as told
+use Rattle.blog_units.specs.declared.unit.Unit as given
+use Rattle.blog_units.specs.declared.units.Units.{Units}
+use Rattle.blog_units.specs.Boundaries.{IsBoundary, events_behind}
+use Rattle.blog_units.specs.Units.{Facts, Id, between, end_behind, facts_of, is_query_or_rows, rest_of, units_in}
+
+-- an id of the program, without where its bytes lie
+abbrev pub id_told : told.GlobalId → Id
+id_told id = record { server = id.server.now; number = id.number }
+
+-- what a unit of the program tells
+abbrev pub facts_told : {A : Type 0} → given.Unit A → Facts
+facts_told unit = record { start = unit.start; stop = unit.stop; time = unit.time; id = option_map id_told unit.id }
+
+-- these are the groups of the range from a start to a stop, or this is the range's fault
+abbrev pub AreGroups : {A : Type 0} → List ℕ → ℕ → ℕ → Result (Index A) Fault → Type 0
+AreGroups bytes start stop groups =
+    let sel = between start stop in
+    MatchResult groups (λ index. IsAccepted bytes sel × (index_bytes index ≡ bytes) × (index_selection index ≡ sel)) (IsRefusal (fault bytes sel))
+
+-- a unit tells what may be undone of its own range
+abbrev pub IsJudged : {A : Type 0} → List ℕ → given.Unit A → Type 0
+IsJudged bytes unit = AreGroups bytes unit.start unit.stop unit.groups
+
+-- the first event, from a position on, that begins a unit, which has this part with it
+pub record IsFirst (bytes : List ℕ) (from : ℕ) (found : event.Event × Part) : Type 0 where
+  pub units : units_in None (events_behind bytes from)
+      ≡ record { first = placed found.0; rest = rest_of (Some found.1) (events_behind bytes (found.0.pos + found.0.header.size)) } ∷ units_in (Some found.1) (events_behind bytes (found.0.pos + found.0.header.size))
+  pub size : found.0.header.size ≡ event_size (event_of found.0)
+  pub boundary : IsBoundary bytes found.0.pos
+  pub behind : IsBoundary bytes (found.0.pos + found.0.header.size)
+  pub within : found.0.pos + found.0.header.size ≤ length bytes
+
+-- the time that is known, or that of the first Query or rows event of these
+abbrev pub time_of : Option ℕ → List Placed → Option ℕ
+time_of (Some time) ps = Some time
+time_of None ps = option_map (λ p. p.event.timestamp) (find is_query_or_rows ps)
+
+-- A unit of this part goes on from a position and stops at another, and this is its time. The events behind the one and the
+-- other are these.
+pub record HasStopped (from at : ℕ) (part : Part) (known time : Option ℕ) (ps qs : List Placed) : Type 0 where
+  pub stops : at ≡ end_behind from (rest_of (Some part) ps)
+  pub units_are : units_in (Some part) ps ≡ units_in None qs
+  pub time_is : time ≡ time_of known (rest_of (Some part) ps)
+
+-- the time with one more event
+abbrev pub time_with : Option ℕ → Placed → Option ℕ
+time_with (Some time) p = Some time
+time_with None p = if is_query_or_rows p then Some p.event.timestamp else None
+
+-- what is told of the units that are left
+abbrev pub units_left : {A : Type 0} {g : Ghosts A} → Units A g → List Facts
+units_left units = map facts_of (units_in None (events_behind (log_bytes units.log) units.at))
+
+-- a step gives the first unit that is left, and none where none is
+pub record GivesUnit {A : Type 0} {g : Ghosts A} (before : Units A g) (unit : Option (given.Unit A)) (after : Units A g) : Type 0 where
+  pub first : YieldsFirstBy facts_told units_left before unit after
+  pub judged : IfSome unit (IsJudged (log_bytes before.log))
+  pub log : after.log ≡ before.log

@@ -1,0 +1,132 @@
+//! A unit of a log: where it starts and stops, and what it changes.
+
+ghost use Rattle.std.specs.Prelude.{◌≡◌, ◌≤◌, [], None, Some, IfSome, option_map};
+ghost use Rattle.blog_event.specs.Event.{event_of};
+ghost use Rattle.blog_event.specs.LogView.{log_bytes};
+ghost use Rattle.blog_units.specs.Boundaries.{IsBoundary, events_behind};
+ghost use Rattle.blog_units.specs.Units.{id_of, units_in};
+ghost use Rattle.blog_units.specs.UnitsView.{AreGroups, HasStopped, IsFirst, id_told, time_with};
+ghost use Rattle.blog_trans.specs.Places.{placed};
+
+use crate::part::{Part, is_query_or_rows, opened_by};
+use blog_event::constants::GTID_LOG_EVENT;
+use blog_event::{Event, Fault, Log};
+use blog_trans::{Index, Selection, event_kind, index_from};
+use byteorder::{ByteOrder, LittleEndian};
+use std::alloc::{Allocator, Global};
+
+/// A global transaction id.
+#[derive(Clone, Copy, Debug, PartialEq, Eq)]
+pub struct GlobalId<'a> {
+    /// The 16 bytes of the id of the server that began the transaction.
+    pub server: &'a [u8],
+    /// Its number there.
+    pub number: u64,
+}
+
+/// A unit of a log: a transaction, or what stands outside of transactions and can't be undone, with the Gtid event in
+/// front of it.
+#[derive(Drop)]
+pub struct Unit<'a, A: Allocator = Global> {
+    /// Where it starts, in bytes from the file's start.
+    pub start: u32,
+    /// Where it stops: the byte position behind its last event.
+    pub stop: u32,
+    /// The time of its first Query or rows event, or of its first event where there is none: seconds since 1970, in UTC.
+    pub time: u32,
+    /// Its global transaction id, where it begins with one.
+    pub id: Option<GlobalId<'a>>,
+    /// What it changes: the groups of the range from its start to its stop; or why that range is refused.
+    pub groups: Result<Index<'a, 'static, A>, Fault>,
+}
+
+/// The global transaction id of an event, where it has one.
+pub(crate) fn global_id<'a>(event: &Event<'a>) -> Option<GlobalId<'a>>
+    ensures { option_map id_told result ≡ id_of (event_of event.now) }
+{
+    if event.header.kind == GTID_LOG_EVENT && event.body.len() >= 25 {
+        Some(GlobalId {
+            server: &event.body[1..17],
+            number: LittleEndian::read_u64(&event.body[17..]),
+        })
+    } else {
+        None
+    }
+}
+
+/// The next event, from a position on, that begins a unit, and what the unit has with it.
+pub(crate) fn next_first<'a>(log: &Log<'a>, from: u32) -> Option<(Event<'a>, Part)>
+    requires boundary { IsBoundary (log_bytes log.now) from }
+    ensures none { result ≡ None → units_in None (events_behind (log_bytes log.now) from) ≡ [] }
+    ensures some { IfSome result (IsFirst (log_bytes log.now) from) }
+{
+    let mut at = from;
+    'between: while let Ok(event) = log.event_at(at) {
+        if let Some(part) = opened_by(event_kind(&event)) {
+            return Some((event, part));
+        }
+        at += event.header.size;
+    }
+    None
+}
+
+/// The time that is known, or else that of an event, if it is a Query or a rows event.
+pub(crate) fn time_with(known: Option<u32>, event: &Event<'_>) -> Option<u32>
+    ensures { result ≡ time_with known (placed event.now) }
+{
+    match known {
+        Some(time) => Some(time),
+        None if is_query_or_rows(event) => Some(event.header.timestamp),
+        None => None,
+    }
+}
+
+/// Goes through the events with which a unit goes on that has a part, from a position on. Answers where the unit stops, and
+/// the time of its first Query or rows event, which may be known already.
+pub(crate) fn go_through(
+    log: &Log<'_>,
+    from: u32,
+    part: Part,
+    known: Option<u32>,
+) -> (u32, Option<u32>)
+    requires boundary { IsBoundary (log_bytes log.now) from }
+    ensures stopped { HasStopped from result.0 part known result.1 (events_behind (log_bytes log.now) from) (events_behind (log_bytes log.now) result.0) }
+    ensures boundary { IsBoundary (log_bytes log.now) result.0 }
+    ensures behind { from ≤ result.0 }
+{
+    let mut at = from;
+    let mut time = known;
+    let mut open = Some(part);
+    'events: while let Some(part) = open {
+        let Ok(event) = log.event_at(at) else {
+            return (at, time);
+        };
+        if !part.goes_on(event_kind(&event)) {
+            return (at, time);
+        }
+        time = time_with(time, &event);
+        open = part.continued(&event);
+        at += event.header.size;
+    }
+    (at, time)
+}
+
+/// The groups of the range from a start to a stop, or why it is refused.
+pub(crate) fn groups_between<'a, A: Allocator + Copy>(
+    alloc: A,
+    log: &Log<'a>,
+    start: u32,
+    stop: u32,
+) -> Result<Index<'a, 'static, A>, Fault>
+    requires boundary { IsBoundary (log_bytes log.now) start }
+    requires order { start ≤ stop }
+    ensures { AreGroups (log_bytes log.now) start stop result }
+{
+    let sel = Selection {
+        start,
+        stop: Some(stop),
+        database: None,
+        table: None,
+    };
+    index_from(alloc, log, &sel, start)
+}

@@ -1,0 +1,61 @@
+//! The units of a log, one after the other.
+
+ghost use Rattle.std.specs.Prelude.{◌≡◌, length, map};
+ghost use Rattle.blog_event.specs.LogView.{log_bytes};
+ghost use Rattle.blog_units.specs.Boundaries.{IsBoundary};
+
+use crate::unit::{Unit, global_id, go_through, groups_between, next_first, time_with};
+use blog_event::Log;
+use std::alloc::{Allocator, Global};
+
+/// The units of a log that are left.
+#[derive(Drop)]
+pub struct Units<'a, A: Allocator = Global> {
+    log: Log<'a>,
+    alloc: A,
+    // An event ends here, and no unit is open.
+    at: u32,
+    ghost boundary: { IsBoundary (log_bytes log) at },
+}
+
+impl<'a, A: Allocator> Units<'a, A> {
+    ghost use Rattle.blog_units.specs.Units.{facts_of, units};
+    ghost use Rattle.blog_units.specs.UnitsView.{units_left};
+
+    /// The units of a log, in its order. Memory for the groups of each is taken from `alloc`.
+    pub fn new(alloc: A, log: &Log<'a>) -> Self
+        ensures { units_left result ≡ map facts_of (units (log_bytes log.now)) }
+    {
+        Units {
+            log: *log,
+            alloc,
+            at: log.first(),
+        }
+    }
+}
+
+impl<'a, A: Allocator + Copy> Iterator for Units<'a, A> {
+    type Item = Unit<'a, A>;
+
+    ghost use Rattle.std.specs.Iterator.{at_most};
+    ghost use Rattle.blog_units.specs.UnitsView.{GivesUnit, units_left};
+
+    ghost next_gives = { GivesUnit };
+
+    ghost remaining = { λ units. at_most (length (units_left units)) };
+
+    fn next(&mut self) -> Option<Unit<'a, A>> {
+        let (first, part) = next_first(&self.log, self.at)?;
+        let start = first.pos;
+        let known = time_with(None, &first);
+        let (stop, time) = go_through(&self.log, start + first.header.size, part, known);
+        self.at = stop;
+        Some(Unit {
+            start,
+            stop,
+            time: time.unwrap_or(first.header.timestamp),
+            id: global_id(&first),
+            groups: groups_between(self.alloc, &self.log, start, stop),
+        })
+    }
+}
