@@ -1,0 +1,5 @@
+//! Tests of the units of logs.
+#![tactic(auto)]
+
+#[cfg(test)]
+mod unit_tests;
