@@ -1,7 +1,7 @@
 #!/bin/sh
 # Undoes a log that a MySQL server wrote, shows its events before and after, and undoes the undoing.
 # Then tries to undo the log without its last byte, which is refused.
-# Then undoes a log with checksums, by way of the same log without.
+# Then undoes a log with checksums, by way of the same log without; without its last byte it is refused too.
 # Words: the program, the log, the file for the new log, the program for logs with checksums, and such a log.
 set -eu
 program=$1 log=$2 undo=$3 binlog=$4 summed=$5
@@ -38,32 +38,39 @@ rm -f "$undo.twice" "$undo.normal"
 
 # the log without its last byte
 cut=$undo.cut
-head -c "$(($(wc -c < "$log") - 1))" "$log" > "$cut"
-status=0
+without_last_byte() {
+    head -c "$(($(wc -c < "$1") - 1))" "$1" > "$cut"
+}
+
+# runs what stands behind the first word: it has to end with 1, to write nothing, and to print one line, which begins so
+is_refused() {
+    line=$1
+    shift
+    status=0
+    "$@" > "$cut.output" 2> "$cut.errors" || status=$?
+    cat "$cut.errors"
+    if [ "$status" -ne 1 ] || [ -s "$cut.output" ] || [ "$(wc -l < "$cut.errors")" -ne 1 ] \
+        || ! grep -q "^$line" "$cut.errors"; then
+        echo "The demo failed: a log that is refused should write nothing but one line that says why." >&2
+        exit 1
+    fi
+    echo "Nothing is written, and the exit status is 1."
+}
+
 echo
 echo "\$ $program -B $cut     (the log without its last byte)"
-"$program" -B "$cut" > "$cut.output" 2> "$cut.errors" || status=$?
-cat "$cut.errors"
-if [ "$status" -ne 1 ] || [ -s "$cut.output" ] || [ "$(wc -l < "$cut.errors")" -ne 1 ] \
-    || ! grep -q '^flashback: ' "$cut.errors"; then
-    echo "The demo failed: a log that is refused should write nothing but one line that says why." >&2
-    exit 1
-fi
-echo "Nothing is written, and the exit status is 1."
-rm -f "$cut" "$cut.output" "$cut.errors"
+without_last_byte "$log"
+is_refused "flashback: CutEvent at " "$program" -B "$cut"
 
 plain=$undo.plain
 rm -f "$plain"
-status=0
 echo
 echo "A server at its defaults wrote $summed, with checksums:"
 echo "\$ $program -B $summed"
-"$program" -B "$summed" > "$undo.none" 2> "$undo.errors" || status=$?
-cat "$undo.errors"
-if [ "$status" -ne 1 ] || [ -s "$undo.none" ] || [ "$(cat "$undo.errors")" != "flashback: Checksums at 4" ]; then
-    echo "The demo failed: a log with checksums should be refused." >&2
-    exit 1
-fi
+is_refused "flashback: Checksums at 4\$" "$program" -B "$summed"
+echo "\$ $binlog plain $cut     (that log without its last byte)"
+without_last_byte "$summed"
+is_refused "binlog: CutEvent at " "$binlog" plain "$cut"
 echo "\$ $binlog plain $summed -r $plain"
 "$binlog" plain "$summed" -r "$plain"
 echo "\$ $program --summary $plain"
@@ -76,4 +83,4 @@ if ! cmp "$undo.twice" "$undo.normal"; then
     exit 1
 fi
 echo "Undone, and undone again: the same as its changes in normal form, byte for byte."
-rm -f "$plain" "$undo.none" "$undo.errors" "$undo.summed" "$undo.twice" "$undo.normal"
+rm -f "$plain" "$undo.summed" "$undo.twice" "$undo.normal" "$cut" "$cut.output" "$cut.errors"
