@@ -1,5 +1,6 @@
-//! Runs that write the same bytes to standard output and to a result file.
+//! Runs that write the same bytes to standard output and to a result file, or to neither.
 
+use super::file_names::has_bytes;
 use super::logs::{INSERT_ONE_ROW, with_byte};
 use super::{ROWS_TYPE, path_of, run_log, run_log_to};
 use std::fs;
@@ -57,6 +58,33 @@ pub fn check_both_outputs(
         let outcome = run_log_to(rt, name, log, words, result.as_str())?;
         if !outcome.is_done(b"") || fs::read(rt, result.as_path())?.as_slice() != wanted {
             return Err(Fail::new(format_args!("not in the file: {words:?}")));
+        }
+    }
+    fs::remove_file(rt, result.as_path())?;
+    Ok(())
+}
+
+/// Of a file of `log` these words end with this line and the status 1, and nothing is written: first to
+/// standard output, then with `-r` to a file that isn't there, and to one that is.
+pub fn check_refused(
+    rt: &HostRuntime,
+    name: &str,
+    log: &[u8],
+    words: &[&str],
+    line: &str,
+) -> Result<(), Fail> {
+    if !run_log(rt, name, log, words)?.is_refusal(1, line) {
+        return Err(Fail::new(format_args!("not refused: {words:?}")));
+    }
+    let file = format!(in rt.alloc(); "{name}-unwritten")?;
+    let result = path_of(rt, file.as_str())?;
+    for before in [None, Some(b"kept".as_slice())] {
+        if let Some(bytes) = before {
+            fs::write(rt, result.as_path(), bytes)?;
+        }
+        let outcome = run_log_to(rt, name, log, words, result.as_str())?;
+        if !outcome.is_refusal(1, line) || !has_bytes(rt, result.as_str(), before)? {
+            return Err(Fail::new(format_args!("with a file: {words:?}")));
         }
     }
     fs::remove_file(rt, result.as_path())?;

@@ -1,9 +1,8 @@
 //! Parts of a log, and other logs than one inserting transaction.
 
-use super::both_outputs::check_both_outputs;
+use super::ROWS_TYPE;
+use super::both_outputs::{check_both_outputs, check_refused};
 use super::logs::{DROP_TABLE, INSERT_ONE_ROW, with_byte};
-use super::{ROWS_TYPE, path_of, run_log};
-use std::fs;
 use std::test::Fail;
 
 /// Where the events of the log begin.
@@ -62,39 +61,28 @@ fn each_selection_has_its_fault(rt: HostRuntime) -> Result<(), Fail> {
         ),
     ];
     for (words, line) in cases {
-        let outcome = run_log(
+        check_refused(
             &rt,
             "unselected",
             INSERT_ONE_ROW.as_slice(),
             words.as_slice(),
+            line,
         )?;
-        assert!(rt; outcome.is_refusal(1, line), "{words:?}");
     }
     Ok(())
 }
 
 #[test]
 fn a_cut_log_leaves_the_file_alone(rt: HostRuntime) -> Result<(), Fail> {
-    let result = path_of(&rt, "uncut")?;
-    let words = ["-B", "-r", result.as_str()];
-    let line = "flashback: CutEvent at 232\n";
-    assert!(rt; run_log(&rt, "cut", cut(), &["-B"])?.is_refusal(1, line));
-    assert!(rt; run_log(&rt, "cut", cut(), words.as_slice())?.is_refusal(1, line));
-    assert!(rt; !fs::exists(&rt, result.as_path())?);
-    fs::write(&rt, result.as_path(), b"kept")?;
-    assert!(rt; run_log(&rt, "cut", cut(), words.as_slice())?.is_refusal(1, line));
-    let kept = fs::read(&rt, result.as_path())?;
-    fs::remove_file(&rt, result.as_path())?;
-    assert_eq!(rt; kept.as_slice(), b"kept".as_slice());
-    Ok(())
+    check_refused(&rt, "cut", cut(), &["-B"], "flashback: CutEvent at 232\n")
 }
 
 #[test]
 fn a_stop_leaves_out_what_cannot_be_undone(rt: HostRuntime) -> Result<(), Fail> {
     let mut log = INSERT_ONE_ROW.as_slice().to_vec(rt.alloc())?;
     log.extend_from_slice(DROP_TABLE.as_slice())?;
-    let outcome = run_log(&rt, "drop", log.as_slice(), &["-B"])?;
-    assert!(rt; outcome.is_refusal(1, "flashback: Statement at 259\n"));
+    let line = "flashback: Statement at 259\n";
+    check_refused(&rt, "drop", log.as_slice(), &["-B"], line)?;
     let words = ["-B", "--stop-position", "259"];
     let undone = with_byte(rt.alloc(), ROWS_TYPE, 0x20)?;
     check_both_outputs(&rt, "drop", log.as_slice(), &words, undone.as_slice())
@@ -103,8 +91,8 @@ fn a_stop_leaves_out_what_cannot_be_undone(rt: HostRuntime) -> Result<(), Fail> 
 #[test]
 fn other_tables_are_not_judged(rt: HostRuntime) -> Result<(), Fail> {
     let log = with_byte(rt.alloc(), COLUMN_TYPE, 0x06)?;
-    let outcome = run_log(&rt, "type", log.as_slice(), &["-B"])?;
-    assert!(rt; outcome.is_refusal(1, "flashback: UnknownType at 159\n"));
+    let line = "flashback: UnknownType at 159\n";
+    check_refused(&rt, "type", log.as_slice(), &["-B"], line)?;
     let nothing = log.as_slice().get(..FIRST).unwrap_or(&[]);
     check_both_outputs(&rt, "type", log.as_slice(), &["-B", "-d", "e"], nothing)
 }
