@@ -192,6 +192,12 @@ fn bodies_of_version_1_that_are_refused(rt: HostRuntime) -> Result<(), Fail> {
     ] {
         check_fault(&rt, &with_rows(&rt, rows)?, &Selection::all(), Some(fault));
     }
+    // The type of the rows event of a log that is accepted, in either version, set to the type before those of version 1.
+    for log in [one_insert(&rt)?, with_rows(&rt, insert(1, &[5]).old())?] {
+        let log = with_bytes(&rt, &log, &[(200, 22)])?;
+        let fault = Fault::UnknownEvent { pos: 196 };
+        check_fault(&rt, &log, &Selection::all(), Some(fault));
+    }
     let outside = build(&rt, &[insert(1, &[5]).old()])?;
     let fault = Fault::OutOfPlace { pos: 120 };
     check_fault(&rt, &outside, &Selection::all(), Some(fault));
@@ -226,18 +232,35 @@ fn logs_of_other_versions_are_undone(rt: HostRuntime) -> Result<(), Fail> {
     Ok(())
 }
 
+/// A log of a server of version 5.5.62 with one rows event, whose format description has so many post-header lengths.
+fn with_lengths(rt: &impl AllocGlobal, count: u8, rows: Part<'_>) -> Result<Vec<u8>, Fail> {
+    let front = with_bytes(rt, &OLD_FRONT, &[(13, count.wrapping_add(76))])?;
+    let front = front
+        .get(..usize::from(count).wrapping_add(80))
+        .ok_or("a shorter front")?;
+    Ok(build_after(rt, front, &[BEGIN, Part::Map(T), rows, XID])?)
+}
+
 #[test]
 fn old_servers_have_25_lengths(rt: HostRuntime) -> Result<(), Fail> {
-    let parts = [BEGIN, Part::Map(T), insert(1, &[5]).old(), XID];
     for (count, fault) in [
         (24, Some(Fault::BadFormat { pos: 4 })),
         (25, None),
         (26, None),
     ] {
-        let front = with_bytes(&rt, &OLD_FRONT, &[(13, 76 + count as u8)])?;
-        let front = front.get(..80 + count).ok_or("a shorter front")?;
-        let log = build_after(&rt, front, &parts)?;
+        let log = with_lengths(&rt, count, insert(1, &[5]).old())?;
         check_fault(&rt, &log, &Selection::all(), fault);
+    }
+    Ok(())
+}
+
+#[test]
+fn logs_of_25_lengths_are_undone(rt: HostRuntime) -> Result<(), Fail> {
+    for (count, len, at) in [(25, 242, 185), (26, 243, 186)] {
+        let inserted = with_lengths(&rt, count, insert(1, &[5]).old())?;
+        let deleted = with_bytes(&rt, &inserted, &[(at, 25)])?;
+        assert_eq!(rt; (inserted.len(), inserted.get(at)), (len, Some(&23)));
+        check_undone(&rt, &inserted, &deleted);
     }
     Ok(())
 }
