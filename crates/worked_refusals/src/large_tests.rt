@@ -1,6 +1,7 @@
 //! Large logs: many events, and a large one.
 
 use blog_event::Log;
+use blog_flash::{Mode, Watched, run};
 use blog_trans::{Index, Selection, index};
 use std::alloc::{AllocError, Global};
 use std::process::Abort;
@@ -130,17 +131,28 @@ fn large_image(rt: &impl AllocGlobal, len: usize) -> Result<Vec<u8>, Fail> {
     Ok(image)
 }
 
+/// The log is undone by the other: the type of its rows event, which stands at 197, is changed and nothing else. The image
+/// stands at 228, and the end of the transaction has 27 bytes.
+fn check_undone(rt: &impl Abort, log: &[u8], undone: &[u8]) {
+    assert_eq!(rt; undone.len(), 67_109_129);
+    assert_eq!(rt; undone.get(..201), log.get(..201));
+    assert_eq!(rt; (log.get(201), undone.get(201)), (Some(&30), Some(&32)));
+    assert_eq!(rt; undone.get(202..300), log.get(202..300));
+    assert_eq!(rt; undone.get(67_109_000..), log.get(67_109_000..));
+}
+
 #[test]
 fn a_row_with_a_value_of_more_than_64_mebibytes_is_undone(rt: HostRuntime) -> Result<(), Fail> {
     let image = large_image(&rt, LARGE)?;
     let rows = insert(1, &[]).over(1, &[0xFF], &image);
     let log = build(&rt, &[BEGIN, Part::Map(LONGBLOB), rows, XID])?;
-    let written = flashback(rt.alloc(), &log, &Selection::all())?;
-    // The rows event stands at 197 and its image at 228, and the end of the transaction has 27 bytes.
-    assert_eq!(rt; written.len(), 67_109_129);
-    assert_eq!(rt; written.get(..201), log.get(..201));
-    assert_eq!(rt; (log.get(201), written.get(201)), (Some(&30), Some(&32)));
-    assert_eq!(rt; written.get(202..300), log.get(202..300));
-    assert_eq!(rt; written.get(67_109_000..), log.get(67_109_000..));
+    let all = Selection::all();
+    let written = flashback(rt.alloc(), &log, &all)?;
+    check_undone(&rt, &log, &written);
+    let mut reader = Watched::new(log.as_slice());
+    let mut writer = Watched::new(Vec::with_capacity(rt.alloc(), log.len())?);
+    let ran = run(rt.alloc(), &mut reader, Mode::Flashback, &all, &mut writer);
+    assert_eq!(rt; ran, Ok(()));
+    check_undone(&rt, &log, writer.device());
     Ok(())
 }
