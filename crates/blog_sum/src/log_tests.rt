@@ -4,6 +4,7 @@ mod samples;
 
 use crate::{SumFault, crc32, plain};
 use blog_event::Fault;
+use linked_list_allocator::LocalHeap;
 use refusing::Refusing;
 use samples::{CLOSED, CLOSED_PLAIN, IN_USE, IN_USE_PLAIN};
 use std::test::Fail;
@@ -154,19 +155,25 @@ fn refuses_events_without_room_for_a_sum(rt: HostRuntime) {
     }
 }
 
-/// The memory for a plain copy is asked for once; where it is refused there is no copy.
-fn asks_once(rt: &HostRuntime, log: &[u8]) -> bool {
-    let first = Refusing::new(rt.alloc(), 1);
+/// A heap with room for a plain copy, in bytes.
+const ROOM: usize = 1 << 16;
+
+/// The memory for a plain copy is asked for once, and given back; where it is refused there is no copy.
+fn asks_once(rt: &HostRuntime, log: &[u8]) -> Result<bool, Fail> {
+    let heap = LocalHeap::new(rt.alloc(), ROOM)?;
+    let first = Refusing::new(&heap, 1);
     let refused = plain(&first, log).err();
-    let second = Refusing::new(rt.alloc(), 2);
+    let second = Refusing::new(&heap, 2);
     let copied = plain(&second, log).is_ok();
-    first.has_refused() && refused == Some(SumFault::OutOfMemory) && copied && !second.has_refused()
+    let is_asked_once = first.has_refused() && copied && !second.has_refused();
+    Ok(is_asked_once && refused == Some(SumFault::OutOfMemory) && heap.used() == 0)
 }
 
 #[test]
-fn want_of_memory_is_answered(rt: HostRuntime) {
-    assert!(rt; asks_once(&rt, &CLOSED));
-    assert!(rt; asks_once(&rt, &CLOSED_PLAIN));
+fn want_of_memory_is_answered(rt: HostRuntime) -> Result<(), Fail> {
+    assert!(rt; asks_once(&rt, &CLOSED)?);
+    assert!(rt; asks_once(&rt, &CLOSED_PLAIN)?);
+    Ok(())
 }
 
 #[test]

@@ -4,6 +4,7 @@ use super::logs::{PLAIN, SUMMED};
 use super::{Outcome, path_of, words_of};
 use crate::commands::command;
 use blog_device::Watched;
+use linked_list_allocator::LocalHeap;
 use refusing::Refusing;
 use std::fs;
 use std::test::Fail;
@@ -11,15 +12,23 @@ use std::test::Fail;
 /// More requests than each of these runs makes.
 const REQUESTS: usize = 200;
 
+/// A heap with room for each of these runs, in bytes.
+const ROOM: usize = 1 << 18;
+
 const OUT_OF_MEMORY: &str = "binlog: OutOfMemory: ";
 
-/// Runs the program with these words. Answers also whether its request of this number was refused.
+/// Runs the program with these words. All that it takes is given back. Answers also whether its request of this number was
+/// refused.
 fn run_refusing(rt: &HostRuntime, words: &[&str], number: usize) -> Result<(Outcome, bool), Fail> {
-    let refusing = Refusing::new(rt.alloc(), number);
+    let heap = LocalHeap::new(rt.alloc(), ROOM)?;
+    let refusing = Refusing::new(&heap, number);
     let mut output = Watched::new(Vec::new(rt.alloc()));
     let mut errors = Watched::new(Vec::new(rt.alloc()));
     let all = words_of(rt, words)?;
     let status = command(rt, &refusing, Ok(all), &mut output, &mut errors);
+    if heap.used() != 0 {
+        return Err(Fail::new(format_args!("kept memory: {words:?}")));
+    }
     let outcome = Outcome {
         status,
         output,

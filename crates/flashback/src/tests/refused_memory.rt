@@ -7,6 +7,7 @@ use super::wrong_words::assert_wrong_words;
 use super::{Outcome, ROWS_TYPE, path_of, words_of};
 use crate::commands::command;
 use blog_flash::Watched;
+use linked_list_allocator::LocalHeap;
 use refusing::Refusing;
 use std::fs;
 use std::process::ExitCode;
@@ -15,22 +16,29 @@ use std::test::Fail;
 /// More requests than each of these runs makes.
 const REQUESTS: usize = 200;
 
+/// A heap with room for each of these runs, in bytes.
+const ROOM: usize = 1 << 18;
+
 const OUT_OF_MEMORY: &str = "flashback: OutOfMemory\n";
 
-/// Runs the program with these words over the log of this path. Answers also whether its request of
-/// this number was refused.
+/// Runs the program with these words over the log of this path. All that it takes is given back.
+/// Answers also whether its request of this number was refused.
 fn run_refusing(
     rt: &HostRuntime,
     words: &[&str],
     log: &str,
     number: usize,
 ) -> Result<(Outcome, bool), Fail> {
-    let refusing = Refusing::new(rt.alloc(), number);
+    let heap = LocalHeap::new(rt.alloc(), ROOM)?;
+    let refusing = Refusing::new(&heap, number);
     let mut output = Watched::new(Vec::new(rt.alloc()));
     let mut errors = Watched::new(Vec::new(rt.alloc()));
     let mut all = words_of(rt, words)?;
     all.push(String::from_str(rt.alloc(), log)?)?;
     let status = command(rt, &refusing, Ok(all), &mut output, &mut errors);
+    if heap.used() != 0 {
+        return Err(Fail::new(format_args!("kept memory: {words:?}")));
+    }
     let outcome = Outcome {
         status,
         output,
