@@ -135,6 +135,7 @@ pub fn worked_versions()
     ensures old_server_undone { flashback_text old_server all ≡ slice_set old_server 187 25 }
     ensures old_server_normal { normal_text old_server all ≡ old_server }
     ensures lengths_25_accepted { fault (old_log 101 lengths_25) all ≡ None }
+    ensures lengths_25_undone { flashback_text (old_log 101 lengths_25) all ≡ slice_set (slice_set (slice_set (slice_set (slice_set (old_log 101 lengths_25) 118 144) 157 181) 194 215) 228 242) 185 25 }
     ensures version_5_6_0_accepted { fault (take 25 one_insert ++ codes "5.6.0" ++ 0 ∷ drop 31 one_insert) all ≡ None }
     ensures version_5_5_62_undone { flashback_text (take 25 one_insert ++ codes "5.5.62" ++ drop 31 one_insert) all ≡ slice_set (take 25 one_insert ++ codes "5.5.62" ++ drop 31 one_insert) 200 32 }
 {}
