@@ -1,10 +1,9 @@
 -- Rows that are reversed, and the fields that are written of a body.
-use Rattle.std.proofs.Common.{◌≡◌, ◌%◌, ◌≤◌, ◌+◌, ℕ, Bool, List, [], ◌∷◌, ◌++◌, length, map, reverse, refl, sym, ap, ap₂, ◌∙◌, subst, arith, length-append}
+use Rattle.std.proofs.Common.{◌≡◌, ◌%◌, ℕ, Bool, List, [], ◌∷◌, ◌++◌, length, map, reverse, refl, sym, ap, ap₂, ◌∙◌, subst, arith, length-append}
 use Rattle.std.specs.List.{AllByRecursion, concat, flat_map}
 use Rattle.std.proofs.lemmas.Grind.{flat_map-append}
 use Rattle.std.proofs.lemmas.List.{append-nil, reverse-append, reverse-reverse, length-reverse}
 use Rattle.std.proofs.lemmas.List.Folds.{concat-append}
-use Rattle.byteorder.specs.Endian.{little_bytes, little_number}
 use Rattle.blog_row.specs.declared.kind.RowsAction.{RowsAction}
 use Rattle.blog_row.specs.declared.kind.RowsAction.TheVariants.{Write, Update, Delete}
 use Rattle.blog_row.specs.declared.kind.RowsKind.{RowsKind}
@@ -15,8 +14,8 @@ use Rattle.blog_row.specs.declared.order.Order.TheVariants.{Forward, Backward}
 use Rattle.blog_row.specs.RowsKind.{images_a_row, opposite, opposite_kind}
 use Rattle.blog_row.specs.Column.{Layout}
 use Rattle.blog_row.specs.Image.{IsSomeImage}
-use Rattle.blog_row.specs.RowsEvent.{RowsBody, HasExtra, IsFullBitmap, IsRowsBody, rows_text}
-use Rattle.blog_row.specs.RowsWriting.{RowsContent, content_of, content_in, kind_in, in_twos, images_by_row, exchanged, reversed_rows, reversed_content, no_extra, written_flags, written_fields, written_body}
+use Rattle.blog_row.specs.RowsEvent.{RowsBody, HasExtra, IsFullBitmap, IsRowsBody}
+use Rattle.blog_row.specs.RowsWriting.{RowsContent, content_of, content_in, kind_in, in_twos, images_by_row, exchanged, reversed_rows, reversed_content, no_extra, written_fields, written_body}
 
 -- ---- the images of reversed rows
 

@@ -1,5 +1,5 @@
 -- How the code reads the body of a rows event: part by part.
-use Rattle.std.proofs.Common.{◌≡◌, ◌+◌, ◌-◌, ◌%◌, ◌<◌, ◌≤◌, ℕ, zero, suc, Bool, true, false, cond, eqb, leb, List, [], ◌∷◌, ◌++◌, length, take, drop, Option, Some, None, option_and_then, option_map, unwrap_or, is_some, Result, Ok, Err, refl, sym, ap, ◌∙◌, arith, length-append, drop_at}
+use Rattle.std.proofs.Common.{◌≡◌, ◌+◌, ◌-◌, ◌%◌, ◌<◌, ◌≤◌, ℕ, zero, suc, Bool, true, false, eqb, leb, List, [], ◌∷◌, ◌++◌, length, take, drop, Option, Some, None, option_and_then, option_map, unwrap_or, is_some, Result, Ok, Err, refl, sym, ap, ◌∙◌, arith, length-append, drop_at}
 use Rattle.std.specs.Result.{IfOk}
 use Rattle.std.specs.List.{list_all, concat}
 use Rattle.std.proofs.lemmas.Bool.{and_from}

@@ -1,4 +1,4 @@
-use Rattle.std.proofs.Common.{◌≡◌, ◌∙◌, ℕ, List, None, Some, option_map, sym, ap}
+use Rattle.std.proofs.Common.{◌≡◌, ◌∙◌, None, Some, option_map, sym, ap}
 use Rattle.blog_row.specs.RowsEventView.{front_seen, rows_front}
 use Rattle.blog_row.proofs.RowsCode.{no_id, no_flags, by_extra}
 use Rattle.blog_row.proofs.rows_parts.front_at.Goals as goal

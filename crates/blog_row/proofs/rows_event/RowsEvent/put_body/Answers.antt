@@ -1,5 +1,5 @@
 -- The front and the images make up the body.
-use Rattle.std.proofs.Common.{◌≡◌, ◌≤◌, ℕ, List, length, refl, arith, length-append, length-drop, ap, ◌∙◌, drop}
+use Rattle.std.proofs.Common.{length, refl, arith, length-append, length-drop, ap, ◌∙◌, drop}
 use Rattle.blog_row.specs.RowsEventView.{rows_content, written_front}
 use Rattle.blog_row.specs.RowsWriting.{content_in}
 use Rattle.blog_row.proofs.WrittenBody.{body-is-written, room-parts}

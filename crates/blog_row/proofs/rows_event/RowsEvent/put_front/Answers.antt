@@ -1,8 +1,8 @@
 -- The slices are the front of the body.
-use Rattle.std.proofs.Common.{◌≡◌, ◌≤◌, ℕ, List, [], ◌∷◌, ◌++◌, length, take, drop, sym, ap, ◌∙◌, arith}
+use Rattle.std.proofs.Common.{ℕ, List, [], ◌∷◌, ◌++◌, length, take, drop, sym, ap, ◌∙◌, arith}
 use Rattle.byteorder.specs.Endian.{little_bytes}
 use Rattle.blog_row.specs.declared.kind.RowsKind.{RowsKind}
-use Rattle.blog_row.specs.RowsEventView.{rows_content, written_front}
+use Rattle.blog_row.specs.RowsEventView.{rows_content}
 use Rattle.blog_row.specs.RowsWriting.{content_in, no_extra, written_flags}
 use Rattle.blog_row.proofs.WrittenBody.{kept, extra-front, front-parts}
 use Rattle.blog_row.proofs.rows_event.RowsEvent.put_front.Goals as goal
