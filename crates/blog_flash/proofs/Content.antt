@@ -1,73 +1,24 @@
--- The content of a rows event: the body that is written is read again, and reversed rows are content too.
-use Rattle.std.proofs.Common.{◌≡◌, ℕ, ◌+◌, ◌%◌, ◌<◌, ◌^◌, Bool, true, false, eqb, List, [], ◌++◌, length, Ok, refl, sym, ap, ◌∙◌, subst, arith, length-append, append-nil, take_at, drop_at, le-leb, eq-eqb}
+-- The content of a rows event: the body that is written is read again.
+use Rattle.std.proofs.Common.{◌≡◌, ℕ, ◌+◌, ◌%◌, ◌<◌, ◌^◌, Bool, true, false, eqb, List, [], ◌++◌, length, Ok, refl, sym, ap, ◌∙◌, arith, length-append, append-nil, take_at, drop_at, le-leb, eq-eqb}
 use Rattle.std.specs.Prelude.{nat_le}
-use Rattle.std.specs.List.{AllByRecursion, concat}
-use Rattle.std.proofs.lemmas.List.{length-reverse}
+use Rattle.std.specs.List.{concat}
 use Rattle.byteorder.specs.Endian.{little_bytes, little_number}
 use Rattle.byteorder.specs.Numbers.{length-bytes_low_first, little_number-reads_back}
-use Rattle.blog_row.specs.declared.kind.RowsKind.{RowsKind}
 use Rattle.blog_row.specs.declared.kind.RowsVersion.{RowsVersion}
 use Rattle.blog_row.specs.declared.kind.RowsVersion.TheVariants.{One, Two}
-use Rattle.blog_row.specs.RowsKind.{images_a_row, opposite}
 use Rattle.blog_row.specs.Column.{Layout}
-use Rattle.blog_row.specs.Image.{IsSomeImage}
-use Rattle.blog_row.specs.RowsEvent.{RowsBody, IsFullBitmap, IsRowsBody, rows_of, fixed_len, table_id, flags_of, has_end_flag}
-use Rattle.blog_row.specs.RowsWriting.{RowsContent, content_of, kept_flags, reversed_content, no_extra, written_flags, written_fields, written_body}
+use Rattle.blog_row.specs.RowsEvent.{rows_of, fixed_len, table_id, flags_of, has_end_flag}
+use Rattle.blog_row.specs.RowsWriting.{RowsContent, content_of, kept_flags, no_extra, written_flags, written_fields, written_body}
 use Rattle.blog_row.proofs.Images.{images_found, images_again}
 use Rattle.blog_row.proofs.Bodies.{rows_again}
-use Rattle.blog_row.proofs.ReversedRows.{all-reverse, all-exchanged, images-reversed, length-exchanged, none-extra, same-number}
-use Rattle.blog_flash.proofs.Formed.{IsContent}
-
--- ---- content
-
--- the fields of a body are content
-pub content-of : (layout : Layout) (k : RowsKind) (body : List ℕ) (b : RowsBody) → 0 < length layout → IsRowsBody k layout body b → IsContent layout (content_of k b)
-content-of layout k body b some h = record {
-  some = some;
-  counted = h.counted;
-  enough = h.bitmaps_enough;
-  full = h.bitmaps_full;
-  each = h.images_each;
-  whole = h.rows_whole;
-}
-
--- content that is reversed is content
-pub content-reversed : (layout : Layout) (c : RowsContent) → IsContent layout c → IsContent layout (reversed_content c)
-content-reversed layout c h =
-    let images = images-reversed c.kind.action c.images in
-    let same = same-number c.kind.action in
-    record {
-      some = h.some;
-      counted = h.counted;
-      enough = length-exchanged c.bitmaps ∙ h.enough ∙ sym same;
-      full = all-exchanged (IsFullBitmap (length layout)) c.bitmaps h.full;
-      each = subst (AllByRecursion (IsSomeImage layout)) (sym images) (all-reverse (IsSomeImage layout) c.images h.each);
-      whole =
-          ap (λ (xs : List (List ℕ)). length xs % images_a_row (opposite c.kind.action)) images
-          ∙ ap (λ (n : ℕ). n % images_a_row (opposite c.kind.action)) (length-reverse c.images) ∙ ap (λ (n : ℕ). length c.images % n) same ∙ h.whole;
-    }
+use Rattle.blog_row.proofs.ReversedRows.{IsContent, written-is}
 
 -- ---- the body that is written
 
--- it is a rows body of the fields that are written
-pub body-is : (last : Bool) (c : RowsContent) (layout : Layout) → length c.id ≡ 6 → IsContent layout c → IsRowsBody c.kind layout (written_body last c) (written_fields last c)
-unfolding written_body
-body-is last c layout id h = record {
-  id_len = id;
-  flags_len = length-bytes_low_first 0 2 (written_flags last c.flags);
-  extra_counted = none-extra c.kind.version;
-  counted = h.counted;
-  bitmaps_enough = h.enough;
-  bitmaps_full = h.full;
-  images_each = h.each;
-  rows_whole = h.whole;
-  text = refl;
-}
-
 -- it is read again
-pub body-again : (last : Bool) (c : RowsContent) (layout : Layout) → length c.id ≡ 6 → IsContent layout c → rows_of c.kind layout (written_body last c) ≡ Ok (written_fields last c)
-body-again last c layout id h =
-    rows_again c.kind layout (written_body last c) (written_fields last c) (λ bytes images. (images_found layout bytes images, λ are. images_again layout bytes images h.some are.0 are.1)) (body-is last c layout id h)
+pub body-again : (last : Bool) (c : RowsContent) (layout : Layout) → 0 < length layout → IsContent layout c → rows_of c.kind layout (written_body last c) ≡ Ok (written_fields last c)
+body-again last c layout some h =
+    rows_again c.kind layout (written_body last c) (written_fields last c) (λ bytes images. (images_found layout bytes images, λ are. images_again layout bytes images some are.0 are.1)) (written-is last layout c h)
 
 -- its table id
 pub body-id : (last : Bool) (c : RowsContent) → length c.id ≡ 6 → table_id (written_body last c) ≡ c.id

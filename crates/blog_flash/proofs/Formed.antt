@@ -2,28 +2,14 @@
 use Rattle.std.proofs.Common.{◌≡◌, ℕ, ◌+◌, ◌%◌, ◌<◌, ◌^◌, List, [], ◌∷◌, length, find, Bool, true, false, ◌&&◌, bytes_eq, Option, Some, Ok, ◌⊎◌}
 use Rattle.std.specs.List.{AllByRecursion, list_any}
 use Rattle.blog_event.specs.Event.{Event, unplaced}
-use Rattle.blog_row.specs.RowsKind.{images_a_row}
-use Rattle.blog_row.specs.Packed.{IsPacked}
 use Rattle.blog_row.specs.Column.{Layout}
-use Rattle.blog_row.specs.Image.{IsSomeImage}
 use Rattle.blog_row.specs.TableMap.{Names, names_of, layout_of, is_same_layout}
-use Rattle.blog_row.specs.RowsEvent.{IsFullBitmap, table_id}
-use Rattle.blog_row.specs.RowsWriting.{RowsContent}
+use Rattle.blog_row.specs.RowsEvent.{table_id}
+use Rattle.blog_row.proofs.ReversedRows.{IsContent}
 use Rattle.blog_trans.specs.declared.kind.EventKind.TheVariants as kind
 use Rattle.blog_trans.specs.Kinds.{kind_of, is_map_kind}
 use Rattle.blog_trans.specs.Acceptance.{is_same_table}
 use Rattle.blog_trans.specs.Groups.{RowsEvent, Statement, Transaction}
-
--- ---- the content of a rows event
-
--- the packed count, the bitmaps and the images are those of the layout
-pub record IsContent (layout : Layout) (c : RowsContent) : Type 0 where
-  pub some : 0 < length layout
-  pub counted : IsPacked c.count (length layout)
-  pub enough : length c.bitmaps ≡ images_a_row c.kind.action
-  pub full : AllByRecursion (IsFullBitmap (length layout)) c.bitmaps
-  pub each : AllByRecursion (IsSomeImage layout) c.images
-  pub whole : length c.images % images_a_row c.kind.action ≡ 0
 
 -- ---- events
 
@@ -59,7 +45,6 @@ Agree Known = (a b : Event) → Known a → Known b → (n o : Names) → names_
 pub record IsRowsEvent (maps : List Event) (r : RowsEvent) : Type 0 where
   pub found : (m : Event) × (map_among maps r.content.id ≡ Some m) × (m.body ≡ r.map)
   pub names : (n : Names) × (names_of r.map ≡ Some n)
-  pub id : length r.content.id ≡ 6
   pub flags : r.content.flags + 1 < 2 ^ 16
   pub even : r.content.flags % 2 ≡ 0
   pub content : (c : Layout) × (layout_of r.map ≡ Ok c) × IsContent c r.content

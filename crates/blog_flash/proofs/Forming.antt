@@ -14,7 +14,8 @@ use Rattle.blog_row.specs.declared.fault.RowFault.{RowFault}
 use Rattle.blog_row.specs.RowsKind.{number_by, number_of_kind}
 use Rattle.blog_row.specs.RowsWriting.{written_fields, written_body}
 use Rattle.blog_row.specs.Column.{Layout}
-use Rattle.blog_row.proofs.ReversedRows.{all-append, all-reverse}
+use Rattle.blog_row.proofs.Layouts.{layout_some}
+use Rattle.blog_row.proofs.ReversedRows.{all-append, all-reverse, reversed-is}
 use Rattle.blog_trans.specs.declared.kind.EventKind.TheVariants as kind
 use Rattle.blog_trans.specs.Kinds.{kind_of}
 use Rattle.blog_trans.specs.Acceptance.{rows_under, rows_by_map}
@@ -23,7 +24,7 @@ use Rattle.blog_flash.specs.Reversal.{reversed_rows, reversed_statement, reverse
 use Rattle.blog_flash.specs.Texts.{rows_event, rows_events, statement_events, transaction_events, group_events}
 use Rattle.blog_flash.proofs.Formed.{Fits, IsMapEvent, IsRowsEvent, IsUsed, IsStatement, IsTransaction, AreGroups}
 use Rattle.blog_trans.proofs.PlacedParts.{all-by, all-map, all-joined}
-use Rattle.blog_flash.proofs.Content.{content-reversed, body-again}
+use Rattle.blog_flash.proofs.Content.{body-again}
 
 -- ---- the events of groups
 
@@ -74,7 +75,7 @@ rows_event-fits maps last r h = record { timestamp = h.timestamp_fits; kind = nu
 -- its body is read again
 pub reads : (maps : List Event) (last : Bool) (r : RowsEvent) → IsRowsEvent maps r → rows_by_map r.content.kind r.map (written_body last r.content) ≡ Ok (written_fields last r.content)
 reads maps last r h =
-    ap (λ (l : Result Layout RowFault). rows_under r.content.kind l (written_body last r.content)) h.content.1 ∙ body-again last r.content h.content.0 h.id h.content.2
+    ap (λ (l : Result Layout RowFault). rows_under r.content.kind l (written_body last r.content)) h.content.1 ∙ body-again last r.content h.content.0 (layout_some r.map h.content.0 h.content.1) h.content.2
 
 -- ---- lists
 
@@ -119,10 +120,9 @@ pub rows-reversed : (maps : List Event) (r : RowsEvent) → IsRowsEvent maps r �
 rows-reversed maps r h = record {
   found = h.found;
   names = h.names;
-  id = h.id;
   flags = h.flags;
   even = h.even;
-  content = (h.content.0, h.content.1, content-reversed h.content.0 r.content h.content.2);
+  content = (h.content.0, h.content.1, reversed-is h.content.0 r.content h.content.2);
   timestamp_fits = h.timestamp_fits;
   server_id_fits = h.server_id_fits;
   header_flags_fit = h.header_flags_fit;

@@ -28,7 +28,7 @@ use Rattle.blog_flash.proofs.Written.{IsWritable, written-read, written-accepted
 
 -- a rows event
 rows-paired : (maps : List Event) (r : RowsEvent) → IsRowsEvent maps r → IsPairedRows r
-rows-paired maps r h = paired-from-mod r.content.kind.action r.content.images h.content.2.whole
+rows-paired maps r h = paired-from-mod r.content.kind.action r.content.images h.content.2.rows_whole
 
 -- a statement
 statement-paired : (Known : Event → Type 0) (s : Statement) → IsStatement Known s → IsPairedStatement s

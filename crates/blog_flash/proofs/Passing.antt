@@ -233,7 +233,7 @@ rows-kind pos last r = kind-placed (rows_event last r) (pos + event_size (rows_e
 rows-passes : (Known : Event → Type 0) (ms : List Event) (statement earlier : List Placed) (last : Bool) (r : RowsEvent) (p : Placed) → kind_at p ≡ kind.Rows r.content.kind
     → p.event.body ≡ written_body last r.content → IsRowsEvent ms r → Finds statement r → IsAmid Known statement earlier → event_fault all earlier p ≡ None
 rows-passes Known ms statement earlier last r p is body formed found h =
-    rw (is, body, h.inside, h.statement_is, body-long last r.content formed.id, body-id last r.content formed.id, found.1, found.2, formed.names.1, reads ms last r formed) refl
+    rw (is, body, h.inside, h.statement_is, body-long last r.content formed.content.2.id_len, body-id last r.content formed.content.2.id_len, found.1, found.2, formed.names.1, reads ms last r formed) refl
 
 -- it ends the statement if it is the last
 rows-closes : (last : Bool) (r : RowsEvent) (p : Placed) → kind_at p ≡ kind.Rows r.content.kind → p.event.body ≡ written_body last r.content → length r.content.id ≡ 6
@@ -247,14 +247,14 @@ rows-lead : (Known : Event → Type 0) (ms : List Event) (pos : ℕ) (r : RowsEv
 rows-lead Known ms pos r [] statement earlier formed found h =
     let p = stands_at pos (rows_event true r) in
     let is = rows-kind pos true r in
-    let ends = rows-closes true r p is (rows_event-body true r) formed.0.id (body-ends true r.content formed.0.id formed.0.flags formed.0.even) in (
+    let ends = rows-closes true r p is (rows_event-body true r) formed.0.content.2.id_len (body-ends true r.content formed.0.content.2.id_len formed.0.flags formed.0.even) in (
       (rows-passes Known ms statement earlier true r p is (rows_event-body true r) formed.0 found.0 h, tt),
       amid-anew Known statement earlier p h (rw is refl) ends (no-map Known p (kind.Rows r.content.kind) is refl),
     )
 rows-lead Known ms pos r (s ∷ rows) statement earlier formed found h =
     let p = stands_at pos (rows_event false r) in
     let is = rows-kind pos false r in
-    let goes_on = rows-closes false r p is (rows_event-body false r) formed.0.id (body-ends false r.content formed.0.id formed.0.flags formed.0.even) in
+    let goes_on = rows-closes false r p is (rows_event-body false r) formed.0.content.2.id_len (body-ends false r.content formed.0.content.2.id_len formed.0.flags formed.0.even) in
     let others = rows-lead Known ms (pos + event_size (rows_event false r)) s rows (p ∷ statement) (p ∷ earlier) formed.1 (finds-on statement p (s ∷ rows) found.1)
     (amid-on Known statement earlier p h (rw is refl) goes_on (no-map Known p (kind.Rows r.content.kind) is refl)) in
     ((rows-passes Known ms statement earlier false r p is (rows_event-body false r) formed.0 found.0 h, others.0), others.1)

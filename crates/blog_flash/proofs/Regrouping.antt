@@ -67,7 +67,7 @@ rows-kept maps events pos last r map h found same =
     p = stands_at pos (rows_event last r)
 
     by_id : map_in events (table_id p.event.body) ≡ Some map
-    by_id = ap (λ body. map_in events (table_id body)) (rows_event-body last r) ∙ (ap (map_in events) (body-id last r.content h.id) ∙ found)
+    by_id = ap (λ body. map_in events (table_id body)) (rows_event-body last r) ∙ (ap (map_in events) (body-id last r.content h.content.2.id_len) ∙ found)
 
     names : names_of map.event.body ≡ Some h.names.0
     names = ap names_of same ∙ h.names.1
@@ -109,7 +109,7 @@ kept-front maps events ps pos last r rows h found others = record {
     kept = rows-kept maps events pos last r found_map.0 h found_map.1 same
 
     id : table_id p.event.body ≡ r.content.id
-    id = ap table_id (rows_event-body last r) ∙ body-id last r.content h.id
+    id = ap table_id (rows_event-body last r) ∙ body-id last r.content h.content.2.id_len
 
 all-kept : (maps : List Event) (events : List Placed) (pos : ℕ) (rows : List RowsEvent) → AllByRecursion (IsRowsEvent maps) rows → HasMaps events maps
     → IsKept rows (filter_map (kept_rows all events) (stood pos (rows_events rows)))

@@ -17,6 +17,7 @@ use Rattle.blog_row.specs.RowsEvent.{RowsBody, IsRowsBody, table_id, flags_of}
 use Rattle.blog_row.proofs.Images.{images_found, images_again}
 use Rattle.blog_row.proofs.Bodies.{rows_found}
 use Rattle.blog_row.proofs.Layouts.{layout_some}
+use Rattle.blog_row.proofs.ReversedRows.{content-is}
 use Rattle.blog_trans.specs.declared.kind.EventKind.{EventKind}
 use Rattle.blog_trans.specs.declared.kind.EventKind.TheVariants as kind
 use Rattle.blog_trans.specs.Selection.{Selection}
@@ -31,7 +32,6 @@ use Rattle.blog_trans.proofs.ProgressAccepted.{no-fault-at, accepted-lines}
 use Rattle.blog_trans.proofs.ProgressFirsts.{id_at, bytes-differ}
 use Rattle.blog_trans.proofs.ProgressSteps.{begin-kind}
 use Rattle.blog_flash.proofs.Formed.{Fits, map_among, IsMapEvent, IsRowsEvent, AreDistinct, IsUsed, IsStatement, IsEndEvent, IsTransaction, AreGroups}
-use Rattle.blog_flash.proofs.Content.{content-of}
 use Rattle.blog_flash.proofs.Forming.{kind-placed}
 use Rattle.blog_flash.proofs.Agreeing.{IsChosen, Chosen, map-kind}
 use Rattle.blog_flash.proofs.Sound.{IsSound, range-sound}
@@ -102,10 +102,9 @@ row-formed Member sel maps r h =
     record {
       found = (event_value r.map, value-among maps r.body.id ∙ ap (option_map event_value) among, refl);
       names = (h.map.names, h.map.names_are);
-      id = fields.id_len;
       flags = clear-fits (little_number 2 r.body.flags) (subst (λ (n : ℕ). n < 2 ^ 16) (own-flags r.kind c r.event.event.body r.body fields) h.member.mark);
       even = clear-even (little_number 2 r.body.flags);
-      content = (c, h.map.layout_is, content-of c r.kind r.event.event.body r.body (layout_some r.map.event.body c h.map.layout_is) fields);
+      content = (c, h.map.layout_is, content-is r.kind c r.event.event.body r.body fields);
       timestamp_fits = h.member.event.timestamp;
       server_id_fits = h.member.event.server_id;
       header_flags_fit = h.member.event.flags;

@@ -162,7 +162,7 @@ map-no-last Known pos m h = by-kind (λ k. is_some (rows_of_kind k) && has_end_f
 pub rows-last : (maps : List Event) (pos : ℕ) (last : Bool) (r : RowsEvent) → IsRowsEvent maps r → is_last_rows (stands_at pos (rows_event last r)) ≡ last
 rows-last maps pos last r h =
     by-kind (λ k. is_some (rows_of_kind k) && has_end_flag (rows_event last r).body) pos (rows_event last r) (kind.Rows r.content.kind) (rows_event-kind last r)
-    ∙ (ap has_end_flag (rows_event-body last r) ∙ body-ends last r.content h.id h.flags h.even)
+    ∙ (ap has_end_flag (rows_event-body last r) ∙ body-ends last r.content h.content.2.id_len h.flags h.even)
 
 cut-rows : (maps : List Event) (pos : ℕ) (r : RowsEvent) (rows : List RowsEvent) (rest : List Placed) → AllByRecursion (IsRowsEvent maps) (r ∷ rows)
     → statements_of (stood pos (rows_events (r ∷ rows)) ++ rest) ≡ stood pos (rows_events (r ∷ rows)) ∷ statements_of rest

@@ -12,6 +12,7 @@ use Rattle.blog_row.specs.declared.kind.RowsVersion.TheVariants.{One, Two}
 use Rattle.blog_row.specs.declared.order.Order.{Order}
 use Rattle.blog_row.specs.declared.order.Order.TheVariants.{Forward, Backward}
 use Rattle.blog_row.specs.RowsKind.{images_a_row, opposite, opposite_kind}
+use Rattle.blog_row.specs.Packed.{IsPacked}
 use Rattle.blog_row.specs.Column.{Layout}
 use Rattle.blog_row.specs.Image.{IsSomeImage}
 use Rattle.blog_row.specs.RowsEvent.{RowsBody, HasExtra, IsFullBitmap, IsRowsBody}
@@ -88,19 +89,20 @@ all-reverse P (x ∷ xs) all = subst (AllByRecursion P) (sym (reverse-append (x 
 -- ---- the fields that are written
 
 -- what is kept of a body makes fields of a body of its kind
-record IsContent (layout : Layout) (c : RowsContent) : Type 0 where
-  id_len : length c.id ≡ 6
-  counted : Rattle.blog_row.specs.Packed.IsPacked c.count (length layout)
-  bitmaps_enough : length c.bitmaps ≡ images_a_row c.kind.action
-  bitmaps_full : AllByRecursion (IsFullBitmap (length layout)) c.bitmaps
-  images_each : AllByRecursion (IsSomeImage layout) c.images
-  rows_whole : length c.images % images_a_row c.kind.action ≡ 0
+pub record IsContent (layout : Layout) (c : RowsContent) : Type 0 where
+  pub id_len : length c.id ≡ 6
+  pub counted : IsPacked c.count (length layout)
+  pub bitmaps_enough : length c.bitmaps ≡ images_a_row c.kind.action
+  pub bitmaps_full : AllByRecursion (IsFullBitmap (length layout)) c.bitmaps
+  pub images_each : AllByRecursion (IsSomeImage layout) c.images
+  pub rows_whole : length c.images % images_a_row c.kind.action ≡ 0
 
 pub none-extra : (version : RowsVersion) → HasExtra version (no_extra version) []
 none-extra One = (refl, refl)
 none-extra Two = (refl, refl)
 
-written-is : (last : Bool) (layout : Layout) (c : RowsContent) → IsContent layout c → IsRowsBody c.kind layout (written_body last c) (written_fields last c)
+-- the body that is written is a rows body of the fields that are written
+pub written-is : (last : Bool) (layout : Layout) (c : RowsContent) → IsContent layout c → IsRowsBody c.kind layout (written_body last c) (written_fields last c)
 unfolding written_body
 written-is last layout c h = record {
   id_len = h.id_len;
@@ -114,7 +116,8 @@ written-is last layout c h = record {
   text = refl;
 }
 
-content-is : (kind : RowsKind) (layout : Layout) (body : List ℕ) (fields : RowsBody) → IsRowsBody kind layout body fields → IsContent layout (content_of kind fields)
+-- what is kept of a body that was read is content
+pub content-is : (kind : RowsKind) (layout : Layout) (body : List ℕ) (fields : RowsBody) → IsRowsBody kind layout body fields → IsContent layout (content_of kind fields)
 content-is kind layout body fields h =
     record { id_len = h.id_len; counted = h.counted; bitmaps_enough = h.bitmaps_enough; bitmaps_full = h.bitmaps_full; images_each = h.images_each; rows_whole = h.rows_whole }
 
@@ -123,7 +126,8 @@ same-number Write = refl
 same-number Update = refl
 same-number Delete = refl
 
-reversed-is : (layout : Layout) (c : RowsContent) → IsContent layout c → IsContent layout (reversed_content c)
+-- content that is reversed is content
+pub reversed-is : (layout : Layout) (c : RowsContent) → IsContent layout c → IsContent layout (reversed_content c)
 reversed-is layout c h =
     let images = images-reversed c.kind.action c.images in
     let same = same-number c.kind.action in
