@@ -12,10 +12,10 @@ abbrev pub IsOutput : List ℕ → Mode → Selection → List ℕ → Type 0
 IsOutput log mode sel text = IsAccepted log sel × (text ≡ output_of mode log sel) × MeetsHeadline mode log sel text
 
 -- the log is refused, and this is its fault
-abbrev pub IsRefused : List ℕ → Mode → Selection → Fault → Type 0
-IsRefused log mode sel f = fault log sel ≡ Some f
+abbrev pub IsRefused : List ℕ → Selection → Fault → Type 0
+IsRefused log sel f = fault log sel ≡ Some f
 
 -- an accepted log is answered with its output, a refused one with its fault, unless memory was refused
 abbrev pub Answers : {A : Type 0} → List ℕ → Mode → Selection → Result (Vec ℕ A) Fault → Type 0
 Answers log mode sel (Ok text) = IsOutput log mode sel text.items
-Answers log mode sel (Err f) = (f ≡ OutOfMemory) ⊎ IsRefused log mode sel f
+Answers log mode sel (Err f) = (f ≡ OutOfMemory) ⊎ IsRefused log sel f

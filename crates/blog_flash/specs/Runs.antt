@@ -23,15 +23,15 @@ ends_before_writing (Err Read) = true
 ends_before_writing (Err Write) = false
 
 -- why a log is refused: want of memory, the fault of the log that was read, or more bytes than a log may have
-abbrev pub RefusesLog : Option (List ℕ) → Option (List ℕ) → Mode → Selection → Fault → Type 0
-RefusesLog old new mode sel fault = (fault ≡ OutOfMemory)
-    ⊎ ((log : List ℕ) × ReadsLog old new log × IsRefused log mode sel fault)
+abbrev pub RefusesLog : Option (List ℕ) → Option (List ℕ) → Selection → Fault → Type 0
+RefusesLog old new sel fault = (fault ≡ OutOfMemory)
+    ⊎ ((log : List ℕ) × ReadsLog old new log × IsRefused log sel fault)
     ⊎ ((fault ≡ TooLong 0) × PassesLimit greatest_length old new)
 
 -- what comes of reading a log: the output of all of it, why it is refused, or that a read failed
 abbrev pub Prepares : {A : Type 0} → Option (List ℕ) → Option (List ℕ) → Mode → Selection → Result (Vec ℕ A) RunFault → Type 0
 Prepares old new mode sel (Ok text) = (log : List ℕ) × ReadsLog old new log × IsOutput log mode sel text.items
-Prepares old new mode sel (Err (Log fault)) = RefusesLog old new mode sel fault
+Prepares old new mode sel (Err (Log fault)) = RefusesLog old new sel fault
 Prepares old new mode sel (Err Read) = ⊤
 Prepares old new mode sel (Err Write) = ⊥
 
@@ -39,7 +39,7 @@ Prepares old new mode sel (Err Write) = ⊥
 -- a write failed, or nothing where the log is refused or a read failed
 abbrev pub Runs : Option (List ℕ) → Option (List ℕ) → Mode → Selection → Option (List ℕ) → Option (List ℕ) → Result Unit RunFault → Type 0
 Runs old new mode sel had has (Ok done) = (log text : List ℕ) × ReadsLog old new log × IsOutput log mode sel text × Appends had has text
-Runs old new mode sel had has (Err (Log fault)) = RefusesLog old new mode sel fault × Keeps had has
+Runs old new mode sel had has (Err (Log fault)) = RefusesLog old new sel fault × Keeps had has
 Runs old new mode sel had has (Err Read) = Keeps had has
 Runs old new mode sel had has (Err Write) = (log text : List ℕ) × ReadsLog old new log × IsOutput log mode sel text × AppendsBeginning had has text
 
