@@ -7,6 +7,7 @@ pub mod Growing
 pub mod ProgressSteps
 pub mod ProgressRows
 pub mod ProgressState
+pub mod StatementCuts
 pub mod ProgressGroups
 pub mod KeptRows
 pub mod ProgressFirsts

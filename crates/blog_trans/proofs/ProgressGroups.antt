@@ -1,6 +1,6 @@
 -- What the progress keeps are the groups: the transactions that are done, and those of what is left.
-use Rattle.std.proofs.Common.{◌≡◌, Bool, true, false, ◌||◌, not, if◌then◌else◌, List, [], ◌∷◌, ◌++◌, reverse, find, Option, Some, None, option_map, is_some, option_and_then, refl, sym, ap, subst, ◌∙◌, append_assoc, append-nil}
-use Rattle.std.specs.List.{AllByRecursion, filter_map, cons_option}
+use Rattle.std.proofs.Common.{◌≡◌, Bool, true, false, not, List, [], ◌∷◌, ◌++◌, reverse, find, Option, Some, None, option_map, is_some, option_and_then, refl, sym, ap, subst, ◌∙◌, append_assoc, append-nil}
+use Rattle.std.specs.List.{filter_map, cons_option}
 use Rattle.std.proofs.lemmas.Bool.{false≢true}
 use Rattle.std.proofs.lemmas.List.{reverse-reverse}
 use Rattle.blog_event.specs.File.{Placed}
@@ -9,12 +9,13 @@ use Rattle.blog_row.specs.RowsEvent.{has_end_flag}
 use Rattle.blog_trans.specs.Selection.{Selection}
 use Rattle.blog_trans.specs.Kinds.{is_begin_kind, is_end_kind, rows_of_kind}
 use Rattle.blog_trans.specs.Places.{is_begin, is_end, is_rows, is_last_rows, place, is_inside, since}
-use Rattle.blog_trans.specs.Groups.{PlacedRows, PlacedStatement, PlacedTransaction, Span, cons_if, spans, onto_first, statements_of, kept_rows, statement_if, kept_statement, transaction_if, kept_transaction, placed_groups_in}
+use Rattle.blog_trans.specs.Groups.{PlacedRows, PlacedStatement, PlacedTransaction, Span, cons_if, spans, statements_of, kept_rows, statement_if, kept_statement, transaction_if, kept_transaction, placed_groups_in}
 use Rattle.blog_trans.specs.Progress.{Open, Progress, appended_if, with_rows, closed, ended_if, rows_taken, advance, advance_by, progress}
 use Rattle.blog_trans.specs.Acceptance.{HavePassed, Passes}
-use Rattle.blog_trans.proofs.ProgressSteps.{reverse-latest, reverse-behind, Begins, Ends, IsRowsStep, IsOther, Step, begins, ends, rows, other, step-of}
+use Rattle.blog_trans.proofs.ProgressSteps.{reverse-behind, Begins, Ends, IsRowsStep, IsOther, Step, begins, ends, rows, other, step-of}
 use Rattle.blog_trans.proofs.ProgressRows.{AreChecked, with-checked, statement-keeps}
 use Rattle.blog_trans.proofs.ProgressState.{since-other, since-rows, since-last, IsState, state-of, open-inside}
+use Rattle.blog_trans.proofs.StatementCuts.{since-no-last, cut-none, cut-last}
 
 -- ---- what is still to come
 
@@ -54,42 +55,6 @@ transaction-same : (begin end : Placed) (inside others : List Placed) (ss : List
     → transaction_if (record { begin = begin; inside = inside; end = end }) ss ≡ transaction_if (record { begin = begin; inside = others; end = end }) ss
 transaction-same begin end inside others [] = refl
 transaction-same begin end inside others (s ∷ ss) = refl
-
--- ---- cuts
-
--- an event that doesn't end a statement
-abbrev IsNoLast : Placed → Type 0
-IsNoLast p = is_last_rows p ≡ false
-
--- no event of the open statement ends it
-since-no-last : (earlier : List Placed) → AllByRecursion IsNoLast (since earlier)
-since-no-last [] = tt
-since-no-last (p ∷ earlier) = by_case (is_begin p) (is_last_rows p) refl (since-no-last earlier)
-  where
-    by_case : (b c : Bool) → is_last_rows p ≡ c → AllByRecursion IsNoLast (since earlier) → AllByRecursion IsNoLast (if not (b || c) then p ∷ since earlier else [])
-    by_case true c is others = tt
-    by_case false true is others = tt
-    by_case false false is others = (is, others)
-
--- such events, with no end of a statement behind them, are in no statement
-cut-none : (statement left : List Placed) → AllByRecursion IsNoLast statement → statements_of left ≡ [] → statements_of (reverse statement ++ left) ≡ []
-cut-none [] left none e = e
-cut-none (p ∷ statement) left none e =
-    ap statements_of (reverse-behind p statement left) ∙ cut-none statement (p ∷ left) none.1 (rw none.0 (ap (onto_first p) e))
-
--- they stand in the first statement of what is behind them
-cut-first : (statement left s : List Placed) (ss : List (List Placed)) → AllByRecursion IsNoLast statement → statements_of left ≡ s ∷ ss
-    → statements_of (reverse statement ++ left) ≡ (reverse statement ++ s) ∷ ss
-cut-first [] left s ss none e = e
-cut-first (p ∷ statement) left s ss none e =
-    ap statements_of (reverse-behind p statement left)
-    ∙ cut-first statement (p ∷ left) (p ∷ s) ss none.1 (rw none.0 (ap (onto_first p) e))
-    ∙ ap (λ l. l ∷ ss) (sym (reverse-behind p statement s))
-
--- the events of the open statement with a last rows event are a statement
-cut-last : (earlier left : List Placed) (p : Placed) → is_last_rows p ≡ true → statements_of (reverse (since earlier) ++ p ∷ left) ≡ reverse (p ∷ since earlier) ∷ statements_of left
-cut-last earlier left p is =
-    cut-first (since earlier) (p ∷ left) (p ∷ []) (statements_of left) (since-no-last earlier) (rw is refl) ∙ ap (λ l. l ∷ statements_of left) (sym (reverse-latest p (since earlier)))
 
 -- ---- one more event
 

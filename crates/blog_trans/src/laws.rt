@@ -1,16 +1,16 @@
 //! What is promised of the opening of a log, and of the transactions that are kept while it is walked.
 
-ghost use Rattle.std.specs.Prelude.{◌≡◌, ℕ, List, [], ◌∷◌, take, reverse, map, filter, Some, false};
-ghost use Rattle.std.specs.List.{AllByRecursion, Contains};
+ghost use Rattle.std.specs.Prelude.{◌≡◌, ℕ, List, [], ◌∷◌, ◌++◌, take, reverse, map, filter, Some, true, false};
+ghost use Rattle.std.specs.List.{AllByRecursion, Contains, flat_map};
 ghost use Rattle.blog_event.specs.declared.fault.Fault.{Fault};
 ghost use Rattle.blog_event.specs.Fault.{first_failing};
 ghost use Rattle.blog_event.specs.File.{Placed, placed_from, read};
 ghost use Rattle.blog_event.specs.Opening.{opening_fault};
 ghost use Rattle.blog_row.specs.RowsEvent.{table_id};
 ghost use Rattle.blog_trans.specs.Selection.{Selection};
-ghost use Rattle.blog_trans.specs.Places.{place, is_inside, since};
+ghost use Rattle.blog_trans.specs.Places.{place, is_inside, is_begin, is_last_rows, since};
 ghost use Rattle.blog_trans.specs.Acceptance.{range, lines, fault, IsAccepted, HavePassed, Passes};
-ghost use Rattle.blog_trans.specs.Groups.{kept_rows, first_maps, placed_groups_in, placed_groups};
+ghost use Rattle.blog_trans.specs.Groups.{statements_of, kept_rows, first_maps, placed_groups_in, placed_groups};
 ghost use Rattle.blog_trans.specs.Progress.{Open, with_rows, progress};
 ghost use Rattle.blog_trans.specs.StatementMaps.{first_of_ids, is_used};
 ghost use Rattle.blog_trans.specs.PlacedFacts.{IsPlacedTransaction};
@@ -26,6 +26,16 @@ pub fn opening_asks_the_first_lines()
 /// the groups of the events. The call does nothing.
 pub fn progress_gives_groups()
     ensures { (sel : Selection) (es : List Placed) → Passes sel [] es → is_inside (place (reverse es)) ≡ false → placed_groups_in sel es ≡ (progress sel (reverse es)).done }
+{}
+
+/// Of events among which none is a `BEGIN`, the statements that are cut going forward are those that are seen looking back:
+/// a rows event with the end flag ends the statement of which it is the last (`ended`), and the events that are in no
+/// statement are those since the last one ended (`joined`). The call does nothing.
+pub fn statements_are_those_since()
+    ensures ended { (earlier left : List Placed) (p : Placed) → AllByRecursion (λ e. is_begin e ≡ false) earlier → is_last_rows p ≡ true
+        → statements_of (reverse earlier ++ p ∷ left) ≡ statements_of (reverse earlier) ++ reverse (p ∷ since earlier) ∷ statements_of left }
+    ensures joined { (earlier : List Placed) → AllByRecursion (λ e. is_begin e ≡ false) earlier
+        → flat_map (λ s. s) (statements_of (reverse earlier)) ++ reverse (since earlier) ≡ reverse earlier }
 {}
 
 /// Of a statement that is open, with one more event that passes its checks, the maps that its kept rows events go by are

@@ -21,7 +21,7 @@ pub use groups::{Index, TableCount};
 pub use kind::{EventKind, event_kind, query_text};
 pub use laws::{
     accepted_logs_have_groups, groups_are_of_events, opening_asks_the_first_lines,
-    progress_gives_groups, statements_have_used_maps,
+    progress_gives_groups, statements_are_those_since, statements_have_used_maps,
 };
 pub use lists::Entry;
 pub use place::Place;
