@@ -95,7 +95,7 @@ group-total ts = sum-joined event_size transaction_events transaction_size trans
 -- ---- reversed groups
 
 -- a rows event
-rows-turned : (r : RowsEvent) → rows_size (reversed_rows r) ≡ rows_size r
+pub rows-turned : (r : RowsEvent) → rows_size (reversed_rows r) ≡ rows_size r
 rows-turned r = ap (λ (n : ℕ). 19 + n) (body-len Backward true r.content ∙ sym (body-len Forward true r.content))
 
 -- a statement

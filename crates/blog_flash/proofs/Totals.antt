@@ -23,7 +23,7 @@ sum-fits P f g fits [] all = omega arith
 sum-fits P f g fits (x ∷ xs) all = let own = fits x all.0 in let others = sum-fits P f g fits xs all.1 in omega arith
 
 -- the event that is written for a rows event is no longer than its source
-row-fits : (Member : Placed → Type 0) (sel : Selection) (maps : List Placed) (r : PlacedRows) → IsPlacedRows Member sel maps r → rows_size (rows_value r) ≤ own_size r.event
+pub row-fits : (Member : Placed → Type 0) (sel : Selection) (maps : List Placed) (r : PlacedRows) → IsPlacedRows Member sel maps r → rows_size (rows_value r) ≤ own_size r.event
 row-fits Member sel maps r h = let fits = written-fits r.kind h.map.layout r.event.event.body r.body (fields-found Member sel maps r h) in omega arith
 
 -- nor are those of a statement longer than the events that it shows

@@ -1,14 +1,13 @@
 -- A log that is written by chunks: what was written and what the chunk holds are what it held at first, and the events so far.
-use Rattle.std.proofs.Common.{◌≡◌, ℕ, ◌≤◌, max, List, [], ◌∷◌, ◌++◌, Option, Result, Ok, Err, OnOk, OnErr, IfErr, sym, ap, subst, ◌∙◌, arith, append-nil, append_assoc}
-use Rattle.std.specs.List.{AllByRecursion}
+use Rattle.std.proofs.Common.{◌≡◌, ℕ, List, [], ◌++◌, Option, Result, Ok, Err, OnOk, OnErr, IfErr, sym, ap, subst, ◌∙◌, append-nil, append_assoc}
 use Rattle.std.specs.Io.KnownBytes.{Appends}
 use Rattle.std.proofs.KnownBytes.{Appends-nil, Appends-trans}
 use Rattle.blog_device.specs.Devices.{AppendsBeginning}
 use Rattle.blog_device.specs.declared.fault.RunFault.{RunFault}
 use Rattle.blog_device.specs.declared.fault.RunFault.TheVariants.{Write}
-use Rattle.blog_event.specs.Event.{Event, event_size}
+use Rattle.blog_event.specs.Event.{Event}
 use Rattle.blog_event.specs.File.{end_of}
-use Rattle.blog_flash.specs.LaidOut.{text_from, largest}
+use Rattle.blog_flash.specs.LaidOut.{text_from}
 use Rattle.blog_flash.specs.Runs.{IsWritten}
 use Rattle.blog_flash.proofs.Placing.{IsPut, Splits, put-none, put-next}
 
@@ -70,17 +69,3 @@ pub written-whole : (had has : Option (List ℕ)) (text log : List ℕ) (r : Res
     → IfErr r (λ e. e ≡ Write) → IsWritten had has log r
 written-whole had has text log (Ok done) same written beginning fault = subst (Appends had has) same written
 written-whole had has text log (Err e) same written beginning fault = subst (λ f. IsWritten had has log (Err f)) (sym fault) (subst (AppendsBeginning had has) same beginning)
-
--- ---- room
-
--- the greatest is no less than the least
-pub largest-above : (least : ℕ) (es : List Event) → least ≤ largest least es
-largest-above least [] = omega arith
-largest-above least (e ∷ es) = let above = largest-above (max least (event_size e)) es in omega arith
-
--- and none of the events is greater
-pub largest-each : (least n : ℕ) (es : List Event) → largest least es ≤ n → AllByRecursion (λ e. event_size e ≤ n) es
-largest-each least n [] within = tt
-largest-each least n (e ∷ es) within =
-    let above = largest-above (max least (event_size e)) es in
-    (omega (arith, within), largest-each (max least (event_size e)) n es within)

@@ -1,8 +1,8 @@
 -- The groups of an index as they are laid out, in either order, and what is written for each event of them.
-use Rattle.std.specs.Prelude.{ℕ, max, List, [], ◌∷◌, map}
+use Rattle.std.specs.Prelude.{ℕ, List, [], map}
 use Rattle.std.specs.List.{flat_map}
 use Rattle.blog_event.specs.declared.event.Event as told
-use Rattle.blog_event.specs.Event.{Event, event_size, event_text}
+use Rattle.blog_event.specs.Event.{Event, event_text}
 use Rattle.blog_row.specs.declared.order.Order.{Order}
 use Rattle.blog_row.specs.declared.order.Order.TheVariants.{Forward, Backward}
 use Rattle.blog_row.specs.declared.rows_event.RowsEvent as seen
@@ -56,8 +56,3 @@ written_event order (Begins event) = event_value event
 written_event order (Maps event) = event_value event
 written_event order (Changes rows last) = rows_event last (rows_in order (rows_value rows))
 written_event order (Ends event) = event_value event
-
--- the greatest size of these events, or `least` where that is more
-abbrev pub largest : ℕ → List Event → ℕ
-largest least [] = least
-largest least (e ∷ es) = largest (max least (event_size e)) es

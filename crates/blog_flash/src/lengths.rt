@@ -6,9 +6,9 @@ ghost use Rattle.blog_event.specs.File.{end_of, read};
 ghost use Rattle.blog_row.specs.declared.order.Order.{Order};
 ghost use Rattle.blog_trans.specs.Groups.{groups};
 ghost use Rattle.blog_trans.specs.GroupEventsView.{event_seen};
-ghost use Rattle.blog_trans.specs.IndexView.{index_bytes, index_groups, index_selection};
-ghost use Rattle.blog_flash.specs.LaidOut.{largest, transactions_of, written_event};
-ghost use Rattle.blog_flash.specs.Texts.{group_events, laid_out_after};
+ghost use Rattle.blog_trans.specs.IndexView.{index_bytes, index_selection};
+ghost use Rattle.blog_flash.specs.LaidOut.{written_event};
+ghost use Rattle.blog_flash.specs.Texts.{laid_out_after};
 
 use blog_event::HEADER_LEN;
 use blog_row::Order;
@@ -27,22 +27,6 @@ pub(crate) fn event_len(event: &GroupEvent<'_>) -> usize
         GroupEvent::Rows(rows) => rows.rows.body_len(),
     };
     HEADER_LEN + len
-}
-
-/// The length of the largest event that is written for the groups, or `least` where that is more, in bytes.
-pub(crate) fn largest_len<A: Allocator>(
-    index: &Index<'_, '_, A>,
-    order: Order,
-    least: usize,
-) -> usize
-    requires short { end_of 0 (group_events (transactions_of order (index_groups index.now))) ≤ 4294967295 }
-    ensures { result ≡ largest least (group_events (transactions_of order (index_groups index.now))) }
-{
-    let mut most = least;
-    for event in index.in_turn(order) {
-        most = most.max(event_len(&event));
-    }
-    most
 }
 
 /// How many bytes the groups have, laid out behind the format description in either order.

@@ -15,7 +15,7 @@ ghost use Rattle.blog_flash.specs.Runs.{IsWritten, ends_before_writing};
 ghost use Rattle.blog_flash.specs.Texts.{group_events, laid_out_after};
 
 use crate::laid_out::{front, put_group_event};
-use crate::lengths::{event_len, largest_len};
+use crate::lengths::event_len;
 use blog_device::{RunFault, Watched, put, put_part};
 use blog_event::Fault;
 use blog_row::Order;
@@ -77,7 +77,7 @@ fn write_groups<A: Allocator, B: Allocator, W: Write>(
 
 /// Writes the groups of an index as a log, as `lay_out` makes it, in an order. `bytes` are those of the index. All memory is
 /// taken before the first write: `chunk_len` bytes, or as many as `bytes` has where these are fewer, or as many as the front of
-/// the log or its largest event has where these are more.
+/// the log or the largest event of the groups has where these are more.
 ///
 /// `Log(OutOfMemory)` where that is refused: the writer was not called then. `Write` where a write failed; what was written
 /// is then a beginning of the log.
@@ -98,7 +98,8 @@ pub(crate) fn write_out<A: Allocator, B: Allocator, W: Write>(
     let front = front(bytes, index);
     // A short log needs no more room than it has itself.
     let least = front.len().max(chunk_len.min(bytes.len()));
-    let room = largest_len(index, order, least);
+    // No event is written longer than it was read.
+    let room = index.largest(least);
     let Ok(mut chunk) = Vec::with_capacity(alloc, room) else {
         return Err(RunFault::Log(Fault::OutOfMemory));
     };

@@ -17,6 +17,8 @@ use Rattle.blog_trans.specs.PlacedFacts.{IsPlacedTransaction}
 use Rattle.blog_trans.specs.IndexView.{index_bytes, index_groups, index_selection, placed}
 use Rattle.blog_trans.proofs.PlacedParts.{all-by, all-filter}
 use Rattle.blog_trans.proofs.PlacedFacts.{transaction-at}
+use Rattle.blog_trans.specs.Shown.{shown}
+use Rattle.blog_trans.proofs.Shown.{groups-shown}
 use Rattle.blog_trans.specs.Entries.{event_entry, statements_in, transaction_place, transaction_start, transaction_starts}
 use Rattle.blog_trans.proofs.Columns.{transactions_len, statements_len}
 use Rattle.blog_trans.proofs.EntriesFound.{Finds, finds, get_transaction_start}
@@ -54,6 +56,13 @@ unfolding placed_groups
 transaction_known bytes sel t x at =
     transaction-at (Stands bytes) sel (range sel (placed_from 4 (read bytes sel.stop))) t x
     (all-by _ _ (λ p h. h.0) _ (all-filter (Stands bytes) (is_in_range sel) (placed_from 4 (read bytes sel.stop)) (stand_read bytes sel.stop))) at
+
+-- so does each of them
+pub shown-stand : (bytes : List ℕ) (sel : Selection) → AllByRecursion (Stands bytes) (shown bytes sel)
+unfolding placed_groups shown
+shown-stand bytes sel =
+    groups-shown (Stands bytes) sel (range sel (placed_from 4 (read bytes sel.stop)))
+    (all-by _ _ (λ p h. h.0) _ (all-filter (Stands bytes) (is_in_range sel) (placed_from 4 (read bytes sel.stop)) (stand_read bytes sel.stop)))
 
 -- ---- of an index
 

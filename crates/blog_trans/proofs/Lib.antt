@@ -38,3 +38,4 @@ pub mod IndexStatements
 mod IndexCode
 pub mod IndexRows
 pub mod Turns
+mod Largest

@@ -26,7 +26,7 @@ use Rattle.blog_trans.specs.Shown.{statement_shown, transaction_shown, shown, sh
 use Rattle.blog_trans.proofs.Sums.{sum_of, sum-append, sum-map, sum-joined, sum-filter, sum-kept, sum-ones}
 use Rattle.blog_trans.proofs.Apart.{statements-fit, span_sum, spans-fit}
 use Rattle.blog_trans.proofs.Opening.{opening-refused}
-use Rattle.blog_trans.proofs.PlacedFacts.{groups-among}
+use Rattle.blog_trans.proofs.PlacedFacts.{groups-among, groups-placed}
 use Rattle.blog_trans.proofs.ProgressAccepted.{accepted-passes}
 use Rattle.blog_trans.proofs.PlacedParts.{all-by, all-map, all-joined}
 use Rattle.blog_trans.proofs.KeptRows.{kept-facts}
@@ -124,6 +124,11 @@ transaction-within Member sel t placed = (
 )
 
 -- of groups
+pub groups-shown : (Member : Placed → Type 0) (sel : Selection) (ps : List Placed) → AllByRecursion Member ps → AllByRecursion Member (flat_map transaction_shown (placed_groups_in sel ps))
+groups-shown Member sel ps all =
+    all-joined (IsPlacedTransaction Member sel) Member transaction_shown (transaction-within Member sel) (placed_groups_in sel ps) (groups-placed Member sel ps all)
+
+-- so they are among these events
 groups-within : (sel : Selection) (ps : List Placed) → AllByRecursion (Contains ps) (flat_map transaction_shown (placed_groups_in sel ps))
 groups-within sel ps =
     all-joined (IsPlacedTransaction (Contains ps) sel) (Contains ps) transaction_shown (transaction-within (Contains ps) sel) (placed_groups_in sel ps) (groups-among sel ps)

@@ -1,5 +1,5 @@
 -- The events of a log that its groups have.
-use Rattle.std.specs.Prelude.{ℕ, ◌+◌, ◌≤◌, ◌==◌, List, [], ◌∷◌, ◌++◌, length, take, map, sum_by, Contains}
+use Rattle.std.specs.Prelude.{ℕ, ◌+◌, ◌≤◌, ◌==◌, max, List, [], ◌∷◌, ◌++◌, length, take, map, sum_by, Contains}
 use Rattle.std.specs.List.{flat_map, AllByRecursion, IsDistinct}
 use Rattle.blog_event.specs.Event.{event_size}
 use Rattle.blog_event.specs.File.{Placed, placed_from, end_of, read}
@@ -22,6 +22,11 @@ shown bytes sel = flat_map transaction_shown (placed_groups bytes sel)
 -- the positions of these events
 abbrev pub shown_positions : List ℕ → Selection → List ℕ
 shown_positions bytes sel = map (λ p. p.pos) (shown bytes sel)
+
+-- the greatest size of these events, or `least` where that is more
+abbrev pub largest : ℕ → List Placed → ℕ
+largest least [] = least
+largest least (p ∷ ps) = largest (max least (event_size p.event)) ps
 
 -- the events of a log's range
 abbrev pub events_in_range : List ℕ → Selection → List Placed

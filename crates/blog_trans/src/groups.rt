@@ -66,7 +66,7 @@ impl<'a, 's, A: Allocator> Index<'a, 's, A> {
     ghost use Rattle.blog_trans.specs.Changes.{counts_of};
     ghost use Rattle.blog_trans.specs.IndexView.{table_counted, index_bytes, index_groups, index_selection, placed, map_at, rows_at, statement_at};
     ghost use Rattle.blog_trans.specs.Entries.{ShowsGroups, statement_place, transaction_place};
-    ghost use Rattle.blog_trans.specs.Shown.{events_in_range, shown_positions};
+    ghost use Rattle.blog_trans.specs.Shown.{events_in_range, largest, shown, shown_positions};
 
     /// The groups of a log, of what was kept of it.
     pub(crate) fn new(
@@ -313,6 +313,17 @@ impl<'a, 's, A: Allocator> Index<'a, 's, A> {
         ensures few { length result.now ≤ length (events_in_range (index_bytes self.now) (index_selection self.now)) }
     {
         &self.entries
+    }
+
+    /// The size of the largest event of the groups, or `least` where that is more, in bytes.
+    pub fn largest(&self, least: usize) -> usize
+        ensures { result ≡ largest least (shown (index_bytes self.now) (index_selection self.now)) }
+    {
+        let mut most = least;
+        for entry in &self.entries {
+            most = most.max(self.event_at(entry.at).header.size as usize);
+        }
+        most
     }
 
     /// The number of tables that have a map in the groups.

@@ -2,37 +2,25 @@ use Rattle.std.proofs.Common.{◌≡◌, ℕ, ◌++◌, List, length, vec_len, s
 use Rattle.blog_event.specs.Event.{event_of}
 use Rattle.blog_event.specs.File.{end_of}
 use Rattle.blog_trans.specs.IndexView.{index_bytes, index_groups, index_selection}
+use Rattle.blog_trans.specs.Shown.{shown}
 use Rattle.blog_flash.specs.LaidOut.{text_from, transactions_of}
 use Rattle.blog_flash.specs.Texts.{group_events}
 use Rattle.blog_flash.proofs.LayingOut.{IsOpened, is-front}
 use Rattle.blog_flash.proofs.Sizes.{end-total}
-use Rattle.blog_flash.proofs.WritingOut.{largest-above, largest-each, written-whole}
+use Rattle.blog_flash.proofs.Room.{largest-above, groups-fit-room}
+use Rattle.blog_flash.proofs.WritingOut.{written-whole}
 use Rattle.blog_flash.proofs.written_out.write_out.Goals as goal
-
-pub largest_len-room-requires : goal.largest_len-room-requires
-largest_len-room-requires g c =
-    let index = c.args.index.now in
-    let bytes = index_bytes index in
-    let opened : IsOpened bytes (index_selection index) (event_of index.log.format) = record {
-      are = rw (sym c.requires) (λ i. omega (arith, c.type_inv.bytes i));
-      accepted = index.accepted;
-      mark = index.log.mark;
-      stands = index.log.stands;
-    } in
-    let front = is-front c.args.order bytes (index_selection index) (event_of index.log.format) _ opened c.front-front.ensures in
-    let all = group_events (transactions_of c.args.order (index_groups index)) in
-    record { short = omega (arith, end-total 0 all, end-total (length c.front-front.result.now) all, front.ends, front.within, index.log.short) }
 
 pub unwrap-requires : goal.unwrap-requires
 unwrap-requires g c =
-    let all = group_events (transactions_of c.args.order (index_groups c.args.index.now)) in
-    let above = largest-above c.max-least.result all in
-    c.extend_from_slice.ensures.succeeds (omega (arith, above, c.largest_len-room.ensures, c.max-least.ensures, c.in-Ok.ensures.len, c.in-Ok.ensures.capacity))
+    let index = c.args.index.now in
+    let above = largest-above c.max-least.result (shown (index_bytes index) (index_selection index)) in
+    c.extend_from_slice.ensures.succeeds (omega (arith, above, c.largest-room.ensures, c.max-least.ensures, c.in-Ok.ensures.len, c.in-Ok.ensures.capacity))
 
 pub write_groups-requires-clause-room : goal.write_groups-requires-clause-room
 write_groups-requires-clause-room g c =
-    let all = group_events (transactions_of c.args.order (index_groups c.args.index.now)) in
-    largest-each c.max-least.result _ all (omega (arith, c.largest_len-room.ensures, c.in-Ok.ensures.capacity, c.extend_from_slice.ensures.capacity))
+    let index = c.args.index.now in
+    groups-fit-room (index_bytes index) (index_selection index) c.args.order c.max-least.result _ (omega (arith, c.largest-room.ensures, c.in-Ok.ensures.capacity, c.extend_from_slice.ensures.capacity))
 
 pub write_groups-requires-clause-short : goal.write_groups-requires-clause-short
 write_groups-requires-clause-short g c =
