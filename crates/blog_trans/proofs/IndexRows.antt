@@ -1,10 +1,10 @@
 -- What an index shows of a rows event.
-use Rattle.std.proofs.Common.{◌≡◌, ℕ, ◌+◌, length, drop, get_or, List, Option, Some, Result, Ok, IsSome, is_some, option_map, sym, ap, ◌∙◌, arith}
+use Rattle.std.proofs.Common.{◌≡◌, ℕ, ◌+◌, ◌<◌, length, drop, get_or, List, Option, Some, Result, Ok, IsSome, IfSome, is_some, option_map, refl, sym, ap, subst, ◌∙◌, arith}
 use Rattle.std.specs.List.{slice_get}
 use Rattle.std.specs.Result.{IsOk, is_ok}
-use Rattle.std.proofs.lemmas.Option.{same_Some}
+use Rattle.std.proofs.lemmas.Option.{same_Some, get_or_from_slice_get}
 use Rattle.blog_event.specs.declared.event.Event as read_event
-use Rattle.blog_event.specs.Event.{event_at, event_of}
+use Rattle.blog_event.specs.Event.{Event, event_at, event_of}
 use Rattle.blog_event.specs.File.{Placed}
 use Rattle.blog_row.specs.declared.fault.RowFault.{RowFault}
 use Rattle.blog_row.specs.declared.kind.RowsKind.{RowsKind}
@@ -19,11 +19,12 @@ use Rattle.blog_trans.specs.Kinds.{kind_of}
 use Rattle.blog_trans.specs.Selection.{Selection}
 use Rattle.blog_trans.specs.PlacedFacts.{IsPlacedRows}
 use Rattle.blog_trans.specs.Groups.{PlacedRows, PlacedTransaction}
-use Rattle.blog_trans.specs.Entries.{rows_entry, statement_place}
+use Rattle.blog_trans.specs.Entries.{IsRowsPlace, entries_of, rows_entry, statement_place}
 use Rattle.blog_trans.specs.IndexView.{index_bytes, index_groups, placed, statement_at, rows_at}
 use Rattle.blog_trans.proofs.EntriesFound.{Finds}
 use Rattle.blog_trans.proofs.KeptRows.{under-found}
 use Rattle.blog_trans.proofs.IndexFacts.{some_at, placed_is}
+use Rattle.blog_trans.proofs.IndexFound.{at_rows}
 use Rattle.blog_trans.proofs.IndexStatements.{HasRows, has_rows, rows_read}
 
 -- the rows event of these numbers, and its entry behind the maps of its statement
@@ -113,3 +114,44 @@ body_same Member sel maps p event map k columns b facts event_same map_same kind
 
 pub names_some : (Member : Placed → Type 0) (sel : Selection) (maps : List Placed) (p : PlacedRows) (map : read_event.Event) → IsPlacedRows Member sel maps p → placed map ≡ p.map → IsSome (names_of map.body.now)
 names_some Member sel maps p map facts is = ap (λ (q : Placed). is_some (names_of q.event.body)) is ∙ ap is_some facts.map.names_are
+
+-- ---- a rows event by its entry
+
+-- the entry is its own
+entry_found : {A : Type 0} (index : Index A) (t s r first : ℕ) (has : HasRows index t s r) → IsRowsPlace (index_groups index) t s first → Finds (entries_of (index_groups index)) (first + r) (rows_entry has.p)
+entry_found index t s r first has place =
+    at_rows (entries_of (index_groups index)) (index_groups index) t s r (first + r) has.has.x has.has.y has.p refl has.has.at has.has.inside has.inside
+    (ap (λ n. n + r) (place has.has.x has.has.y has.has.at has.has.inside))
+
+pub entry_within : {A : Type 0} (index : Index A) (t s r first : ℕ) → HasRows index t s r → IsRowsPlace (index_groups index) t s first → first + r < length (entries_of (index_groups index))
+entry_within index t s r first has place = (entry_found index t s r first has place).within
+
+pub entry_is : {A : Type 0} (index : Index A) (t s r first : ℕ) (e : Entry) (has : HasRows index t s r) → IsRowsPlace (index_groups index) t s first → slice_get (entries_of (index_groups index)) (first + r) ≡ Some e
+    → e ≡ rows_entry has.p
+entry_is index t s r first e has place here = (entry_found index t s r first has place).value e (sym (get_or_from_slice_get (entries_of (index_groups index)) (first + r) e e here))
+
+-- its map stands in the log, and can be read
+pub map_told : {A : Type 0} (P : Event → Type 0) (index : Index A) (t s r at : ℕ) (has : HasRows index t s r) → at ≡ has.p.map.pos → P has.p.map.event → IfSome (event_at (drop at (index_bytes index))) P
+map_told P index t s r at has same told =
+    subst (λ (o : Option Event). IfSome o P) (sym (ap (λ n. event_at (drop n (index_bytes index))) same ∙ has.placed.map.member)) told
+
+-- where it leads to
+pub record IsEntry {A : Type 0} (index : Index A) (t s r : ℕ) (e : Entry) : Type 0 where
+  pub has : HasRows index t s r
+  pub at_is : e.at ≡ has.p.event.pos
+  pub map_at_is : e.map ≡ has.p.map.pos
+
+pub is_entry : {A : Type 0} (index : Index A) (t s r first : ℕ) (e : Entry) → IsSome (rows_at (index_groups index) t s r) → IsRowsPlace (index_groups index) t s first
+    → slice_get (entries_of (index_groups index)) (first + r) ≡ Some e → IsEntry index t s r e
+is_entry index t s r first e some place here =
+    let has = has_rows index t s r some in
+    let is = entry_is index t s r first e has place here in
+    record { has = has; at_is = ap (λ (x : Entry). x.at) is; map_at_is = ap (λ (x : Entry). x.map) is }
+
+pub own_event : {A : Type 0} (index : Index A) (t s r : ℕ) (e : Entry) (event : read_event.Event) (here : IsEntry index t s r e) → event_at (drop e.at (index_bytes index)) ≡ Some (event_of event) → event.pos ≡ e.at
+    → placed event ≡ here.has.p.event
+own_event index t s r e event here read pos = placed_is (index_bytes index) here.has.p.event e.at event here.at_is here.has.placed.member read pos
+
+pub own_map : {A : Type 0} (index : Index A) (t s r : ℕ) (e : Entry) (event : read_event.Event) (here : IsEntry index t s r e) → event_at (drop e.map (index_bytes index)) ≡ Some (event_of event) → event.pos ≡ e.map
+    → placed event ≡ here.has.p.map
+own_map index t s r e event here read pos = placed_is (index_bytes index) here.has.p.map e.map event here.map_at_is here.has.placed.map.member read pos

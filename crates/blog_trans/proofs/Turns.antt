@@ -55,6 +55,11 @@ pub none-in-order : {A : Type 0} (order : Order) (numbers : Numbers) (xs : List 
 none-in-order Forward numbers xs none = none-among numbers xs none
 none-in-order Backward numbers xs none = ap reverse (none-among numbers xs none)
 
+-- it is one of them
+pub taken-among : (order : Order) (before : Numbers) (n : ℕ) (after : Numbers) → TakesNumber order before n after → before.start < before.end → (before.start ≤ n) × (n < before.end)
+taken-among Forward before n after (is, start, end) some = (omega (arith, is), omega (arith, is, some))
+taken-among Backward before n after (is, start, end) some = (omega (arith, is, some), omega (arith, is))
+
 -- those behind it are among them
 pub taken-within : (order : Order) (before : Numbers) (n : ℕ) (after : Numbers) → TakesNumber order before n after → (before.start ≤ after.start) × (after.end ≤ before.end)
 taken-within Forward before n after (is, start, end) = (omega (arith, start), omega (arith, end))

@@ -1,9 +1,13 @@
 //! Going through the events of groups, one after the other, as they are written.
 
-ghost use Rattle.std.specs.Prelude.{◌≡◌, ◌<◌, ◌≤◌, ℕ, true, false, length, Some, IsSome};
-ghost use Rattle.blog_trans.specs.IndexView.{index_groups, map_at, rows_at, statement_at};
+ghost use Rattle.std.specs.Prelude.{◌≡◌, ◌<◌, ◌≤◌, ℕ, true, false, drop, length, Some, IsSome};
+ghost use Rattle.std.specs.Option.{ForSome};
+ghost use Rattle.blog_event.specs.Event.{event_at, event_of};
+ghost use Rattle.blog_trans.specs.Entries.{IsRowsPlace};
+ghost use Rattle.blog_trans.specs.IndexView.{index_bytes, index_groups, map_at, rows_at, statement_at};
 
-use crate::groups::Index;
+use crate::groups::{Index, MapRead};
+use crate::kind::{EventKind, event_kind};
 use blog_event::Event;
 use blog_row::{Order, RowsEvent, TableMap};
 use std::alloc::{Allocator, Global};
@@ -59,11 +63,17 @@ pub struct GroupEvents<'i, 'a, 's, A: Allocator = Global> {
     statement: usize,
     maps: Numbers,
     rows: Numbers,
+    // The entry of its first rows event.
+    first_rows: usize,
+    // The map that was read last.
+    read: Option<MapRead<'a>>,
     ghost known: { transactions.end ≤ length (index_groups index.now) },
     ghost opened: { is_open ≡ true → transaction < length (index_groups index.now) },
     ghost statements_known: { (s : ℕ) → statements.start ≤ s → s < statements.end → IsSome (statement_at (index_groups index.now) transaction s) },
     ghost maps_known: { (m : ℕ) → maps.start ≤ m → m < maps.end → IsSome (map_at (index_groups index.now) transaction statement m) },
     ghost rows_known: { (r : ℕ) → rows.start ≤ r → r < rows.end → IsSome (rows_at (index_groups index.now) transaction statement r) },
+    ghost rows_placed: { rows.start < rows.end → IsRowsPlace (index_groups index.now) transaction statement first_rows },
+    ghost read_stands: { ForSome read (λ m. event_at (drop m.event.pos (index_bytes index.now)) ≡ Some (event_of m.event)) },
 }
 
 impl Numbers {
@@ -123,6 +133,8 @@ impl<'a, 's, A: Allocator> Index<'a, 's, A> {
             statement: 0,
             maps: Numbers::new(0),
             rows: Numbers::new(0),
+            first_rows: 0,
+            read: None,
         }
     }
 }
@@ -162,6 +174,7 @@ impl<'i, 'a, 's, A: Allocator> GroupEvents<'i, 'a, 's, A> {
         self.statement = s;
         self.maps = Numbers::new(self.index.maps(self.transaction, s));
         self.rows = Numbers::new(self.index.rows(self.transaction, s));
+        self.first_rows = self.index.first_rows(self.transaction, s);
     }
 
     /// The next map of the open statement.
@@ -183,12 +196,18 @@ impl<'i, 'a, 's, A: Allocator> GroupEvents<'i, 'a, 's, A> {
         ensures { GivesEvent self.old (Some result) self.new }
     {
         let r = self.rows.take(self.order);
-        let (event, map, table, rows) = self.index.group_rows(self.transaction, self.statement, r);
+        let entry = self.index.entry(self.first_rows, r);
+        let event = self.index.event_at(entry.at);
+        let map = self.index.map_at(entry.map, self.read);
+        self.read = Some(map);
+        let EventKind::Rows(kind) = event_kind(&event) else {
+            unreachable!();
+        };
         GroupEvent::Rows(GroupRows {
             event,
-            map,
-            table,
-            rows,
+            map: map.event,
+            table: map.table,
+            rows: RowsEvent::known(kind, event.body, &map.layout),
             last: self.rows.is_empty(),
         })
     }

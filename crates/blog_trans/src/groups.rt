@@ -1,9 +1,11 @@
 //! The index of a log: its groups under a selection.
 
-ghost use Rattle.std.specs.Prelude.{◌≡◌, ◌+◌, length, map, take, None};
+ghost use Rattle.std.specs.Prelude.{◌≡◌, ◌+◌, Ok, Some, length, map, take, None};
 ghost use Rattle.std.proofs.Props.{props};
 ghost use Rattle.blog_event.specs.Event.{event_size};
 ghost use Rattle.blog_event.specs.LogView.{log_bytes};
+ghost use Rattle.blog_row.specs.LayoutView.{layout_columns};
+ghost use Rattle.blog_row.specs.TableMap.{names_of, layout_of, map_names};
 ghost use Rattle.blog_trans.specs.Selection.{selection_of};
 ghost use Rattle.blog_trans.specs.Acceptance.{fault};
 ghost use Rattle.blog_trans.specs.Groups.{placed_groups};
@@ -40,6 +42,16 @@ pub struct Index<'a, 's, A: Allocator = Global> {
         (placed_tables (placed_groups (log_bytes log) (selection_of sel))) counts } by { Prim.hlevel props },
 }
 
+/// A table map of the log, read.
+#[derive(Clone, Copy, Debug)]
+pub(crate) struct MapRead<'a> {
+    pub(crate) event: Event<'a>,
+    pub(crate) table: TableMap<'a>,
+    pub(crate) layout: Layout<'a>,
+    pub ghost named: { names_of event.body.now ≡ Some (map_names table) },
+    pub ghost laid_out: { layout_of event.body.now ≡ Ok (layout_columns layout) },
+}
+
 /// A table, and how many of its rows the groups insert, update and delete.
 #[derive(Clone, Copy, Debug, PartialEq, Eq)]
 pub struct TableCount<'a> {
@@ -56,16 +68,15 @@ pub struct TableCount<'a> {
 }
 
 impl<'a, 's, A: Allocator> Index<'a, 's, A> {
-    ghost use Rattle.std.specs.Prelude.{◌<◌, ◌≤◌, ◌==◌, ◌∷◌, List, [], Ok, Some, IsSome, IfSome, drop, option_map, slice_get, vec_len};
+    ghost use Rattle.std.specs.Prelude.{◌<◌, ◌≤◌, ◌==◌, ◌∷◌, List, [], IsOk, IsSome, IfSome, drop, option_map, slice_get, vec_len};
+    ghost use Rattle.std.specs.Option.{ForSome};
     ghost use Rattle.std.specs.List.{IsDistinct};
     ghost use Rattle.blog_event.specs.Event.{event_at, event_of};
-    ghost use Rattle.blog_row.specs.TableMap.{names_of, layout_of, map_names};
-    ghost use Rattle.blog_row.specs.LayoutView.{layout_columns};
     ghost use Rattle.blog_row.specs.RowsEventView.{rows_kind, rows_layout, rows_body};
     ghost use Rattle.blog_trans.specs.Groups.{PlacedStatement, PlacedTransaction, groups};
     ghost use Rattle.blog_trans.specs.Changes.{counts_of};
     ghost use Rattle.blog_trans.specs.IndexView.{table_counted, index_bytes, index_groups, index_selection, placed, map_at, rows_at, statement_at};
-    ghost use Rattle.blog_trans.specs.Entries.{ShowsGroups, statement_place, transaction_place};
+    ghost use Rattle.blog_trans.specs.Entries.{IsRowsPlace, ShowsGroups, statement_place, transaction_place};
     ghost use Rattle.blog_trans.specs.Shown.{events_in_range, largest, shown, shown_positions};
 
     /// The groups of a log, of what was kept of it.
@@ -149,8 +160,16 @@ impl<'a, 's, A: Allocator> Index<'a, 's, A> {
         }
     }
 
+    /// The entry that is so many behind the first one.
+    pub(crate) fn entry(&self, first: usize, n: usize) -> Entry
+        requires { first + n < length (entries_of (index_groups self.now)) }
+        ensures { slice_get (entries_of (index_groups self.now)) (first + n) ≡ Some result }
+    {
+        self.entries[first + n]
+    }
+
     /// The event that begins at a position.
-    fn event_at(&self, at: u32) -> Event<'a>
+    pub(crate) fn event_at(&self, at: u32) -> Event<'a>
         requires { IsSome (event_at (drop at (index_bytes self.now))) }
         ensures event { event_at (drop at (index_bytes self.now)) ≡ Some (event_of result) }
         ensures pos { result.pos ≡ at }
@@ -227,6 +246,28 @@ impl<'a, 's, A: Allocator> Index<'a, 's, A> {
         self.statement(t, s).maps as usize
     }
 
+    /// The table map that begins at a position. It isn't read again where it is the one that was `read` before.
+    pub(crate) fn map_at(&self, at: u32, read: Option<MapRead<'a>>) -> MapRead<'a>
+        requires some { IsSome (event_at (drop at (index_bytes self.now))) }
+        requires named { IfSome (event_at (drop at (index_bytes self.now))) (λ e. IsSome (names_of e.body)) }
+        requires laid_out { IfSome (event_at (drop at (index_bytes self.now))) (λ e. IsOk (layout_of e.body)) }
+        requires read { ForSome read (λ map. event_at (drop map.event.pos (index_bytes self.now)) ≡ Some (event_of map.event)) }
+        ensures event { event_at (drop at (index_bytes self.now)) ≡ Some (event_of result.event) }
+        ensures pos { result.event.pos ≡ at }
+    {
+        if let Some(map) = read {
+            if map.event.pos == at {
+                return map;
+            }
+        }
+        let event = self.event_at(at);
+        MapRead {
+            event,
+            table: TableMap::known(event.body),
+            layout: Layout::known(event.body),
+        }
+    }
+
     /// The map `m` of statement `s` of transaction `t`.
     pub fn map(&self, t: usize, s: usize, m: usize) -> (Event<'a>, TableMap<'a>)
         requires { IsSome (map_at (index_groups self.now) t s m) }
@@ -246,6 +287,15 @@ impl<'a, 's, A: Allocator> Index<'a, 's, A> {
     {
         let start = self.statement(t, s);
         self.statement_end(t, s) - start.entry as usize - start.maps as usize
+    }
+
+    /// The number of the entry of the first rows event of statement `s` of transaction `t`.
+    pub(crate) fn first_rows(&self, t: usize, s: usize) -> usize
+        requires { IsSome (statement_at (index_groups self.now) t s) }
+        ensures { IsRowsPlace (index_groups self.now) t s result }
+    {
+        let start = self.statement(t, s);
+        start.entry as usize + start.maps as usize
     }
 
     /// The rows event `r` of statement `s` of transaction `t`, and the map that it goes by.
