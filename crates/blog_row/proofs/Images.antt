@@ -16,7 +16,7 @@ abbrev counted_value : ℕ → List ℕ × List ℕ → Option (List ℕ × List
 counted_value prefix p = cut (little_number prefix p.0) p.1
 
 -- what reads at the front is spelled there, in each storage
-stored_found : (storage : Storage) (bytes value rest : List ℕ) → value_stored storage bytes ≡ Some (value, rest) → (first : List ℕ) × SpellsAs storage value first × (bytes ≡ first ++ rest)
+pub stored_found : (storage : Storage) (bytes value rest : List ℕ) → value_stored storage bytes ≡ Some (value, rest) → (first : List ℕ) × SpellsAs storage value first × (bytes ≡ first ++ rest)
 stored_found (Fixed width) bytes value rest e =
     let c : (length value ≡ width) × (bytes ≡ value ++ rest) = cut_found width bytes value rest e in
     (value, (c.0, refl), c.1)

@@ -1,91 +1,18 @@
 -- Columns, and the type bytes and metadata bytes that spell them.
-use Rattle.std.proofs.Common.{◌≡◌, ◌≤◌, ℕ, zero, suc, Bool, true, false, cond, eqb, List, [], ◌∷◌, ◌++◌, length, take, drop, Option, Some, None, Ok, is_some, leb, ◌<◌, refl, sym, ap, ◌∙◌, subst, ⊎_elim, arith}
-use Rattle.std.specs.List.{list_all, AllByRecursion}
-use Rattle.std.proofs.lemmas.Bool.{eqb-true, eq-eqb, leb-true, le-leb, or_cases, and_parts, and_from}
+use Rattle.std.proofs.Common.{◌≡◌, ◌≤◌, ℕ, zero, suc, true, eqb, List, [], ◌∷◌, ◌++◌, length, take, drop, Ok, is_some, leb, ◌<◌, refl, sym, ap, ◌∙◌, subst, arith}
+use Rattle.std.specs.List.{list_all}
+use Rattle.std.proofs.lemmas.Bool.{eqb-true, eq-eqb, leb-true, le-leb, and_parts, and_from}
 use Rattle.std.proofs.lemmas.List.{nil_from_length, take_at, drop_at, length-append, length-drop, take-append-drop, drop-drop}
 use Rattle.blog_row.specs.declared.fault.RowFault.TheVariants.{BadBody, UnknownType}
 use Rattle.blog_row.specs.Checks.{cut}
 use Rattle.blog_row.specs.Packed.{IsPacked, packed_front}
-use Rattle.blog_row.specs.Column.{Column, Layout, Storage, is_one_of, metadata_len_of, plain_storage, byte_storage, pair_storage, storage_by, storage_of, is_column, types_of, metadata_of, own_metadata_len, metadata_total, columns_of}
+use Rattle.blog_row.specs.Column.{Column, Layout, metadata_len_of, is_column, types_of, metadata_of, own_metadata_len, metadata_total, columns_of}
 use Rattle.blog_row.specs.Image.{bitmap_len}
 use Rattle.blog_row.specs.TableMap.{names_of, LayoutFields, HasLayout, layout_fields, layout_of}
 use Rattle.blog_row.proofs.Results.{step_found, step_again, reading_found, check_found, check_again, same_ok}
+use Rattle.blog_row.proofs.ColumnTypes.{column_len}
 use Rattle.blog_row.proofs.Cutting.{cut_found, cut_again}
 use Rattle.blog_row.proofs.PackedLemmas.{packed_found, packed_again}
-
--- ---- the metadata of a type
-
--- a type has so many bytes of metadata
-abbrev HasLen : ℕ → ℕ → Type 0
-HasLen len kind = metadata_len_of kind ≡ Some len
-
--- what holds of each of the numbers holds of one of them
-one_of : (P : ℕ → Type 0) (numbers : List ℕ) (n : ℕ) → is_one_of numbers n ≡ true → AllByRecursion P numbers → P n
-one_of P [] n e all = absurd (cc)
-one_of P (m ∷ numbers) n e all =
-    ⊎_elim (λ (h : eqb n m ≡ true). subst P (sym (eqb-true n m h)) all.0) (λ (h : is_one_of numbers n ≡ true). one_of P numbers n h all.1) (or_cases (eqb n m) (is_one_of numbers n) e)
-
--- a choice that gives a value: one branch, or the other
-branch : {A P : Type 0} (b : Bool) (x y : Option A) (s : A) → cond b x y ≡ Some s → (b ≡ true → P) → (y ≡ Some s → P) → P
-branch true x y s e here there = here refl
-branch false x y s e here there = there e
-
--- the same, where the test is for listed types
-listed : (len : ℕ) (numbers : List ℕ) (kind : ℕ) (x y : Option Storage) (s : Storage) → cond (is_one_of numbers kind) x y ≡ Some s → AllByRecursion (HasLen len) numbers → (y ≡ Some s → HasLen len kind) → HasLen len kind
-listed len numbers kind x y s e all there = branch (is_one_of numbers kind) x y s e (λ h. one_of (HasLen len) numbers kind h all) there
-
--- the same, where the test is for one type
-named : (len number kind : ℕ) (x y : Option Storage) (s : Storage) → cond (eqb kind number) x y ≡ Some s → HasLen len number → (y ≡ Some s → HasLen len kind) → HasLen len kind
-named len number kind x y s e one there = branch (eqb kind number) x y s e (λ h. subst (HasLen len) (sym (eqb-true kind number h)) one) there
-
--- no storage is there
-unstored : {P : Type 0} (s : Storage) → ◌≡◌ {A = Option Storage} None (Some s) → P
-unstored s e = absurd (cc)
-
--- a type that is stored with no metadata has none
-plain_len : (kind : ℕ) (s : Storage) → plain_storage kind ≡ Some s → HasLen 0 kind
-unfolding plain_storage metadata_len_of
-plain_len kind s e =
-    listed 0 (1 ∷ 13 ∷ []) kind _ _ s e (refl, (refl, tt)) (λ e1.
-    named 0 2 kind _ _ s e1 refl (λ e2.
-    listed 0 (9 ∷ 10 ∷ 11 ∷ []) kind _ _ s e2 (refl, (refl, (refl, tt))) (λ e3.
-    listed 0 (3 ∷ 7 ∷ []) kind _ _ s e3 (refl, (refl, tt)) (λ e4.
-    listed 0 (8 ∷ 12 ∷ []) kind _ _ s e4 (refl, (refl, tt)) (λ e5. unstored s e5)))))
-
--- a type that is stored with one byte of metadata has one
-byte_len : (kind x : ℕ) (s : Storage) → byte_storage kind x ≡ Some s → HasLen 1 kind
-unfolding byte_storage metadata_len_of
-byte_len kind x s e =
-    named 1 4 kind _ _ s e refl (λ e1.
-    named 1 5 kind _ _ s e1 refl (λ e2.
-    named 1 17 kind _ _ s e2 refl (λ e3.
-    named 1 18 kind _ _ s e3 refl (λ e4.
-    named 1 19 kind _ _ s e4 refl (λ e5.
-    listed 1 (245 ∷ 252 ∷ 255 ∷ []) kind _ _ s e5 (refl, (refl, (refl, tt))) (λ e6. unstored s e6))))))
-
--- a type that is stored with two bytes of metadata has two
-pair_len : (kind x y : ℕ) (s : Storage) → pair_storage kind x y ≡ Some s → HasLen 2 kind
-unfolding pair_storage metadata_len_of
-pair_len kind x y s e =
-    named 2 15 kind _ _ s e refl (λ e1.
-    named 2 16 kind _ _ s e1 refl (λ e2.
-    named 2 246 kind _ _ s e2 refl (λ e3.
-    named 2 254 kind _ _ s e3 refl (λ e4. unstored s e4))))
-
--- a column that is stored has as much metadata as its type says
-pub stored_len : (kind : ℕ) (metadata : List ℕ) (s : Storage) → storage_by kind metadata ≡ Some s → metadata_len_of kind ≡ Some (length metadata)
-stored_len kind [] s e = plain_len kind s e
-stored_len kind (x ∷ []) s e = byte_len kind x s e
-stored_len kind (x ∷ y ∷ []) s e = pair_len kind x y s e
-stored_len kind (x ∷ y ∷ z ∷ more) s e = unstored s e
-
--- the same of a column of the profile
-pub column_len : (column : Column) → is_column column ≡ true → metadata_len_of column.kind ≡ Some (length column.metadata)
-column_len column e = by_case (storage_of column) refl e
-  where
-    by_case : (o : Option Storage) → storage_of column ≡ o → is_some o ≡ true → metadata_len_of column.kind ≡ Some (length column.metadata)
-    by_case None found h = absurd (cc)
-    by_case (Some s) found h = stored_len column.kind column.metadata s found
 
 -- ---- columns of bytes, and bytes of columns
 

@@ -2,6 +2,7 @@ pub mod Results
 pub mod Cutting
 pub mod PackedLemmas
 pub mod Images
+pub mod ColumnTypes
 pub mod NameLemmas
 pub mod Layouts
 pub mod Bodies
@@ -18,4 +19,5 @@ pub mod Reversing
 pub mod ReversedRows
 pub mod KnownRows
 pub mod RowsWalking
+pub mod StorageWalking
 pub mod WrittenBody

@@ -6,7 +6,7 @@ use Rattle.std.proofs.lemmas.Bool.{and_parts}
 use Rattle.std.specs.List.{list_all}
 use Rattle.blog_row.specs.Column.{metadata_len_of, storage_by, is_column, own_metadata_len, metadata_total, columns_of}
 use Rattle.blog_row.specs.LayoutReading.{column_here, are_known, total_of}
-use Rattle.blog_row.proofs.Layouts.{column_len}
+use Rattle.blog_row.proofs.ColumnTypes.{column_len}
 
 -- the type at i, and those after it
 pub split_index : (kinds : List ℕ) (i : ℕ) → i < length kinds → drop i kinds ≡ get_or kinds i 0 ∷ drop (i + 1) kinds

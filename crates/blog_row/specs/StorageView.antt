@@ -1,10 +1,10 @@
 -- What a contract sees of a storage.
-use Rattle.std.specs.Prelude.{ℕ}
+use Rattle.std.specs.Prelude.{◌≡◌, ℕ, List, [], ◌∷◌, Some}
 use Rattle.blog_row.specs.declared.column.Prefix.{Prefix}
 use Rattle.blog_row.specs.declared.column.Prefix.TheVariants.{One, Two, Three, Four}
 use Rattle.blog_row.specs.declared.column.Storage as told
 use Rattle.blog_row.specs.declared.column.Storage.TheVariants as variants
-use Rattle.blog_row.specs.Column.{Storage, Fixed, Counted}
+use Rattle.blog_row.specs.Column.{Layout, Storage, Fixed, Counted, storage_of}
 
 -- how many bytes a length has
 abbrev pub prefix_seen : Prefix → ℕ
@@ -17,3 +17,10 @@ prefix_seen Four = 4
 abbrev pub storage_seen : told.Storage → Storage
 storage_seen (variants.Fixed width) = Fixed width
 storage_seen (variants.Counted prefix) = Counted (prefix_seen prefix)
+
+-- the columns are stored so, each as the storage in its place
+abbrev pub AreStored : Layout → List told.Storage → Type 0
+AreStored [] [] = Unit {0}
+AreStored [] (storage ∷ storages) = ⊥
+AreStored (column ∷ columns) [] = ⊥
+AreStored (column ∷ columns) (storage ∷ storages) = (storage_of column ≡ Some (storage_seen storage)) × AreStored columns storages

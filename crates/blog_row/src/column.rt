@@ -1,7 +1,7 @@
 //! How the value of a column is stored.
 
-ghost use Rattle.std.specs.Prelude.{◌≡◌, ◌+◌, ◌/◌, ◌-◌, ◌≤◌, ◌==◌, nat_le, [], ◌∷◌, if◌then◌else◌, option_map, IfSome};
-ghost use Rattle.blog_row.specs.Column.{Fixed, Counted, when, is_one_of, digits_width, counted_up_to, string_greatest, metadata_len_of, plain_storage, byte_storage, pair_storage, storage_by};
+ghost use Rattle.std.specs.Prelude.{◌≡◌, ◌≤◌, ◌==◌, [], ◌∷◌, option_map, IfSome};
+ghost use Rattle.blog_row.specs.Column.{Fixed, when, with_fraction, counted_in, counted_up_to, digits_width, decimal_storage, string_storage, metadata_len_of, storage_by};
 ghost use Rattle.blog_row.specs.StorageView.{prefix_seen, storage_seen};
 
 use crate::constants::{
@@ -52,7 +52,7 @@ pub(crate) enum Storage {
 /// How many bytes of metadata a type has, where the profile has the type
 /// (MySQL Internals manual, "Table_map_event").
 #[inline(always)]
-#[tactic(auto, unfolding(crate::specs::Column::metadata_len_of))]
+#[tactic(auto, unfolding(crate::specs::Column::metadata_len_of, crate::specs::Column::column_types))]
 pub(crate) fn metadata_len(kind: u8) -> Option<usize>
     ensures exact { result ≡ metadata_len_of kind }
     ensures few { IfSome result (λ len. len ≤ 2) }
@@ -96,7 +96,7 @@ fn prefix_up_to(greatest: usize) -> Storage
 /// A value behind a length of so many bytes, where that is allowed.
 #[inline(always)]
 fn counted(prefix: u8) -> Option<Storage>
-    ensures { option_map storage_seen result ≡ when (is_one_of (1 ∷ 2 ∷ 3 ∷ 4 ∷ []) prefix) (Counted prefix) }
+    ensures { option_map storage_seen result ≡ counted_in prefix }
 {
     match prefix {
         1 => Some(Storage::Counted(Prefix::One)),
@@ -123,7 +123,7 @@ fn repeated(width: u8, metadata: u8) -> Option<Storage>
 #[inline(always)]
 fn with_fraction(seconds: usize, digits: u8) -> Option<Storage>
     requires { seconds ≤ 8 }
-    ensures { option_map storage_seen result ≡ when (nat_le digits 6) (Fixed (seconds + (digits + 1) / 2)) }
+    ensures { option_map storage_seen result ≡ with_fraction seconds digits }
 {
     if digits <= 6 {
         Some(Storage::Fixed(seconds + (usize::from(digits) + 1) / 2))
@@ -149,9 +149,9 @@ fn digits_bytes(digits: u8) -> usize
 
 /// The storage of a type that has no metadata.
 #[inline(always)]
-#[tactic(auto, unfolding(crate::specs::Column::plain_storage))]
+#[tactic(auto, unfolding(crate::specs::Column::storage_by, crate::specs::Column::column_types))]
 fn plain(kind: u8) -> Option<Storage>
-    ensures { option_map storage_seen result ≡ plain_storage kind }
+    ensures { option_map storage_seen result ≡ storage_by kind [] }
 {
     match kind {
         MYSQL_TYPE_TINY | MYSQL_TYPE_YEAR => Some(Storage::Fixed(1)),
@@ -165,9 +165,9 @@ fn plain(kind: u8) -> Option<Storage>
 
 /// The storage of a type that has one byte of metadata.
 #[inline(always)]
-#[tactic(auto, unfolding(crate::specs::Column::byte_storage))]
+#[tactic(auto, unfolding(crate::specs::Column::storage_by, crate::specs::Column::column_types))]
 fn of_byte(kind: u8, metadata: u8) -> Option<Storage>
-    ensures { option_map storage_seen result ≡ byte_storage kind metadata }
+    ensures { option_map storage_seen result ≡ storage_by kind (metadata ∷ []) }
 {
     match kind {
         MYSQL_TYPE_FLOAT => repeated(4, metadata),
@@ -183,7 +183,7 @@ fn of_byte(kind: u8, metadata: u8) -> Option<Storage>
 /// The storage of a decimal of so many digits, of which `scale` stand behind the point.
 #[inline(always)]
 fn decimal(digits: u8, scale: u8) -> Option<Storage>
-    ensures { option_map storage_seen result ≡ when (nat_le scale digits) (Fixed (digits_width (digits - scale) + digits_width scale)) }
+    ensures { option_map storage_seen result ≡ decimal_storage digits scale }
 {
     if scale <= digits {
         Some(Storage::Fixed(digits_bytes(digits - scale) + digits_bytes(scale)))
@@ -195,7 +195,7 @@ fn decimal(digits: u8, scale: u8) -> Option<Storage>
 /// The storage of a STRING column: an ENUM or a SET of so many bytes, or text up to a greatest length.
 #[inline(always)]
 fn string(real: u8, low: u8) -> Storage
-    ensures { storage_seen result ≡ if is_one_of (247 ∷ 248 ∷ []) real then Fixed low else counted_up_to (string_greatest real low) }
+    ensures { storage_seen result ≡ string_storage real low }
 {
     match real {
         MYSQL_TYPE_ENUM | MYSQL_TYPE_SET => Storage::Fixed(usize::from(low)),
@@ -208,9 +208,9 @@ fn string(real: u8, low: u8) -> Storage
 
 /// The storage of a type that has two bytes of metadata.
 #[inline(always)]
-#[tactic(auto, unfolding(crate::specs::Column::pair_storage))]
+#[tactic(auto, unfolding(crate::specs::Column::storage_by, crate::specs::Column::column_types))]
 fn of_pair(kind: u8, first: u8, second: u8) -> Option<Storage>
-    ensures { option_map storage_seen result ≡ pair_storage kind first second }
+    ensures { option_map storage_seen result ≡ storage_by kind (first ∷ second ∷ []) }
 {
     match kind {
         MYSQL_TYPE_VARCHAR => Some(prefix_up_to(usize::from(first) + 256 * usize::from(second))),
@@ -227,6 +227,7 @@ fn of_pair(kind: u8, first: u8, second: u8) -> Option<Storage>
 /// How a column is stored, where its type and its metadata are allowed
 /// (MySQL Internals manual, "Table_map_event", and MySQL's field.cc on the metadata of each type).
 #[inline(always)]
+#[tactic(auto, using(crate::proofs::ColumnTypes::stored_by_none, crate::proofs::ColumnTypes::stored_by_byte, crate::proofs::ColumnTypes::stored_by_pair, crate::proofs::ColumnTypes::stored_by_more))]
 pub(crate) fn stored_as(kind: u8, metadata: &[u8]) -> Option<Storage>
     ensures { option_map storage_seen result ≡ storage_by kind metadata.now }
 {

@@ -12,6 +12,7 @@ use crate::fault::RowFault;
 use crate::image::image_at;
 use crate::names::names_at;
 use crate::packed::packed_at;
+use crate::storages::{MOST_STORAGES, len_by, storages_of};
 use crate::values::Values;
 
 /// How many bytes of metadata the types have together, where the profile has each of them.
@@ -139,6 +140,7 @@ impl Layout<'_> {
     ghost use Rattle.blog_row.specs.Image.{IsSomeImage, image_len_of, value_of};
     ghost use Rattle.blog_row.specs.ImageView.{value_seen};
     ghost use Rattle.blog_row.specs.LayoutView.{layout_columns};
+    ghost use Rattle.blog_row.specs.StorageView.{AreStored};
     ghost use Rattle.blog_row.specs.TableMap.{is_same_layout};
 
     /// The number of columns.
@@ -156,6 +158,7 @@ impl Layout<'_> {
     }
 
     /// How long the image is with which the bytes begin, in bytes; None where they begin with none.
+    #[inline(always)]
     pub fn image_len(&self, bytes: &[u8]) -> Option<usize>
         ensures exact { result ≡ image_len_of (layout_columns self.now) bytes.now }
         ensures found { IfSome result (λ m. (m ≤ length bytes.now) × IsSomeImage (layout_columns self.now) (take m bytes.now)) }
@@ -164,6 +167,28 @@ impl Layout<'_> {
         // Any column will do: its value is not asked for.
         let front = image_at(self.kinds, self.metadata, bytes, 0)?;
         Some(bytes.len() - front.rest.len())
+    }
+
+    /// How each column is stored, where there are at most 64; what stands behind them means nothing.
+    #[inline(always)]
+    pub(crate) fn storages(&self) -> [Storage; MOST_STORAGES]
+        requires few { length (layout_columns self.now) ≤ 64 }
+        ensures { AreStored (layout_columns self.now) (take (length (layout_columns self.now)) result) }
+    {
+        storages_of(self.kinds, self.metadata)
+    }
+
+    /// Answers as `image_len` does, by the storages of the columns where they were looked up.
+    #[inline(always)]
+    pub(crate) fn image_len_by(&self, storages: Option<&[Storage]>, bytes: &[u8]) -> Option<usize>
+        requires { IfSome storages (λ each. AreStored (layout_columns self.now) each.now) }
+        ensures exact { result ≡ image_len_of (layout_columns self.now) bytes.now }
+        ensures within { IfSome result (λ m. m ≤ length bytes.now) }
+    {
+        match storages {
+            Some(storages) => len_by(storages, bytes),
+            None => self.image_len(bytes),
+        }
     }
 
     /// The value of a column, counted from 0, in the image with which the bytes begin: its bytes without their

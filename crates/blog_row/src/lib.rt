@@ -5,6 +5,7 @@ mod column;
 mod constants;
 mod fault;
 mod image;
+mod image_walks;
 mod kind;
 mod laws;
 mod layout;
@@ -14,6 +15,7 @@ mod packed;
 mod rows;
 mod rows_event;
 mod rows_parts;
+mod storages;
 mod table_map;
 mod values;
 

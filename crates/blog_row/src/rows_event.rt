@@ -10,11 +10,12 @@ ghost use Rattle.blog_row.specs.RowsEvent.{bitmaps_by, fixed_len, two_bitmaps};
 ghost use Rattle.blog_row.specs.RowsWriting.{no_extra};
 
 use crate::fault::RowFault;
+use crate::image_walks::{images_in, put_from_last};
 use crate::kind::{RowsAction, RowsKind, RowsVersion};
 use crate::layout::Layout;
 use crate::order::Order;
 use crate::packed::packed_at;
-use crate::rows_parts::{all_set, bitmaps_at, front_at, images_in};
+use crate::rows_parts::{all_set, bitmaps_at, front_at};
 use byteorder::{ByteOrder, LittleEndian};
 
 /// How long the fixed part is: id and flags, and in version 2 the length of the extra bytes.
@@ -353,16 +354,7 @@ impl<'a> RowsEvent<'a> {
         requires room { length to.old ≡ length (concat (rows_body self.now).images) }
         ensures images { to.new ≡ concat (reverse (rows_body self.now).images) }
     {
-        let mut rest = self.images();
-        while !rest.is_empty() {
-            let Some(len) = self.layout().image_len(rest) else {
-                unreachable!();
-            };
-            let (image, behind) = rest.split_at(len);
-            // As many bytes are still free in front as there are still to be read.
-            to[behind.len()..rest.len()].copy_from_slice(image);
-            rest = behind;
-        }
+        put_from_last(&self.layout(), self.images(), to);
     }
 
     /// The bitmaps that are written; the second is empty where there is none.

@@ -181,3 +181,88 @@ fn writes_inserts_as_deletes(rt: HostRuntime) -> Result<(), Fail> {
     );
     Ok(())
 }
+
+/// The table map's fields behind the names, of TINY, VARCHAR and BLOB columns by turns.
+fn push_table(table: &mut Vec<u8>, columns: usize) -> Result<(), Fail> {
+    let mut metadata = Vec::new(*table.allocator());
+    table.push(u8::try_from(columns)?)?;
+    for i in 0..columns {
+        match i % 3 {
+            0 => table.push(1)?,
+            1 => {
+                table.push(15)?;
+                metadata.extend_from_slice(&[0xFF, 0])?;
+            }
+            _ => {
+                table.push(252)?;
+                metadata.push(2)?;
+            }
+        }
+    }
+    table.push(u8::try_from(metadata.len())?)?;
+    table.extend_from_slice(&metadata)?;
+    for _ in 0..columns.div_ceil(8) {
+        table.push(0xFF)?;
+    }
+    Ok(())
+}
+
+/// The null bits of each eight columns, by turns: none of them is NULL, all are, and some.
+static NULLS: [u8; 4] = [0x00, 0xFF, 0x92, 0x6D];
+
+/// The image of a row of such columns.
+fn push_image(images: &mut Vec<u8>, columns: usize, row: u8) -> Result<(), AllocError> {
+    let nulls = NULLS[usize::from(row % 4)];
+    for _ in 0..columns.div_ceil(8) {
+        images.push(nulls)?;
+    }
+    for i in 0..columns {
+        if (nulls >> (i % 8)) & 1 == 0 {
+            match i % 3 {
+                0 => images.push(row)?,
+                1 => images.extend_from_slice(&[2, row, 0x61])?,
+                _ => images.extend_from_slice(&[1, 0, row])?,
+            }
+        }
+    }
+    Ok(())
+}
+
+/// Up to 64 columns are walked by their storages in an event of so many images, and more column by column.
+#[test]
+fn many_images_of_few_columns_and_of_many(rt: HostRuntime) -> Result<(), Fail> {
+    for columns in [1usize, 8, 9, 64, 65] {
+        let mut table = Vec::new(rt.alloc());
+        push_table(&mut table, columns)?;
+        let layout = Layout::at(&table).expect(&rt, "a layout");
+
+        let mut images = Vec::new(rt.alloc());
+        let mut reversed = Vec::new(rt.alloc());
+        for row in 0..97u8 {
+            push_image(&mut images, columns, row)?;
+            push_image(&mut reversed, columns, 96 - row)?;
+        }
+        assert!(rt; images.len() / 64 > columns);
+
+        let mut body = vec![in rt.alloc(); 0x6C, 0, 0, 0, 0, 0, 1, 0, 2, 0]?;
+        body.push(u8::try_from(columns)?)?;
+        for _ in 0..columns.div_ceil(8) {
+            body.push(0xFF)?;
+        }
+        body.extend_from_slice(&images)?;
+        let kind = RowsKind {
+            version: RowsVersion::Two,
+            action: RowsAction::Write,
+        };
+        let (event, len) = RowsEvent::read_counted(kind, &body, &layout).expect(&rt, "an event");
+        assert_eq!(rt; len, 97);
+        let mut room = vec![in rt.alloc(); 0xAA; event.rows_len()]?;
+        event.put_reversed(&mut room);
+        assert_eq!(rt; room.as_slice(), reversed.as_slice());
+
+        let (_, cut) = body.split_last().expect(&rt, "a byte");
+        let refused = RowsEvent::read_counted(kind, cut, &layout);
+        assert!(rt; refused.is_err());
+    }
+    Ok(())
+}

@@ -4,15 +4,13 @@ ghost use Rattle.std.specs.Prelude.{◌≡◌, ◌≤◌, ◌*◌, length, optio
 ghost use Rattle.std.specs.List.{list_all, AllByRecursion};
 ghost use Rattle.blog_row.specs.Checks.{or_bad};
 ghost use Rattle.blog_row.specs.RowsKind.{images_a_row};
-ghost use Rattle.blog_row.specs.Image.{images_of, bitmap_len};
-ghost use Rattle.blog_row.specs.LayoutView.{layout_columns};
+ghost use Rattle.blog_row.specs.Image.{bitmap_len};
 ghost use Rattle.blog_row.specs.RowsEvent.{are_marked, pieces, bitmaps_by, extra_of, two_bitmaps};
 ghost use Rattle.blog_row.specs.RowsEventView.{extra_seen, front_seen, rows_front, bitmaps_seen};
 ghost use Rattle.blog_row.specs.declared.kind.RowsVersion.TheVariants.{Two};
 
 use crate::image::{cut_at, is_set};
 use crate::kind::{RowsAction, RowsVersion};
-use crate::layout::Layout;
 use byteorder::{ByteOrder, LittleEndian};
 
 /// The fields of a rows event's body up to its extra bytes.
@@ -146,19 +144,4 @@ pub(crate) fn all_set(action: RowsAction, first: &[u8], second: &[u8], columns: 
         RowsAction::Write | RowsAction::Delete => are_set(first, columns),
         RowsAction::Update => are_set(first, columns) && are_set(second, columns),
     }
-}
-
-/// How many images the bytes are, one after the other and without a remainder.
-pub(crate) fn images_in(layout: &Layout<'_>, bytes: &[u8]) -> Option<usize>
-    ensures { result ≡ option_map length (images_of (layout_columns layout.now) bytes.now) }
-{
-    let mut rest = bytes;
-    let mut images = 0;
-    while !rest.is_empty() {
-        let len = layout.image_len(rest)?;
-        let (_, behind) = rest.split_at(len);
-        rest = behind;
-        images += 1;
-    }
-    Some(images)
 }

@@ -2,7 +2,7 @@ use Rattle.std.proofs.Common.{◌≡◌, ◌+◌, ◌≤◌, length, option_map}
 use Rattle.blog_row.specs.Image.{images_of}
 use Rattle.blog_row.specs.LayoutView.{layout_columns}
 use Rattle.blog_row.proofs.RowsCode.{counted}
-use Rattle.blog_row.proofs.rows_parts.images_in.Given as goal
+use Rattle.blog_row.proofs.image_walks.count.Given as goal
 
 abbrev pub invariant-loop-rest : goal.invariant-loop-rest
 invariant-loop-rest l =

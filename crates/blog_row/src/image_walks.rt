@@ -1,0 +1,103 @@
+//! Going through the images of a rows event, one after the other.
+
+ghost use Rattle.std.specs.Prelude.{◌≡◌, ◌≤◌, true, length, is_some, option_map, unwrap_or, reverse, [], IfSome};
+ghost use Rattle.std.specs.List.{concat};
+ghost use Rattle.blog_row.specs.Image.{images_of};
+ghost use Rattle.blog_row.specs.LayoutView.{layout_columns};
+ghost use Rattle.blog_row.specs.StorageView.{AreStored};
+
+use crate::column::Storage;
+use crate::layout::Layout;
+use crate::storages::MOST_STORAGES;
+
+/// Whether it pays to look up how the columns are stored before images of so many bytes are read: where the columns are
+/// few, and the images are many beside them.
+fn pays(layout: &Layout<'_>, len: usize) -> bool
+    ensures { result ≡ true → length (layout_columns layout.now) ≤ 64 }
+{
+    let columns = layout.columns();
+    columns <= MOST_STORAGES && 64 * columns < len
+}
+
+/// How many images the bytes are, one after the other and without a remainder.
+pub(crate) fn images_in(layout: &Layout<'_>, bytes: &[u8]) -> Option<usize>
+    ensures { result ≡ option_map length (images_of (layout_columns layout.now) bytes.now) }
+{
+    if pays(layout, bytes.len()) {
+        many_images_in(layout, bytes)
+    } else {
+        count(layout, None, bytes)
+    }
+}
+
+/// The same, where the columns are few.
+#[inline(never)]
+fn many_images_in(layout: &Layout<'_>, bytes: &[u8]) -> Option<usize>
+    requires { length (layout_columns layout.now) ≤ 64 }
+    ensures { result ≡ option_map length (images_of (layout_columns layout.now) bytes.now) }
+{
+    let storages = layout.storages();
+    count(layout, Some(&storages[..layout.columns()]), bytes)
+}
+
+/// Counts the images, by the storages of the columns where they were looked up.
+#[inline(always)]
+fn count(layout: &Layout<'_>, storages: Option<&[Storage]>, bytes: &[u8]) -> Option<usize>
+    requires { IfSome storages (λ each. AreStored (layout_columns layout.now) each.now) }
+    ensures { result ≡ option_map length (images_of (layout_columns layout.now) bytes.now) }
+{
+    let mut rest = bytes;
+    let mut images = 0;
+    while !rest.is_empty() {
+        let len = layout.image_len_by(storages, rest)?;
+        let (_, behind) = rest.split_at(len);
+        rest = behind;
+        images += 1;
+    }
+    Some(images)
+}
+
+/// Writes images from the last to the first into room of their size. It takes no memory.
+pub(crate) fn put_from_last(layout: &Layout<'_>, bytes: &[u8], to: &mut [u8])
+    requires imaged { is_some (images_of (layout_columns layout.now) bytes.now) ≡ true }
+    requires room { length to.old ≡ length bytes.now }
+    ensures { to.new ≡ concat (reverse (unwrap_or (images_of (layout_columns layout.now) bytes.now) [])) }
+{
+    if pays(layout, bytes.len()) {
+        put_many_from_last(layout, bytes, to);
+    } else {
+        put(layout, None, bytes, to);
+    }
+}
+
+/// The same, where the columns are few.
+#[inline(never)]
+fn put_many_from_last(layout: &Layout<'_>, bytes: &[u8], to: &mut [u8])
+    requires few { length (layout_columns layout.now) ≤ 64 }
+    requires imaged { is_some (images_of (layout_columns layout.now) bytes.now) ≡ true }
+    requires room { length to.old ≡ length bytes.now }
+    ensures { to.new ≡ concat (reverse (unwrap_or (images_of (layout_columns layout.now) bytes.now) [])) }
+{
+    let storages = layout.storages();
+    put(layout, Some(&storages[..layout.columns()]), bytes, to);
+}
+
+/// Writes the images, by the storages of the columns where they were looked up.
+#[inline(always)]
+fn put(layout: &Layout<'_>, storages: Option<&[Storage]>, bytes: &[u8], to: &mut [u8])
+    requires stored { IfSome storages (λ each. AreStored (layout_columns layout.now) each.now) }
+    requires imaged { is_some (images_of (layout_columns layout.now) bytes.now) ≡ true }
+    requires room { length to.old ≡ length bytes.now }
+    ensures { to.new ≡ concat (reverse (unwrap_or (images_of (layout_columns layout.now) bytes.now) [])) }
+{
+    let mut rest = bytes;
+    while !rest.is_empty() {
+        let Some(len) = layout.image_len_by(storages, rest) else {
+            unreachable!();
+        };
+        let (image, behind) = rest.split_at(len);
+        // As many bytes are still free in front as there are still to be read.
+        to[behind.len()..rest.len()].copy_from_slice(image);
+        rest = behind;
+    }
+}

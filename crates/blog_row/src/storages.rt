@@ -1,0 +1,60 @@
+//! How the columns of a table are stored, looked up once for many images.
+
+ghost use Rattle.std.specs.Prelude.{◌≡◌, ◌≤◌, ◌*◌, true, length, take, option_map, IfSome};
+ghost use Rattle.std.specs.List.{list_all};
+ghost use Rattle.blog_row.specs.Column.{Layout, columns_of, is_column};
+ghost use Rattle.blog_row.specs.Image.{image_len_of, values_front};
+ghost use Rattle.blog_row.specs.StorageView.{AreStored};
+
+use crate::column::Storage;
+use crate::image::{cut_at, is_set, stored_at};
+use crate::layout::column_at;
+
+/// The most columns whose storages are looked up for many images.
+pub(crate) const MOST_STORAGES: usize = 64;
+
+/// The storages of columns, in order; those behind them mean nothing.
+#[inline(always)]
+pub(crate) fn storages_of(kinds: &[u8], metadata: &[u8]) -> [Storage; MOST_STORAGES]
+    requires few { length kinds.now ≤ 64 }
+    requires known { list_all is_column (columns_of kinds.now metadata.now) ≡ true }
+    ensures { AreStored (columns_of kinds.now metadata.now) (take (length kinds.now) result) }
+{
+    let mut storages = [Storage::Fixed(0); MOST_STORAGES];
+    let mut left = metadata;
+    for i in 0..kinds.len() {
+        let (storage, others) = column_at(kinds, i, left);
+        storages[i] = storage;
+        left = others;
+    }
+    storages
+}
+
+/// The bytes behind the values of columns at the front, by their null bits.
+#[inline(always)]
+fn behind_values<'a>(storages: &[Storage], nulls: &[u8], bytes: &'a [u8]) -> Option<&'a [u8]>
+    requires long { length storages.now ≤ 8 * length nulls.now }
+    ensures exact { (columns : Layout) → AreStored columns storages.now → option_map (λ rest. rest.now) result ≡ option_map (λ r. r.1) (values_front columns nulls.now 0 bytes.now) }
+    ensures within { IfSome result (λ rest. length rest.now ≤ length bytes.now) }
+{
+    let mut rest = bytes;
+    'columns: for (i, storage) in storages.iter().enumerate() {
+        if !is_set(nulls, i) {
+            let (_, behind) = stored_at(*storage, rest)?;
+            rest = behind;
+        }
+    }
+    Some(rest)
+}
+
+/// How long the image is with which the bytes begin, in bytes; None where they begin with none. Its columns are stored
+/// so.
+#[inline(always)]
+pub(crate) fn len_by(storages: &[Storage], bytes: &[u8]) -> Option<usize>
+    ensures exact { (columns : Layout) → AreStored columns storages.now → result ≡ image_len_of columns bytes.now }
+    ensures within { IfSome result (λ m. m ≤ length bytes.now) }
+{
+    let (nulls, values) = cut_at(storages.len().div_ceil(8), bytes)?;
+    let rest = behind_values(storages, nulls, values)?;
+    Some(bytes.len() - rest.len())
+}
