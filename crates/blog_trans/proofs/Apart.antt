@@ -1,112 +1,81 @@
--- Spans and the statements cut from them lie apart in the events that they are taken of: whatever number each event has,
--- the sum over them is no larger than that over the events.
-use Rattle.std.proofs.Common.{◌≡◌, ℕ, ◌+◌, ◌≤◌, Bool, true, false, List, [], ◌∷◌, find, not, Option, Some, None, ap, arith}
-use Rattle.std.specs.Prelude.{if◌then◌else◌, option_map}
-use Rattle.std.specs.Option.{option_map_or}
-use Rattle.blog_event.specs.declared.fault.Fault.TheVariants.{OutOfPlace}
-use Rattle.blog_event.specs.Fault.{first_failing}
+-- What the progress keeps lies apart in the events that it is taken of: whatever number each event has, the sum over what
+-- is kept is no larger than that over the events.
+use Rattle.std.proofs.Common.{◌≡◌, ℕ, ◌+◌, ◌≤◌, Bool, true, false, ◌&&◌, if◌then◌else◌, List, [], ◌∷◌, map, filter, not, bytes_eq, Option, Some, None, refl, ap, arith}
+use Rattle.std.specs.List.{cons_option, filter_map, flat_map, list_any}
 use Rattle.blog_event.specs.File.{Placed}
-use Rattle.blog_event.specs.Format.{front_while}
-use Rattle.blog_trans.specs.declared.kind.EventKind.{EventKind}
-use Rattle.blog_trans.specs.declared.kind.EventKind.TheVariants as kind
+use Rattle.blog_row.specs.RowsEvent.{table_id}
 use Rattle.blog_trans.specs.Selection.{Selection}
-use Rattle.blog_trans.specs.Kinds.{is_begin_kind, is_end_kind}
-use Rattle.blog_trans.specs.Places.{kind_at, is_end, is_last_rows, place, is_inside, is_outside, leads_to}
-use Rattle.blog_trans.specs.Acceptance.{checks, Passes}
-use Rattle.blog_trans.specs.Groups.{Span, cons_if, spans, onto_first, statements_of}
-use Rattle.blog_trans.proofs.Sums.{sum_of}
-use Rattle.blog_trans.proofs.ProgressSteps.{needs-passed, not-holds, outside-not-inside}
+use Rattle.blog_trans.specs.Kinds.{is_map_kind}
+use Rattle.blog_trans.specs.Places.{is_map}
+use Rattle.blog_trans.specs.Groups.{PlacedRows, PlacedStatement, PlacedTransaction, kept_rows, first_maps, statement_if, transaction_if}
+use Rattle.blog_trans.specs.Progress.{Open, appended_if}
+use Rattle.blog_trans.specs.Shown.{statement_shown, transaction_shown}
+use Rattle.blog_trans.proofs.Sums.{sum_of, sum-append, sum-map, sum-joined}
+use Rattle.blog_trans.proofs.KeptRows.{kept-facts}
 
--- ---- statements
+-- ---- rows events that are kept
 
--- an event in front of the first of lists adds at most its own number
-onto-fits : (w : Placed → ℕ) (p : Placed) (ss : List (List Placed)) → sum_of (sum_of w) (onto_first p ss) ≤ w p + sum_of (sum_of w) ss
-onto-fits w p [] = omega arith
-onto-fits w p (s ∷ ss) = omega arith
+-- it is no map, and the event is the one that it was read of
+kept-own : (sel : Selection) (s : List Placed) (p : Placed) (r : PlacedRows) → kept_rows sel s p ≡ Some r → (is_map p ≡ false) × (r.event ≡ p)
+kept-own sel s p r e = let kept = kept-facts sel s p r e in (ap is_map_kind kept.kind_is, kept.event_is)
 
--- statements are cut apart from the events
-pub statements-fit : (w : Placed → ℕ) (ps : List Placed) → sum_of (sum_of w) (statements_of ps) ≤ sum_of w ps
-statements-fit w [] = omega arith
-statements-fit w (p ∷ ps) = one (is_last_rows p) (statements-fit w ps)
-  where
-    one : (b : Bool) → sum_of (sum_of w) (statements_of ps) ≤ sum_of w ps → sum_of (sum_of w) (if b then (p ∷ []) ∷ statements_of ps else onto_first p (statements_of ps)) ≤ w p + sum_of w ps
-    one true others = omega arith
-    one false others = let first = onto-fits w p (statements_of ps) in omega arith
+-- ---- a statement
 
--- ---- spans
+-- the number of a rows event's own event
+abbrev rows_sum : (Placed → ℕ) → List PlacedRows → ℕ
+rows_sum w rows = sum_of (λ (r : PlacedRows). w r.event) rows
 
--- the sum over a span
-abbrev pub span_sum : (Placed → ℕ) → Span → ℕ
-span_sum w s = w s.begin + (sum_of w s.inside + w s.end)
+-- one more event is taken as a map, or kept as a rows event, or neither
+once-step : (w : Placed → ℕ) (p : Placed) (map any : Bool) (o : Option PlacedRows) → ((r : PlacedRows) → o ≡ Some r → (map ≡ false) × (r.event ≡ p))
+    → (with_it without : List Placed) (rows : List PlacedRows) (n : ℕ) → sum_of w with_it + rows_sum w rows ≤ n → sum_of w without + rows_sum w rows ≤ n
+    → sum_of w (if map && any then p ∷ with_it else without) + rows_sum w (cons_option o rows) ≤ w p + n
+once-step w p true true None own with_it without rows n one other = omega arith
+once-step w p true false None own with_it without rows n one other = omega arith
+once-step w p false any None own with_it without rows n one other = omega arith
+once-step w p true any (Some r) own with_it without rows n one other = let never : true ≡ false = (own r refl).0 in absurd (cc)
+once-step w p false any (Some r) own with_it without rows n one other = let same : w r.event ≡ w p = ap w (own r refl).1 in omega arith
 
--- the sum over what an open transaction takes of the events that follow: those up to its end, if it has one
-abbrev pub open_sum : (Placed → ℕ) → List Placed → ℕ
-open_sum w ps = option_map_or (λ end. sum_of w (front_while (λ x. not (is_end x)) ps) + w end) (find is_end ps) 0
+-- maps and rows events are taken of different events
+once-total : (w : Placed → ℕ) (sel : Selection) (s es : List Placed) (ids : List (List ℕ))
+    → sum_of w (first_maps ids es) + rows_sum w (filter_map (kept_rows sel s) es) ≤ sum_of w es
+once-total w sel s [] ids = omega arith
+once-total w sel s (p ∷ es) ids =
+    once-step w p (is_map p) (list_any (λ id. bytes_eq (table_id p.event.body) id) ids) (kept_rows sel s p) (kept-own sel s p)
+    (first_maps (filter (λ id. not (bytes_eq (table_id p.event.body) id)) ids) es) (first_maps ids es) (filter_map (kept_rows sel s) es) (sum_of w es)
+    (once-total w sel s es (filter (λ id. not (bytes_eq (table_id p.event.body) id)) ids)) (once-total w sel s es ids)
 
--- the same, where the first of them may be the end
-abbrev open_sum_at : (Placed → ℕ) → Bool → Placed → List Placed → ℕ
-open_sum_at w end p ps =
-    option_map_or (λ e. sum_of w (if not end then p ∷ front_while (λ x. not (is_end x)) ps else []) + w e) (if end then Some p else find is_end ps) 0
+-- the sum over a statement, and over a transaction
+abbrev pub statement_sum : (Placed → ℕ) → PlacedStatement → ℕ
+statement_sum w s = sum_of w (statement_shown s)
 
--- with one more event in front it takes that one more at most
-open-more : (w : Placed → ℕ) (end : Bool) (p : Placed) (ps : List Placed) → open_sum_at w end p ps ≤ w p + open_sum w ps
-open-more w true p ps = omega arith
-open-more w false p ps = by_end (find is_end ps)
-  where
-    by_end : (o : Option Placed) → option_map_or (λ e. sum_of w (p ∷ front_while (λ x. not (is_end x)) ps) + w e) o 0
-        ≤ w p + option_map_or (λ end. sum_of w (front_while (λ x. not (is_end x)) ps) + w end) o 0
-    by_end None = omega arith
-    by_end (Some e) = omega arith
+abbrev pub transaction_sum : (Placed → ℕ) → PlacedTransaction → ℕ
+transaction_sum w t = sum_of w (transaction_shown t)
 
--- a span is its `BEGIN` and what that takes
-abbrev opened : Placed → List Placed → List Span
-opened p ps = cons_if (option_map (λ end. record { begin = p; inside = front_while (λ x. not (is_end x)) ps; end = end }) (find is_end ps)) (spans ps)
+-- a statement that is kept of events adds at most the sum over these
+pub statement-fits : (w : Placed → ℕ) (sel : Selection) (events : List Placed) (rows : List PlacedRows) (ss : List PlacedStatement) → rows ≡ filter_map (kept_rows sel events) events
+    → sum_of (statement_sum w) (appended_if ss (statement_if events rows)) ≤ sum_of (statement_sum w) ss + sum_of w events
+statement-fits w sel events [] ss same = omega arith
+statement-fits w sel events (r ∷ rows) ss same =
+    let ids : List (List ℕ) = map (λ (x : PlacedRows). table_id x.event.event.body) (r ∷ rows) in
+    let sum = sum-append (statement_sum w) ss (record { maps = first_maps ids events; rows = r ∷ rows } ∷ []) in
+    let joined = sum-append w (first_maps ids events) (map (λ (x : PlacedRows). x.event) (r ∷ rows)) in
+    let own = sum-map w (λ (x : PlacedRows). x.event) (r ∷ rows) in
+    let kept = ap (rows_sum w) same in
+    omega (arith, once-total w sel events events ids)
 
--- its sum is no larger than that of both
-opened-fits : (w : Placed → ℕ) (p : Placed) (ps : List Placed) → sum_of (span_sum w) (opened p ps) ≤ w p + (open_sum w ps + sum_of (span_sum w) (spans ps))
-opened-fits w p ps = by_end (find is_end ps)
-  where
-    by_end : (o : Option Placed) → sum_of (span_sum w) (cons_if (option_map (λ end. record { begin = p; inside = front_while (λ x. not (is_end x)) ps; end = end }) o) (spans ps))
-        ≤ w p + (option_map_or (λ end. sum_of w (front_while (λ x. not (is_end x)) ps) + w end) o 0 + sum_of (span_sum w) (spans ps))
-    by_end None = omega arith
-    by_end (Some e) = omega arith
+-- ---- a transaction
 
--- the sum over what an open transaction takes, if one is open
-abbrev if_open : Bool → ℕ → ℕ
-if_open b n = if b then n else 0
+-- the sum over an open transaction, whose open statement has these events
+abbrev pub open_sum : (Placed → ℕ) → List Placed → Option Open → ℕ
+open_sum w statement None = 0
+open_sum w statement (Some o) = w o.begin + (sum_of (statement_sum w) o.statements + sum_of w statement)
 
--- an open transaction takes at most what it would take
-open-most : (b : Bool) (n : ℕ) → if_open b n ≤ n
-open-most true n = omega arith
-open-most false n = omega arith
-
--- one more event adds at most its own number
-open-step : (b : Bool) (e m n : ℕ) → m ≤ e + n → if_open b m ≤ e + if_open b n
-open-step true e m n fits = fits
-open-step false e m n fits = omega arith
-
--- one more event that passes, by its kind
-span-step : (w : Placed → ℕ) (sel : Selection) (earlier ps : List Placed) (p : Placed) (k : EventKind) → first_failing (checks sel earlier p k) ≡ None
-    → sum_of (span_sum w) (spans ps) + if_open (is_inside (option_map_or (λ led. led) (leads_to k) (place earlier))) (open_sum w ps) ≤ sum_of w ps
-    → sum_of (span_sum w) (if is_begin_kind k then opened p ps else spans ps) + if_open (is_inside (place earlier)) (open_sum_at w (is_end_kind k) p ps)
-    ≤ w p + sum_of w ps
-span-step w sel earlier ps p kind.Begin e others =
-    let out = not-holds (is_inside (place earlier)) (needs-passed (not (is_inside (place earlier))) OutOfPlace [] e).0 in
-    let none : if_open (is_inside (place earlier)) (open_sum_at w false p ps) ≡ 0 = ap (λ (b : Bool). if_open b (open_sum_at w false p ps)) out in
-    let own = opened-fits w p ps in
+-- its end adds at most its own number
+pub transaction-fits : (w : Placed → ℕ) (begin end : Placed) (ss : List PlacedStatement) (done : List PlacedTransaction)
+    → sum_of (transaction_sum w) (appended_if done (transaction_if (record { begin = begin; inside = []; end = end }) ss)) ≤ sum_of (transaction_sum w) done + (w begin + (sum_of (statement_sum w) ss + w end))
+transaction-fits w begin end [] done = omega arith
+transaction-fits w begin end (s ∷ ss) done =
+    let sum = sum-append (transaction_sum w) done (record { begin = begin; statements = s ∷ ss; end = end } ∷ []) in
+    let inside = sum-joined w statement_shown (statement_sum w) (λ x. refl) (s ∷ ss) in
+    let joined = sum-append w (flat_map statement_shown (s ∷ ss)) (end ∷ []) in
     omega arith
-span-step w sel earlier ps p kind.Commit e others = let own = open-most (is_inside (place earlier)) (open_sum_at w true p ps) in omega arith
-span-step w sel earlier ps p kind.Xid e others = let own = open-most (is_inside (place earlier)) (open_sum_at w true p ps) in omega arith
-span-step w sel earlier ps p kind.Announcement e others =
-    let out = outside-not-inside (place earlier) (needs-passed (is_outside (place earlier)) OutOfPlace [] e).0 in
-    let none : if_open (is_inside (place earlier)) (open_sum_at w false p ps) ≡ 0 = ap (λ (b : Bool). if_open b (open_sum_at w false p ps)) out in
-    omega arith
-span-step w sel earlier ps p _ e others =
-    let own = open-step (is_inside (place earlier)) (w p) (open_sum_at w false p ps) (open_sum w ps) (open-more w false p ps) in
-    omega arith
-
--- the spans of events that pass lie apart, also from what an open transaction takes
-pub spans-fit : (w : Placed → ℕ) (sel : Selection) (earlier ps : List Placed) → Passes sel earlier ps
-    → sum_of (span_sum w) (spans ps) + if_open (is_inside (place earlier)) (open_sum w ps) ≤ sum_of w ps
-spans-fit w sel earlier [] passes = let own = open-most (is_inside (place earlier)) 0 in omega arith
-spans-fit w sel earlier (p ∷ ps) passes = span-step w sel earlier ps p (kind_at p) passes.0 (spans-fit w sel (p ∷ earlier) ps passes.1)

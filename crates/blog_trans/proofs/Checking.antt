@@ -29,7 +29,8 @@ use Rattle.blog_trans.specs.StatementMaps.{MapFacts, first_of_ids, facts_of, fac
 use Rattle.blog_trans.specs.CheckerView.{HasChecked, LayoutsAgree, IsPassed, IsPassedStatement, is_rows_of, columns_known, column_checks}
 use Rattle.blog_trans.proofs.ProgressFirsts.{and-false}
 use Rattle.blog_trans.proofs.CheckingStatement.{facts-quiet, facts-kept, passed-quiet, passed-map}
-use Rattle.blog_trans.proofs.CheckingMaps.{all-snoc, maps-more}
+use Rattle.blog_row.proofs.ReversedRows.{all-append}
+use Rattle.blog_trans.proofs.CheckingMaps.{maps-more}
 use Rattle.blog_trans.proofs.CheckingLayouts.{layouts-quiet}
 use Rattle.blog_trans.proofs.TableNumbers.{numbered-grown}
 
@@ -121,7 +122,7 @@ knows-map-new sel p earlier checker after k v is passed none new place_same rows
       numbered =
           subst (λ es. AllByRecursion (IsNumbered (tables_known after.layouts)) (map (λ e. e.1) es)) (sym maps_more)
           (subst (AllByRecursion (IsNumbered (tables_known after.layouts))) (sym (map-append (λ (e : ℕ × MapSeen). e.1) checker.maps.entries ((k, v) ∷ [])))
-          (all-snoc (IsNumbered (tables_known after.layouts)) (values checker.maps) v (numbered-grown (tables_known checker.layouts) (tables_known after.layouts) (values checker.maps) grown h.numbered) own));
+          (all-append (IsNumbered (tables_known after.layouts)) (values checker.maps) (v ∷ []) (numbered-grown (tables_known checker.layouts) (tables_known after.layouts) (values checker.maps) grown h.numbered) (own, tt)));
     })
 
 -- a reading that gave a value was there

@@ -6,9 +6,11 @@ use Rattle.std.specs.Option.{option_map_or, option_or}
 use Rattle.std.specs.Result.{result_ok}
 use Rattle.std.specs.List.{list_any, AllByRecursion, IsDistinct}
 use Rattle.std.specs.Map.{lookup, set_value, keys_of}
-use Rattle.std.proofs.lemmas.Bool.{eq-eqb, eqb-true}
+use Rattle.std.proofs.lemmas.Bool.{eqb-true}
+use Rattle.std.proofs.lemmas.Bool.Decides.{Decides-eqb, Decides-like, same_from_decides}
 use Rattle.std.proofs.lemmas.List.{length-take-le, map-append, take_all, take_at}
 use Rattle.std.proofs.lemmas.List.Folds.{find-append}
+use Rattle.std.proofs.lemmas.Map.Keys.{IsDistinct-head, IsDistinct-tail}
 use Rattle.std.proofs.lemmas.Slice.Eq.{bytes_eq-Decides}
 use Rattle.byteorder.specs.Endian.{little_number, little_bytes}
 use Rattle.blog_event.specs.File.{Placed, AreBytes}
@@ -18,6 +20,7 @@ use Rattle.blog_row.specs.TableMap.{Names, HasNames, layout_of}
 use Rattle.blog_row.specs.Column.{Layout}
 use Rattle.blog_row.specs.declared.fault.RowFault.{RowFault}
 use Rattle.blog_row.specs.RowsEvent.{table_id}
+use Rattle.blog_row.proofs.ReversedRows.{all-append}
 use Rattle.blog_trans.specs.declared.layouts.SelectedTable.{SelectedTable}
 use Rattle.blog_trans.specs.declared.checker.MapSeen.{MapSeen}
 use Rattle.blog_trans.specs.Selection.{Selection}
@@ -40,23 +43,10 @@ same-id a b is_a is_b h =
     sym (take_all 6 a (omega arith)) ∙ sym (number-bytes 6 a is_a.bytes (omega arith)) ∙ ap (little_bytes 6) h
     ∙ number-bytes 6 b is_b.bytes (omega arith) ∙ take_all 6 b (omega arith)
 
--- tests that hold together are equal
-pub same-tests : (x y : Bool) → (x ≡ true → y ≡ true) → (y ≡ true → x ≡ true) → x ≡ y
-same-tests true y to back = sym (to refl)
-same-tests false true to back = back refl
-same-tests false false to back = refl
-
--- the same in either order
-pub bytes_eq-swap : (a b : List ℕ) → bytes_eq a b ≡ bytes_eq b a
-bytes_eq-swap a b = same-tests (bytes_eq a b) (bytes_eq b a)
-    (λ h. (bytes_eq-Decides b a).1 (sym ((bytes_eq-Decides a b).0 h)))
-    (λ h. (bytes_eq-Decides a b).1 (sym ((bytes_eq-Decides b a).0 h)))
-
 -- so numbers compare as the bytes do
-pub ids-compare : (a b : List ℕ) (k n : ℕ) → IsId a → IsId b → k ≡ little_number 6 a → n ≡ little_number 6 b → nat_eq k n ≡ bytes_eq b a
-ids-compare a b k n is_a is_b k_is n_is = same-tests (nat_eq k n) (bytes_eq b a)
-    (λ h. (bytes_eq-Decides b a).1 (sym (same-id a b is_a is_b (sym k_is ∙ eqb-true k n h ∙ n_is))))
-    (λ h. eq-eqb k n (k_is ∙ ap (little_number 6) (sym ((bytes_eq-Decides b a).0 h)) ∙ sym n_is))
+ids-compare : (a b : List ℕ) (k n : ℕ) → IsId a → IsId b → k ≡ little_number 6 a → n ≡ little_number 6 b → nat_eq k n ≡ bytes_eq b a
+ids-compare a b k n is_a is_b k_is n_is = same_from_decides (nat_eq k n) (bytes_eq b a) (Decides-eqb k n)
+    (Decides-like (bytes_eq b a) (λ e. k_is ∙ ap (little_number 6) (sym e) ∙ sym n_is) (λ e. sym (same-id a b is_a is_b (sym k_is ∙ e ∙ n_is))) (bytes_eq-Decides b a))
 
 -- ---- the first maps of a statement
 
@@ -65,10 +55,6 @@ pub record IsPassedMap (sel : Selection) (m : Placed) : Type 0 where
   pub is : is_map m ≡ true
   pub passed : IsPassed sel m
 
-pub all-snoc : {A : Type 0} (P : A → Type 0) (xs : List A) (x : A) → AllByRecursion P xs → P x → AllByRecursion P (xs ++ x ∷ [])
-all-snoc P [] x all last = (last, tt)
-all-snoc P (y ∷ ys) x all last = (all.0, all-snoc P ys x all.1 last)
-
 pub first-passed : (sel : Selection) (statement : List Placed) → AllByRecursion (λ m. is_map m ≡ true → IsPassed sel m) statement
     → AllByRecursion (IsPassedMap sel) (first_of_ids statement)
 first-passed sel [] all = tt
@@ -76,7 +62,7 @@ first-passed sel (p ∷ statement) all = by (is_map p) (not (list_any (is_map_of
   where
     by : (b new : Bool) → is_map p ≡ b → AllByRecursion (IsPassedMap sel) (first_of_ids statement)
         → AllByRecursion (IsPassedMap sel) (if b && new then first_of_ids statement ++ p ∷ [] else first_of_ids statement)
-    by true true is others = all-snoc (IsPassedMap sel) (first_of_ids statement) p others (record { is = is; passed = all.0 is })
+    by true true is others = all-append (IsPassedMap sel) (first_of_ids statement) (p ∷ []) others (record { is = is; passed = all.0 is }, tt)
     by true false is others = others
     by false new is others = others
 
@@ -154,109 +140,81 @@ maps-more sel m statement k v es after is no_rows new passed h after_is last =
 
 -- ---- a rows event that goes by a map
 
--- the facts of a map by whose id a rows event goes
-mark : ℕ → MapFacts → MapFacts
-mark k f = if nat_eq k f.id then record f { used = is_some f.layout } else f
-
-mark-on : (k : ℕ) (f : MapFacts) → nat_eq k f.id ≡ true → record f { used = is_some f.layout } ≡ mark k f
-unfolding mark
-mark-on k f h = rw h refl
-
-mark-off : (k : ℕ) (f : MapFacts) → nat_eq k f.id ≡ false → f ≡ mark k f
-unfolding mark
-mark-off k f h = rw h refl
-
-used-now : (s r o any t : Bool) → r ≡ true → o ≡ true → t ≡ s → (s && ((r && o) || any)) ≡ t
-used-now true r o any t r_is o_is t_is = rw (r_is, o_is, t_is) refl
-used-now false r o any t r_is o_is t_is = sym t_is
-
-used-still : (s r o any : Bool) → o ≡ false → (s && ((r && o) || any)) ≡ (s && any)
-used-still s true o any o_is = rw o_is refl
-used-still s false o any o_is = refl
-
 -- where a selected map has a layout
 layout-there : (b : Bool) (r : Result Layout RowFault) → (b ≡ true → IsOk r) → is_some (if b then result_ok r else None) ≡ b
 layout-there true (Ok layout) h = refl
 layout-there true (Err fault) h = absurd (cc (h refl))
 layout-there false r h = refl
 
-mark-step : (sel : Selection) (p : Placed) (statement : List Placed) (k : ℕ) → is_rows p ≡ true → (m : Placed) (b : Bool) → nat_eq k (little_number 6 (table_id m.event.body)) ≡ b
-    → bytes_eq (table_id p.event.body) (table_id m.event.body) ≡ b → is_some (if is_selected sel m.event.body then result_ok (layout_of m.event.body) else None) ≡ is_selected sel m.event.body
-    → facts_of sel (p ∷ statement) m ≡ mark k (facts_of sel statement m)
-mark-step sel p statement k is m true same own there =
-    let any = list_any (is_rows_of (table_id m.event.body)) statement in
-    ap (λ (u : Bool). record (facts_of sel statement m) { used = u }) (used-now (is_selected sel m.event.body) (is_rows p) _ any _ is own there)
-    ∙ mark-on k (facts_of sel statement m) same
-mark-step sel p statement k is m false same own there =
-    let any = list_any (is_rows_of (table_id m.event.body)) statement in
-    ap (λ (u : Bool). record (facts_of sel statement m) { used = u }) (used-still (is_selected sel m.event.body) (is_rows p) _ any own)
-    ∙ mark-off k (facts_of sel statement m) same
-
-mark-facts : (sel : Selection) (p : Placed) (statement : List Placed) (k : ℕ) → IsId (table_id p.event.body) → k ≡ little_number 6 (table_id p.event.body) → is_rows p ≡ true
-    → (m : Placed) → IsPassedMap sel m → facts_of sel (p ∷ statement) m ≡ mark k (facts_of sel statement m)
-unfolding mark
-mark-facts sel p statement k is_id k_is is m passed =
-    let is_m : IsId (table_id m.event.body) = record { len = passed.passed.id_len; bytes = passed.passed.id_bytes } in
-    let compare = ids-compare (table_id p.event.body) (table_id m.event.body) k (little_number 6 (table_id m.event.body)) is_id is_m k_is refl in
-    mark-step sel p statement k is m (bytes_eq (table_id m.event.body) (table_id p.event.body)) compare (bytes_eq-swap (table_id p.event.body) (table_id m.event.body))
-    (layout-there (is_selected sel m.event.body) (layout_of m.event.body) passed.passed.layout)
-
-mark-all : (sel : Selection) (p : Placed) (statement : List Placed) (k : ℕ) → IsId (table_id p.event.body) → k ≡ little_number 6 (table_id p.event.body) → is_rows p ≡ true
-    → (ms : List Placed) → AllByRecursion (IsPassedMap sel) ms → map (facts_of sel (p ∷ statement)) ms ≡ map (mark k) (map (facts_of sel statement) ms)
-mark-all sel p statement k is_id k_is is [] all = refl
-mark-all sel p statement k is_id k_is is (m ∷ ms) all =
-    let first = mark-facts sel p statement k is_id k_is is m all.0 in
-    let others = mark-all sel p statement k is_id k_is is ms all.1 in
-    cc
-
--- no key is this one
-mark-none : (k : ℕ) (es : List (ℕ × MapSeen)) → AllByRecursion (λ y. nat_eq k y ≡ false) (keys_of es) → map (mark k) (map facts_held es) ≡ map facts_held es
-unfolding mark
-mark-none k [] all = refl
-mark-none k (e ∷ es) all =
-    let first : mark k (facts_held e) ≡ facts_held e = rw all.0 refl in
-    let others = mark-none k es all.1 in
-    cc
-
 some-map : {A B : Type 0} (f : A → B) (o : Option A) → is_some o ≡ is_some (option_map f o)
 some-map f None = refl
 some-map f (Some x) = refl
 
-mark-held-step : (k : ℕ) (v w : MapSeen) (e : ℕ × MapSeen) (es : List (ℕ × MapSeen)) (b : Bool) → nat_eq k e.0 ≡ b → AllByRecursion (λ y. nat_eq e.0 y ≡ false) (keys_of es)
-    → lookup (nat_eq k) (e ∷ es) ≡ Some v → w ≡ record v { used = is_some v.table }
-    → (lookup (nat_eq k) es ≡ Some v → map facts_held (set_value (nat_eq k) es w) ≡ map (mark k) (map facts_held es))
-    → map facts_held (set_value (nat_eq k) (e ∷ es) w) ≡ map (mark k) (map facts_held (e ∷ es))
-mark-held-step k v w e es true same others found w_is later =
-    let here : Some e.1 ≡ Some v = rw same at found in
-    let own : e.1 ≡ v = cc in
-    let key : k ≡ e.0 = eqb-true k e.0 same in
-    let left : map facts_held es ≡ map (mark k) (map facts_held es) =
-    sym (mark-none k es (subst (λ (n : ℕ). AllByRecursion (λ y. nat_eq n y ≡ false) (keys_of es)) (sym key) others)) in
-    let written : facts_held (e.0, w) ≡ record (facts_held e) { used = is_some e.1.table } = ap (λ x. facts_held (e.0, x)) (w_is ∙ ap (λ (x : MapSeen). record x { used = is_some x.table }) (sym own)) in
-    let marked : record (facts_held e) { used = is_some e.1.table } ≡ mark k (facts_held e) =
-    ap (λ (u : Bool). record (facts_held e) { used = u }) (some-map (λ (t : SelectedTable). layout_columns t.layout) e.1.table) ∙ mark-on k (facts_held e) same in
-    let first : facts_held (e.0, w) ≡ mark k (facts_held e) = written ∙ marked in
-    rw same (cc (first, left))
-mark-held-step k v w e es false same others found w_is later =
-    let rest = later (rw same at found) in
-    let first = mark-off k (facts_held e) same in
-    rw same (cc (first, rest))
+and-true : (b : Bool) → b && true ≡ b
+and-true true = refl
+and-true false = refl
 
-mark-held : (k : ℕ) (v w : MapSeen) (es : List (ℕ × MapSeen)) → IsDistinct nat_eq (keys_of es) → lookup (nat_eq k) es ≡ Some v → w ≡ record v { used = is_some v.table }
-    → map facts_held (set_value (nat_eq k) es w) ≡ map (mark k) (map facts_held es)
-unfolding IsDistinct
-mark-held k v w [] distinct found w_is = absurd (cc)
-mark-held k v w (e ∷ es) distinct found w_is =
-    mark-held-step k v w e es (nat_eq k e.0) refl distinct.0 found w_is (λ later. mark-held k v w es distinct.1 later w_is)
+module _ (sel : Selection) (p : Placed) (statement : List Placed) (k : ℕ) (is_id : IsId (table_id p.event.body)) (k_is : k ≡ little_number 6 (table_id p.event.body)) (is : is_rows p ≡ true) where
+  -- whether it goes by a map
+  goes-by : (m : Placed) (n : ℕ) → IsPassedMap sel m → n ≡ little_number 6 (table_id m.event.body) → bytes_eq (table_id p.event.body) (table_id m.event.body) ≡ nat_eq k n
+  goes-by m n passed n_is = same_from_decides (bytes_eq (table_id p.event.body) (table_id m.event.body)) (nat_eq k n) (bytes_eq-Decides (table_id p.event.body) (table_id m.event.body))
+      (Decides-like (nat_eq k n) (λ e. same-id (table_id p.event.body) (table_id m.event.body) is_id (record { len = passed.passed.id_len; bytes = passed.passed.id_bytes }) (sym k_is ∙ e ∙ n_is))
+      (λ e. k_is ∙ ap (little_number 6) e ∙ sym n_is) (Decides-eqb k n))
+
+  -- a map by which it doesn't go, and the one by which it does
+  other : (m : Placed) (e : ℕ × MapSeen) → IsPassedMap sel m → facts_held e ≡ facts_of sel statement m → nat_eq k e.0 ≡ false → facts_held e ≡ facts_of sel (p ∷ statement) m
+  other m e passed same apart =
+      let off : bytes_eq (table_id p.event.body) (table_id m.event.body) ≡ false = goes-by m e.0 passed (ap (λ (f : MapFacts). f.id) same) ∙ apart in
+      rw (is, off) same
+
+  own : (m : Placed) (e : ℕ × MapSeen) → IsPassedMap sel m → facts_held e ≡ facts_of sel statement m → nat_eq k e.0 ≡ true
+      → facts_held (e.0, record e.1 { used = is_some e.1.table }) ≡ facts_of sel (p ∷ statement) m
+  own m e passed same goes =
+      let on : bytes_eq (table_id p.event.body) (table_id m.event.body) ≡ true = goes-by m e.0 passed (ap (λ (f : MapFacts). f.id) same) ∙ goes in
+      let used : is_some e.1.table ≡ is_selected sel m.event.body && true =
+      some-map (λ (t : SelectedTable). layout_columns t.layout) e.1.table ∙ ap (λ (f : MapFacts). is_some f.layout) same
+      ∙ layout-there (is_selected sel m.event.body) (layout_of m.event.body) passed.passed.layout ∙ sym (and-true (is_selected sel m.event.body)) in
+      rw (is, on) (λ i. record { id = (same i).id; at = (same i).at; body = (same i).body; layout = (same i).layout; used = used i })
+
+  unmarked : (es : List (ℕ × MapSeen)) (ms : List Placed) → AllByRecursion (IsPassedMap sel) ms → map facts_held es ≡ map (facts_of sel statement) ms → AllByRecursion (λ y. nat_eq k y ≡ false) (keys_of es)
+      → map facts_held es ≡ map (facts_of sel (p ∷ statement)) ms
+  unmarked [] [] all same apart = refl
+  unmarked [] (m ∷ ms) all same apart = absurd (cc)
+  unmarked (e ∷ es) [] all same apart = absurd (cc)
+  unmarked (e ∷ es) (m ∷ ms) all same apart =
+      let first : facts_held e ≡ facts_of sel statement m = cc in
+      let others : map facts_held es ≡ map (facts_of sel statement) ms = cc in
+      λ i. other m e all.0 first apart.0 i ∷ unmarked es ms all.1 others apart.1 i
+
+  marked : (v : MapSeen) (es : List (ℕ × MapSeen)) (ms : List Placed) → AllByRecursion (IsPassedMap sel) ms → map facts_held es ≡ map (facts_of sel statement) ms → IsDistinct nat_eq (keys_of es)
+      → lookup (nat_eq k) es ≡ Some v → map facts_held (set_value (nat_eq k) es (record v { used = is_some v.table })) ≡ map (facts_of sel (p ∷ statement)) ms
+  marked v [] ms all same distinct found = absurd (cc)
+  marked v (e ∷ es) [] all same distinct found = absurd (cc)
+  marked v (e ∷ es) (m ∷ ms) all same distinct found =
+      let first : facts_held e ≡ facts_of sel statement m = cc in
+      let others : map facts_held es ≡ map (facts_of sel statement) ms = cc in
+      by first others (nat_eq k e.0) refl (marked v es ms all.1 others (IsDistinct-tail nat_eq e.0 (keys_of es) distinct))
+    where
+      by : facts_held e ≡ facts_of sel statement m → map facts_held es ≡ map (facts_of sel statement) ms → (b : Bool) → nat_eq k e.0 ≡ b
+          → (lookup (nat_eq k) es ≡ Some v → map facts_held (set_value (nat_eq k) es (record v { used = is_some v.table })) ≡ map (facts_of sel (p ∷ statement)) ms)
+          → map facts_held (set_value (nat_eq k) (e ∷ es) (record v { used = is_some v.table })) ≡ map (facts_of sel (p ∷ statement)) (m ∷ ms)
+      by first others true goes later =
+          let here : Some e.1 ≡ Some v = rw goes at found in
+          let held : e.1 ≡ v = cc in
+          let rest = unmarked es ms all.1 others (subst (λ (n : ℕ). AllByRecursion (λ y. nat_eq n y ≡ false) (keys_of es)) (sym (eqb-true k e.0 goes)) (IsDistinct-head nat_eq e.0 (keys_of es) distinct)) in
+          let now = ap (λ (x : MapSeen). facts_held (e.0, record x { used = is_some x.table })) (sym held) ∙ own m e all.0 first goes in
+          rw goes (λ i. now i ∷ rest i)
+      by first others false apart later =
+          let rest = later (rw apart at found) in
+          rw apart (λ i. other m e all.0 first apart i ∷ rest i)
 
 pub maps-marked : (sel : Selection) (p : Placed) (statement : List Placed) (k : ℕ) (v w : MapSeen) (es after : List (ℕ × MapSeen)) → IsId (table_id p.event.body)
     → k ≡ little_number 6 (table_id p.event.body) → is_map p ≡ false → is_rows p ≡ true → IsPassedStatement sel statement
     → map facts_held es ≡ map (facts_of sel statement) (first_of_ids statement) → IsDistinct nat_eq (keys_of es) → lookup (nat_eq k) es ≡ Some v → w ≡ record v { used = is_some v.table }
     → after ≡ set_value (nat_eq k) es w → map facts_held after ≡ map (facts_of sel (p ∷ statement)) (first_of_ids (p ∷ statement))
 maps-marked sel p statement k v w es after is_id k_is no_map is passed h distinct found w_is after_is =
-    let marked = mark-held k v w es distinct found w_is in
-    let all = mark-all sel p statement k is_id k_is is (first_of_ids statement) (first-passed sel statement passed.maps) in
-    rw no_map (ap (map facts_held) after_is ∙ marked ∙ ap (map (mark k)) h ∙ sym all)
+    rw no_map (ap (map facts_held) (after_is ∙ ap (set_value (nat_eq k) es) w_is)
+    ∙ marked sel p statement k is_id k_is is v es (first_of_ids statement) (first-passed sel statement passed.maps) h distinct found)
 
 -- ---- comparing a map with what is held
 

@@ -1,14 +1,12 @@
 -- What is told and known of a rows event.
 use Rattle.std.proofs.Common.{◌≡◌, ℕ, ◌≤◌, ◌<◌, Bool, true, false, List, [], ◌∷◌, length, map, reverse, Option, Some, None, Result, Ok, Err, refl, sym, subst, ap, ◌∙◌, arith, length-append}
-use Rattle.std.specs.Prelude.{if◌then◌else◌, find, is_some, nat_eq, nat_le, option_map, option_and_then, slice_get, IsOk}
+use Rattle.std.specs.Prelude.{if◌then◌else◌, is_some, nat_eq, nat_le, option_map, option_and_then, slice_get, IsOk}
 use Rattle.std.specs.Result.{result_ok}
 use Rattle.std.specs.List.{concat, list_any, AllByRecursion, IsDistinct}
 use Rattle.std.specs.Map.{lookup, set_value, keys_of}
 use Rattle.std.proofs.lemmas.Bool.{leb-true}
-use Rattle.std.proofs.lemmas.Option.{none-some, same_Some}
 use Rattle.byteorder.specs.Endian.{little_number}
-use Rattle.blog_event.specs.declared.fault.Fault.{Fault}
-use Rattle.blog_event.specs.Fault.{Cause, first_failing, fault_at}
+use Rattle.blog_event.specs.Fault.{Cause, first_failing}
 use Rattle.blog_event.specs.File.{Placed}
 use Rattle.blog_row.specs.declared.fault.RowFault.{RowFault}
 use Rattle.blog_row.specs.declared.fault.RowFault.TheVariants as row
@@ -27,15 +25,15 @@ use Rattle.blog_trans.specs.declared.kind.EventKind.TheVariants as kind
 use Rattle.blog_trans.specs.declared.checker.Checker.{Checker}
 use Rattle.blog_trans.specs.declared.layouts.SelectedTable.{SelectedTable}
 use Rattle.blog_trans.specs.declared.checker.MapSeen.{MapSeen}
-use Rattle.blog_trans.specs.declared.checker.KeptRows.{KeptRows}
 use Rattle.blog_trans.specs.Selection.{Selection}
 use Rattle.blog_trans.specs.Places.{kind_at, is_map, is_rows, is_map_of, map_in, is_inside, place, since}
 use Rattle.blog_trans.specs.Acceptance.{is_selected, cause_of_row, rows_check, event_fault}
 use Rattle.blog_trans.specs.Changes.{table_of}
 use Rattle.blog_trans.specs.Groups.{kept_rows}
-use Rattle.blog_trans.specs.TablesView.{tables_known, table_at, IsNumbered}
+use Rattle.blog_trans.specs.TablesView.{tables_known, IsNumbered}
 use Rattle.blog_trans.specs.StatementMaps.{MapFacts, first_of_ids, facts_of, facts_held}
-use Rattle.blog_trans.specs.CheckerView.{IsKept, HasChecked, LayoutsAgree, IsPassedStatement, columns_known, IsReadBy}
+use Rattle.blog_trans.specs.CheckerView.{IsKept, HasChecked, LayoutsAgree, IsPassedStatement, IsMapHeld, columns_known}
+use Rattle.blog_trans.proofs.PlacedParts.{all-found}
 use Rattle.blog_trans.proofs.CheckingStatement.{map-there, passed-rows}
 use Rattle.blog_trans.proofs.CheckingMaps.{IsId, IsPassedMap, first-passed, find-first, held-some, maps-marked}
 use Rattle.blog_trans.proofs.CheckingLayouts.{layouts-quiet}
@@ -58,28 +56,12 @@ images-fit kind layout body b some is =
 
 -- ---- its map
 
--- what all have, the one that is found has
-find-all : {A : Type 0} (P : A → Type 0) (test : A → Bool) (xs : List A) (x : A) → AllByRecursion P xs → find test xs ≡ Some x → P x
-find-all P test [] x all found = absurd (cc)
-find-all P test (y ∷ ys) x all found = by (test y) refl (find-all P test ys x all.1)
-  where
-    by : (b : Bool) → test y ≡ b → (find test ys ≡ Some x → P x) → P x
-    by true e later = let here : Some y ≡ Some x = rw e at found in let own : y ≡ x = cc in subst P own all.0
-    by false e later = later (rw e at found)
-
 -- the map under whose number one is held
-pub record IsMapHeld (sel : Selection) (statement : List Placed) (id : List ℕ) (v : MapSeen) (m : Placed) : Type 0 where
-  pub found : map_in (reverse statement) id ≡ Some m
-  pub at : v.at ≡ m.pos
-  pub body : v.body.now ≡ m.event.body
-  pub layout : option_map (λ (t : SelectedTable). layout_columns t.layout) v.table ≡ columns_known sel m
-  pub known : is_selected sel m.event.body ≡ true → IsOk (layout_of m.event.body)
-
 pub map-held : (sel : Selection) (statement : List Placed) (id : List ℕ) (k : ℕ) (v : MapSeen) (es : List (ℕ × MapSeen)) → IsId id → k ≡ little_number 6 id → IsPassedStatement sel statement
     → map facts_held es ≡ map (facts_of sel statement) (first_of_ids statement) → lookup (nat_eq k) es ≡ Some v → (m : Placed) × IsMapHeld sel statement id v m
 map-held sel statement id k v es is_id k_is passed h found =
     let some = held-some sel statement id k v es is_id k_is passed h found in
-    let all = find-all (IsPassedMap sel) (is_map_of id) (first_of_ids statement) some.0 (first-passed sel statement passed.maps) (find-first statement id ∙ some.1) in (
+    let all = (all-found (IsPassedMap sel) (is_map_of id) (first_of_ids statement) some.0 (first-passed sel statement passed.maps) (find-first statement id ∙ some.1)).0 in (
       some.0,
       record {
         found = some.1;
@@ -105,75 +87,33 @@ selected true (Err fault) layout h = absurd (cc)
 
 -- a rows event of a table that isn't selected passes, and isn't kept
 pub rows-unselected : (tables : List Table) (sel : Selection) (statement : List Placed) (p : Placed) (rows : RowsKind) (v : MapSeen) (m : Placed) → IsMapHeld sel statement (table_id p.event.body) v m → v.table ≡ None
-    → (rows_check sel rows p.event.body (map_in (reverse statement) (table_id p.event.body)) ≡ None) × IsKept tables None (kept_rows sel (reverse statement) p)
+    → (rows_check sel rows p.event.body (map_in (reverse statement) (table_id p.event.body)) ≡ None) × IsKept tables p.pos None (kept_rows sel (reverse statement) p)
 rows-unselected tables sel statement p rows v m held none =
     let known : None ≡ columns_known sel m = ap (option_map (λ (t : SelectedTable). layout_columns t.layout)) (sym none) ∙ held.layout in
     let off = unselected (is_selected sel m.event.body) (layout_of m.event.body) held.known known in
     (rw (held.found, off) refl, rw (held.found, off) tt)
 
--- the table that a map's number leads to
-table-numbered : (tables : List Table) (v : MapSeen) (n : ℕ) → option_map (λ (t : SelectedTable). t.number) v.table ≡ Some n
-    → table_at tables v ≡ option_map (λ (t : SelectedTable). table_of v.body.now) v.table → slice_get tables n ≡ Some (table_of v.body.now)
-table-numbered tables v n number at = by v.table number at
-  where
-    by : (o : Option SelectedTable) → option_map (λ (t : SelectedTable). t.number) o ≡ Some n
-        → option_and_then (λ (t : SelectedTable). slice_get tables t.number) o ≡ option_map (λ (t : SelectedTable). table_of v.body.now) o → slice_get tables n ≡ Some (table_of v.body.now)
-    by None number at = absurd (none-some n number)
-    by (Some t) number at = ap (slice_get tables) (sym (same_Some t.number n number)) ∙ at
-
 -- one that is read passes, and is kept
-pub rows-kept : (tables : List Table) (sel : Selection) (statement : List Placed) (p : Placed) (rows : RowsKind) (v : MapSeen) (m : Placed) (layout : Layout) (k : KeptRows) (b : RowsBody) → kind_at p ≡ kind.Rows rows
-    → IsMapHeld sel statement (table_id p.event.body) v m → option_map (λ (t : SelectedTable). layout_columns t.layout) v.table ≡ Some layout → rows_of rows layout p.event.body ≡ Ok b
-    → IsNumbered tables v → k.map ≡ v.at → option_map (λ (t : SelectedTable). t.number) v.table ≡ Some k.table → k.action ≡ rows.action → k.images ≡ length b.images
-    → (rows_check sel rows p.event.body (map_in (reverse statement) (table_id p.event.body)) ≡ None) × IsKept tables (Some k) (kept_rows sel (reverse statement) p)
-rows-kept tables sel statement p rows v m layout k b is held some read numbered at number kind_is images =
-    let on = selected (is_selected sel m.event.body) (layout_of m.event.body) layout (sym some ∙ held.layout) in
-    (rw (held.found, on.0, on.1, read) refl, rw (held.found, on.0, is, on.1, read) (at ∙ held.at, table-numbered tables v k.table number numbered.number ∙ ap (λ (body : List ℕ). Some (table_of body)) held.body, kind_is, images))
+pub rows-kept : (tables : List Table) (sel : Selection) (statement : List Placed) (p : Placed) (rows : RowsKind) (v : MapSeen) (m : Placed) (t : SelectedTable) (b : RowsBody) (images : ℕ) → kind_at p ≡ kind.Rows rows
+    → IsNumbered tables v → IsMapHeld sel statement (table_id p.event.body) v m → v.table ≡ Some t → rows_of rows (layout_columns t.layout) p.event.body ≡ Ok b → images ≡ length b.images
+    → (rows_check sel rows p.event.body (map_in (reverse statement) (table_id p.event.body)) ≡ None)
+    × IsKept tables p.pos (Some (record { map = v.at; table = t.number; action = rows.action; images = images })) (kept_rows sel (reverse statement) p)
+rows-kept tables sel statement p rows v m t b images is numbered held table read images_are =
+    let on = selected (is_selected sel m.event.body) (layout_of m.event.body) (layout_columns t.layout) (ap (option_map (λ (t : SelectedTable). layout_columns t.layout)) (sym table) ∙ held.layout) in
+    let number = ap (option_and_then (λ (t : SelectedTable). slice_get tables t.number)) (sym table) ∙ numbered.number ∙ ap (option_map (λ (t : SelectedTable). table_of v.body.now)) table
+    ∙ ap (λ (body : List ℕ). Some (table_of body)) held.body in
+    (rw (held.found, on.0, on.1, read) refl, rw (held.found, on.0, is, on.1, read) (refl, held.at, number, refl, images_are))
 
 -- one that isn't read is refused
-pub rows-refused : (sel : Selection) (statement : List Placed) (p : Placed) (rows : RowsKind) (v : MapSeen) (m : Placed) (layout : Layout) (cause : RowFault)
-    → IsMapHeld sel statement (table_id p.event.body) v m → option_map (λ (t : SelectedTable). layout_columns t.layout) v.table ≡ Some layout → rows_of rows layout p.event.body ≡ Err cause
+pub rows-refused : (sel : Selection) (statement : List Placed) (p : Placed) (rows : RowsKind) (v : MapSeen) (m : Placed) (t : SelectedTable) (cause : RowFault)
+    → IsMapHeld sel statement (table_id p.event.body) v m → v.table ≡ Some t → rows_of rows (layout_columns t.layout) p.event.body ≡ Err cause
     → rows_check sel rows p.event.body (map_in (reverse statement) (table_id p.event.body)) ≡ Some (cause_of_row cause)
-rows-refused sel statement p rows v m layout cause held some read =
-    let on = selected (is_selected sel m.event.body) (layout_of m.event.body) layout (sym some ∙ held.layout) in
+rows-refused sel statement p rows v m t cause held table read =
+    let on = selected (is_selected sel m.event.body) (layout_of m.event.body) (layout_columns t.layout) (ap (option_map (λ (t : SelectedTable). layout_columns t.layout)) (sym table) ∙ held.layout) in
     rw (held.found, on.0, on.1, read) refl
 
--- what was told of it by its map's columns, if it was taken
-pub rows-passed : (tables : List Table) (sel : Selection) (statement : List Placed) (p : Placed) (rows : RowsKind) (v : MapSeen) (m : Placed) (kept : Option KeptRows) → kind_at p ≡ kind.Rows rows
-    → IsNumbered tables v → IsMapHeld sel statement (table_id p.event.body) v m → (v.table ≡ None → ◌≡◌ {A = Result (Option KeptRows) Fault} (Ok kept) (Ok None))
-    → ((layout : Layout) → option_map (λ (t : SelectedTable). layout_columns t.layout) v.table ≡ Some layout → IsReadBy rows layout p v (Ok kept))
-    → (rows_check sel rows p.event.body (map_in (reverse statement) (table_id p.event.body)) ≡ None) × IsKept tables kept (kept_rows sel (reverse statement) p)
-rows-passed tables sel statement p rows v m kept is numbered held off on = by v.table refl
-  where
-    by : (o : Option SelectedTable) → v.table ≡ o
-        → (rows_check sel rows p.event.body (map_in (reverse statement) (table_id p.event.body)) ≡ None) × IsKept tables kept (kept_rows sel (reverse statement) p)
-    by None e =
-        let told_none = off e in
-        let none : kept ≡ None = cc in
-        let told = rows-unselected tables sel statement p rows v m held e in
-        (told.0, subst (λ (k : Option KeptRows). IsKept tables k (kept_rows sel (reverse statement) p)) (sym none) told.1)
-    by (Some table) e =
-        let some : option_map (λ (t : SelectedTable). layout_columns t.layout) v.table ≡ Some (layout_columns table.layout) = ap (option_map (λ (t : SelectedTable). layout_columns t.layout)) e in
-        let read = on (layout_columns table.layout) some in
-        let told = rows-kept tables sel statement p rows v m (layout_columns table.layout) read.0 read.1 is held some read.3 numbered read.4 read.5 read.6 read.7 in
-        (told.0, subst (λ (k : Option KeptRows). IsKept tables k (kept_rows sel (reverse statement) p)) (sym read.2) told.1)
-
--- if it was refused
-pub rows-failed : (sel : Selection) (statement : List Placed) (p : Placed) (rows : RowsKind) (v : MapSeen) (m : Placed) (fault : Fault)
-    → IsMapHeld sel statement (table_id p.event.body) v m → (v.table ≡ None → ◌≡◌ {A = Result (Option KeptRows) Fault} (Err fault) (Ok None))
-    → ((layout : Layout) → option_map (λ (t : SelectedTable). layout_columns t.layout) v.table ≡ Some layout → IsReadBy rows layout p v (Err fault))
-    → fault_at p.pos (rows_check sel rows p.event.body (map_in (reverse statement) (table_id p.event.body))) ≡ Some fault
-rows-failed sel statement p rows v m fault held off on = by v.table refl
-  where
-    by : (o : Option SelectedTable) → v.table ≡ o → fault_at p.pos (rows_check sel rows p.event.body (map_in (reverse statement) (table_id p.event.body))) ≡ Some fault
-    by None e = let bad = off e in absurd (cc)
-    by (Some table) e =
-        let some : option_map (λ (t : SelectedTable). layout_columns t.layout) v.table ≡ Some (layout_columns table.layout) = ap (option_map (λ (t : SelectedTable). layout_columns t.layout)) e in
-        let read = on (layout_columns table.layout) some in
-        ap (fault_at p.pos) (rows-refused sel statement p rows v m (layout_columns table.layout) read.0 held some read.1) ∙ ap Some (sym read.2)
-
 -- alone, it decides
-pub alone : (check : Option Cause) → first_failing (check ∷ []) ≡ check
+pub alone : {A : Type 0} (check : Option A) → first_failing (check ∷ []) ≡ check
 alone None = refl
 alone (Some cause) = refl
 
@@ -194,8 +134,8 @@ long-id Two body h = let long : 10 ≤ length body = leb-true 10 (length body) h
 
 -- what decides of a rows event inside a transaction whose fixed part is there
 pub rows-fault : (sel : Selection) (p : Placed) (earlier : List Placed) (rows : RowsKind) → kind_at p ≡ kind.Rows rows → is_inside (place earlier) ≡ true → nat_le (fixed_len rows.version) (length p.event.body) ≡ true
-    → event_fault sel earlier p ≡ first_failing (rows_check sel rows p.event.body (map_in (reverse (since earlier)) (table_id p.event.body)) ∷ [])
-rows-fault sel p earlier rows is inside long = rw (is, inside, long) refl
+    → event_fault sel earlier p ≡ rows_check sel rows p.event.body (map_in (reverse (since earlier)) (table_id p.event.body))
+rows-fault sel p earlier rows is inside long = rw (is, inside, long) (alone (rows_check sel rows p.event.body (map_in (reverse (since earlier)) (table_id p.event.body))))
 
 -- ---- what is known after it
 

@@ -15,9 +15,6 @@ flat_push f xs x = flat_map-append f xs (x ∷ []) ∙ ap (λ ys. flat_map f xs 
 pub entries_push : (ts : List PlacedTransaction) (t : PlacedTransaction) → entries_of (ts ++ t ∷ []) ≡ entries_of ts ++ transaction_entries t
 entries_push ts t = flat_push transaction_entries ts t
 
-pub statements_push : (ts : List PlacedTransaction) (t : PlacedTransaction) → statements_in (ts ++ t ∷ []) ≡ statements_in ts + length t.statements
-statements_push ts t = ap length (flat_push (λ x. x.statements) ts t) ∙ length-append (flat_map (λ x. x.statements) ts) t.statements
-
 pub statements_cons : (t : PlacedTransaction) (ts : List PlacedTransaction) → statements_in (t ∷ ts) ≡ length t.statements + statements_in ts
 statements_cons t ts = length-append t.statements (flat_map (λ x. x.statements) ts)
 

@@ -1,101 +1,156 @@
--- Where the lists of an index have what of the groups.
-use Rattle.std.proofs.Common.{◌≡◌, ℕ, zero, suc, ◌+◌, ◌<◌, List, [], ◌∷◌, ◌++◌, length, take, get_or, Some, refl, sym, ap, ap₂, ◌∙◌, add-zero, length-append, arith}
+-- Where the lists of an index have what of the groups, by number.
+use Rattle.std.proofs.Common.{◌≡◌, ℕ, zero, suc, ◌+◌, ◌<◌, ◌≤◌, List, [], ◌∷◌, ◌++◌, length, map, take, get_or, Option, Some, None, IsSome, option_map, option_and_then, refl, ap, ap₂, ◌∙◌, length-append, arith}
+use Rattle.std.specs.Option.{option_map_or}
 use Rattle.std.specs.List.{flat_map, slice_get}
-use Rattle.std.proofs.lemmas.Option.{none-some, same_Some, slice_get_within, slice_get_read}
+use Rattle.std.proofs.lemmas.Bool.{false≢true}
+use Rattle.std.proofs.lemmas.List.{length-map, take_all, take_more}
+use Rattle.std.proofs.lemmas.Option.{none-some, same_Some, slice_get-map, slice_get_within, get_or_from_slice_get}
+use Rattle.blog_event.specs.File.{Placed}
 use Rattle.blog_trans.specs.declared.lists.Entry.{Entry}
-use Rattle.blog_trans.specs.Groups.{PlacedStatement, PlacedTransaction}
-use Rattle.blog_trans.specs.Entries.{event_entry, statement_entries, transaction_entries, entries_of, transaction_start, transaction_starts, statement_start, starts_in, statement_starts, statements_in, statement_place}
-use Rattle.blog_trans.proofs.Columns.{entries_cons, statements_cons, starts_len}
+use Rattle.blog_trans.specs.Groups.{PlacedRows, PlacedStatement, PlacedTransaction}
+use Rattle.blog_trans.specs.Entries.{event_entry, rows_entry, statement_entries, transaction_entries, entries_of, transaction_start, transaction_starts, statement_start, starts_in, statement_starts, statements_in, statements_at, transaction_place, statement_place}
+use Rattle.blog_trans.specs.IndexView.{statement_at, map_at, rows_at, maps_in, rows_place}
+use Rattle.blog_trans.proofs.Columns.{flat_push, entries_cons, statements_cons, statement_len, starts_len}
+
+-- ---- lists of what there may be
+
+-- an element of such a list, and how long it is
+pub mapped : {A B : Type 0} (g : A → B) (o : Option A) (v : B) → option_map g o ≡ Some v → (x : A) × (o ≡ Some x) × (g x ≡ v)
+mapped g None v is = absurd (none-some v is)
+mapped g (Some x) v is = (x, refl, same_Some (g x) v is)
+
+pub inner : {A B : Type 0} (f : A → List B) (o : Option A) (n : ℕ) → option_and_then (λ x. slice_get (f x) n) o ≡ slice_get (option_map_or f o []) n
+inner f None n = refl
+inner f (Some x) n = refl
+
+pub counted : {A B : Type 0} (f : A → List B) (o : Option A) (n : ℕ) → option_map (λ x. length (f x)) o ≡ Some n → length (option_map_or f o []) ≡ n
+counted f None n is = absurd (none-some n is)
+counted f (Some x) n is = same_Some (length (f x)) n is
+
+pub many : {A B : Type 0} (f : A → List B) (o : Option A) (n : ℕ) → IsSome o → length (option_map_or f o []) ≡ n → option_map (λ x. length (f x)) o ≡ Some n
+many f None n some is = absurd (false≢true some)
+many f (Some x) n some is = ap Some is
+
+-- there is a list that has an element
+pub list_some : {A B : Type 0} (f : A → List B) (o : Option A) (n : ℕ) → IsSome (option_and_then (λ x. slice_get (f x) n) o) → IsSome o
+list_some f None n some = some
+list_some f (Some x) n some = refl
 
 -- ---- elements of lists that are put together
 
-pub get_front : {A : Type 0} (xs ys : List A) (n : ℕ) (x : A) → slice_get xs n ≡ Some x → slice_get (xs ++ ys) n ≡ Some x
+-- an element, as the program reads it
+pub own_item : {A : Type 0} (xs : List A) (n : ℕ) (x v : A) → slice_get xs n ≡ Some v → x ≡ get_or xs n x → x ≡ v
+own_item xs n x v here item = item ∙ get_or_from_slice_get xs n v x here
+
+get_front : {A : Type 0} (xs ys : List A) (n : ℕ) (x : A) → slice_get xs n ≡ Some x → slice_get (xs ++ ys) n ≡ Some x
 get_front [] ys n x found = absurd (none-some x found)
 get_front (a ∷ xs) ys zero x found = found
 get_front (a ∷ xs) ys (suc n) x found = get_front xs ys n x found
 
-pub get_behind : {A : Type 0} (xs ys : List A) (n m : ℕ) (x : A) → m ≡ length xs + n → slice_get ys n ≡ Some x → slice_get (xs ++ ys) m ≡ Some x
+get_behind : {A : Type 0} (xs ys : List A) (n m : ℕ) (x : A) → m ≡ length xs + n → slice_get ys n ≡ Some x → slice_get (xs ++ ys) m ≡ Some x
 get_behind [] ys n m x at found = let same : m ≡ n = omega arith in ap (slice_get ys) same ∙ found
 get_behind (a ∷ xs) ys n zero x at found = absurd (omega arith)
 get_behind (a ∷ xs) ys n (suc m) x at found = get_behind xs ys n m x (omega arith) found
 
--- of lists joined, the n-th of which is that of x
-pub get_flat : {X A : Type 0} (f : X → List A) (xs : List X) (n k m : ℕ) (x : X) (y : A) → slice_get xs n ≡ Some x → slice_get (f x) k ≡ Some y
-    → m ≡ length (flat_map f (take n xs)) + k → slice_get (flat_map f xs) m ≡ Some y
-get_flat f [] n k m x y at found place = absurd (none-some x at)
-get_flat f (a ∷ xs) zero k m x y at found place =
-    let same : m ≡ k = omega arith in
-    get_front (f a) (flat_map f xs) m y (ap (slice_get (f a)) same ∙ ap (λ z. slice_get (f z) k) (same_Some a x at) ∙ found)
-get_flat f (a ∷ xs) (suc n) k m x y at found place =
+-- of lists joined
+get_flat : {X A : Type 0} (f : X → List A) (xs : List X) (n k m : ℕ) (y : A) → slice_get (option_map_or f (slice_get xs n) []) k ≡ Some y → m ≡ length (flat_map f (take n xs)) + k
+    → slice_get (flat_map f xs) m ≡ Some y
+get_flat f [] n k m y found place = absurd (none-some y found)
+get_flat f (a ∷ xs) zero k m y found place = let same : m ≡ k = omega arith in get_front (f a) (flat_map f xs) m y (ap (slice_get (f a)) same ∙ found)
+get_flat f (a ∷ xs) (suc n) k m y found place =
     let sum = length-append (f a) (flat_map f (take n xs)) in
-    get_behind (f a) (flat_map f xs) (length (flat_map f (take n xs)) + k) m y (omega arith) (get_flat f xs n k (length (flat_map f (take n xs)) + k) x y at found refl)
+    get_behind (f a) (flat_map f xs) (length (flat_map f (take n xs)) + k) m y (omega arith) (get_flat f xs n k (length (flat_map f (take n xs)) + k) y found refl)
 
--- one more of the first elements
-pub take_next : {A : Type 0} (xs : List A) (n : ℕ) (x : A) → slice_get xs n ≡ Some x → take (suc n) xs ≡ take n xs ++ x ∷ []
-take_next [] n x at = absurd (none-some x at)
-take_next (a ∷ xs) zero x at = ap (λ z. z ∷ []) (same_Some a x at)
-take_next (a ∷ xs) (suc n) x at = ap (λ zs. a ∷ zs) (take_next xs n x at)
+-- one more of the first elements, and of their lists joined
+pub take_next : {A : Type 0} (xs : List A) (n : ℕ) (x : A) → slice_get xs n ≡ Some x → take (n + 1) xs ≡ take n xs ++ x ∷ []
+take_next xs n x at = take_more xs n x (slice_get_within xs n x at) ∙ ap (λ y. take n xs ++ y ∷ []) (get_or_from_slice_get xs n x x at)
+
+pub flat_next : {X A : Type 0} (f : X → List A) (xs : List X) (n : ℕ) (x : X) → slice_get xs n ≡ Some x → length (flat_map f (take (n + 1) xs)) ≡ length (flat_map f (take n xs)) + length (f x)
+flat_next f xs n x at =
+    ap (λ l. length (flat_map f l)) (take_next xs n x at) ∙ ap length (flat_push f (take n xs) x) ∙ length-append (flat_map f (take n xs)) (f x)
+
+-- ---- places
+
+-- of the next transaction, of the next statement, and of what follows the last statement
+pub next_transaction : (ts : List PlacedTransaction) (t : ℕ) (x : PlacedTransaction) → slice_get ts t ≡ Some x
+    → transaction_place ts (t + 1) ≡ transaction_place ts t + 2 + length (flat_map statement_entries x.statements)
+next_transaction ts t x at = omega (arith, flat_next transaction_entries ts t x at, length-append (flat_map statement_entries x.statements) (event_entry x.end ∷ []))
+
+pub next_statement : (ts : List PlacedTransaction) (t s : ℕ) (y : PlacedStatement) → slice_get (statements_at ts t) s ≡ Some y
+    → statement_place ts t (s + 1) ≡ statement_place ts t s + length y.maps + length y.rows
+next_statement ts t s y at = omega (arith, flat_next statement_entries (statements_at ts t) s y at, statement_len y)
+
+pub last_statement : (ts : List PlacedTransaction) (t s : ℕ) (x : PlacedTransaction) → slice_get ts t ≡ Some x → length x.statements ≤ s → statement_place ts t s + 1 ≡ transaction_place ts (t + 1)
+last_statement ts t s x at all =
+    let here = ap (λ o. length (flat_map statement_entries (take s (option_map_or (λ z. z.statements) o [])))) at in
+    let whole = ap (λ l. length (flat_map statement_entries l)) (take_all s x.statements all) in
+    omega (arith, next_transaction ts t x at)
 
 -- ---- beginnings
 
-pub get_transaction_start : (n s : ℕ) (ts : List PlacedTransaction) (t : ℕ) → t < length ts
-    → slice_get (transaction_starts n s ts) t ≡ Some (transaction_start (n + length (entries_of (take t ts))) (s + statements_in (take t ts)))
-get_transaction_start n s [] t below = absurd (omega arith)
-get_transaction_start n s (a ∷ ts) zero below = ap₂ (λ x y. Some (transaction_start x y)) (sym (add-zero n)) (sym (add-zero s))
-get_transaction_start n s (a ∷ ts) (suc t) below =
-    let entry : (n + length (transaction_entries a)) + length (entries_of (take t ts)) ≡ n + length (entries_of (a ∷ take t ts)) = omega (arith, entries_cons a (take t ts)) in
-    let statement : (s + length a.statements) + statements_in (take t ts) ≡ s + statements_in (a ∷ take t ts) = omega (arith, statements_cons a (take t ts)) in
-    get_transaction_start (n + length (transaction_entries a)) (s + length a.statements) ts t (omega arith) ∙ ap₂ (λ x y. Some (transaction_start x y)) entry statement
+pub get_transaction_start : (n s : ℕ) (ts : List PlacedTransaction) (t k l : ℕ) → t < length ts → k ≡ n + transaction_place ts t → l ≡ s + statements_in (take t ts)
+    → slice_get (transaction_starts n s ts) t ≡ Some (transaction_start k l)
+get_transaction_start n s [] t k l below entry statement = absurd (omega arith)
+get_transaction_start n s (a ∷ ts) zero k l below entry statement = ap₂ (λ x y. Some (transaction_start x y)) (omega arith) (omega arith)
+get_transaction_start n s (a ∷ ts) (suc t) k l below entry statement =
+    get_transaction_start (n + length (transaction_entries a)) (s + length a.statements) ts t k l (omega arith) (omega (arith, entries_cons a (take t ts))) (omega (arith, statements_cons a (take t ts)))
 
-get_start : (n : ℕ) (ss : List PlacedStatement) (s : ℕ) (y : PlacedStatement) → slice_get ss s ≡ Some y
-    → slice_get (starts_in n ss) s ≡ Some (statement_start (n + length (flat_map statement_entries (take s ss))) (length y.maps))
-get_start n [] s y at = absurd (none-some y at)
-get_start n (a ∷ ss) zero y at = ap₂ (λ (m : ℕ) (z : PlacedStatement). Some (statement_start m (length z.maps))) (sym (add-zero n)) (same_Some a y at)
-get_start n (a ∷ ss) (suc s) y at =
-    let sum = length-append (statement_entries a) (flat_map statement_entries (take s ss)) in
-    let same : (n + length (statement_entries a)) + length (flat_map statement_entries (take s ss)) ≡ n + length (flat_map statement_entries (a ∷ take s ss)) = omega arith in
-    get_start (n + length (statement_entries a)) ss s y at ∙ ap (λ m. Some (statement_start m (length y.maps))) same
+get_start : (n : ℕ) (ss : List PlacedStatement) (s k : ℕ) (y : PlacedStatement) → slice_get ss s ≡ Some y → k ≡ n + length (flat_map statement_entries (take s ss))
+    → slice_get (starts_in n ss) s ≡ Some (statement_start k (length y.maps))
+get_start n [] s k y at place = absurd (none-some y at)
+get_start n (a ∷ ss) zero k y at place = ap₂ (λ (m : ℕ) (z : PlacedStatement). Some (statement_start m (length z.maps))) (omega arith) (same_Some a y at)
+get_start n (a ∷ ss) (suc s) k y at place =
+    get_start (n + length (statement_entries a)) ss s k y at (omega (arith, length-append (statement_entries a) (flat_map statement_entries (take s ss))))
 
-pub get_statement_start : (n : ℕ) (ts : List PlacedTransaction) (t s m : ℕ) (x : PlacedTransaction) (y : PlacedStatement) → slice_get ts t ≡ Some x → slice_get x.statements s ≡ Some y
-    → m ≡ statements_in (take t ts) + s → slice_get (statement_starts n ts) m ≡ Some (statement_start (n + statement_place ts t x s) (length y.maps))
-get_statement_start n [] t s m x y at inside place = absurd (none-some x at)
-get_statement_start n (a ∷ ts) zero s m x y at inside place =
+pub get_statement_start : (n : ℕ) (ts : List PlacedTransaction) (t s m k : ℕ) (y : PlacedStatement) → slice_get (statements_at ts t) s ≡ Some y → m ≡ statements_in (take t ts) + s → k ≡ n + statement_place ts t s
+    → slice_get (statement_starts n ts) m ≡ Some (statement_start k (length y.maps))
+get_statement_start n [] t s m k y at place start = absurd (none-some y at)
+get_statement_start n (a ∷ ts) zero s m k y at place start =
     let same : m ≡ s = omega arith in
-    let own = same_Some a x at in
-    let sum : (n + 1) + length (flat_map statement_entries (take s x.statements)) ≡ n + statement_place (a ∷ ts) 0 x s = omega arith in
-    get_front (starts_in (n + 1) a.statements) (statement_starts (n + length (transaction_entries a)) ts) m (statement_start (n + statement_place (a ∷ ts) 0 x s) (length y.maps))
-    (ap (slice_get (starts_in (n + 1) a.statements)) same ∙ ap (λ z. slice_get (starts_in (n + 1) z.statements) s) own ∙ get_start (n + 1) x.statements s y inside
-    ∙ ap (λ k. Some (statement_start k (length y.maps))) sum)
-get_statement_start n (a ∷ ts) (suc t) s m x y at inside place =
-    let before = entries_cons a (take t ts) in
+    get_front (starts_in (n + 1) a.statements) (statement_starts (n + length (transaction_entries a)) ts) m (statement_start k (length y.maps))
+    (ap (slice_get (starts_in (n + 1) a.statements)) same ∙ get_start (n + 1) a.statements s k y at (omega arith))
+get_statement_start n (a ∷ ts) (suc t) s m k y at place start =
     let first = statements_cons a (take t ts) in
     let len = starts_len (n + 1) a.statements in
-    let same : (n + length (transaction_entries a)) + statement_place ts t x s ≡ n + statement_place (a ∷ ts) (suc t) x s = omega arith in
-    get_behind (starts_in (n + 1) a.statements) (statement_starts (n + length (transaction_entries a)) ts) (statements_in (take t ts) + s) m
-    (statement_start (n + statement_place (a ∷ ts) (suc t) x s) (length y.maps)) (omega arith)
-    (get_statement_start (n + length (transaction_entries a)) ts t s (statements_in (take t ts) + s) x y at inside refl ∙ ap (λ k. Some (statement_start k (length y.maps))) same)
+    get_behind (starts_in (n + 1) a.statements) (statement_starts (n + length (transaction_entries a)) ts) (statements_in (take t ts) + s) m (statement_start k (length y.maps)) (omega arith)
+    (get_statement_start (n + length (transaction_entries a)) ts t s (statements_in (take t ts) + s) k y at refl (omega (arith, entries_cons a (take t ts))))
 
--- ---- inside a transaction
+-- ---- entries
 
-pub get_end : (x : PlacedTransaction) (m : ℕ) → m ≡ 1 + length (flat_map statement_entries x.statements) → slice_get (transaction_entries x) m ≡ Some (event_entry x.end)
-get_end x zero place = absurd (omega arith)
-get_end x (suc m) place = get_behind (flat_map statement_entries x.statements) (event_entry x.end ∷ []) 0 m (event_entry x.end) (omega arith) refl
+pub get_begin : (ts : List PlacedTransaction) (t m : ℕ) (x : PlacedTransaction) → slice_get ts t ≡ Some x → m ≡ transaction_place ts t → slice_get (entries_of ts) m ≡ Some (event_entry x.begin)
+get_begin ts t m x at place = get_flat transaction_entries ts t 0 m (event_entry x.begin) (ap (λ o. slice_get (option_map_or transaction_entries o []) 0) at) (omega arith)
 
-pub get_inside : (x : PlacedTransaction) (s k m : ℕ) (y : PlacedStatement) (e : Entry) → slice_get x.statements s ≡ Some y → slice_get (statement_entries y) k ≡ Some e
-    → m ≡ 1 + length (flat_map statement_entries (take s x.statements)) + k → slice_get (transaction_entries x) m ≡ Some e
-get_inside x s k zero y e stands found place = absurd (omega arith)
-get_inside x s k (suc m) y e stands found place =
-    get_front (flat_map statement_entries x.statements) (event_entry x.end ∷ []) m e (get_flat statement_entries x.statements s k m y e stands found (omega arith))
+pub get_end : (ts : List PlacedTransaction) (t m : ℕ) (x : PlacedTransaction) → slice_get ts t ≡ Some x → m + 1 ≡ transaction_place ts (t + 1) → slice_get (entries_of ts) m ≡ Some (event_entry x.end)
+get_end ts t m x at place =
+    let inside = flat_map statement_entries x.statements in
+    get_flat transaction_entries ts t (1 + length inside) m (event_entry x.end)
+    (ap (λ o. slice_get (option_map_or transaction_entries o []) (1 + length inside)) at ∙ get_behind (event_entry x.begin ∷ inside) (event_entry x.end ∷ []) 0 (1 + length inside) (event_entry x.end) (omega arith) refl)
+    (omega (arith, next_transaction ts t x at))
 
--- ---- an element, as the program reads it
+-- of a statement, by its number in it
+get_statement : (ts : List PlacedTransaction) (t s k m : ℕ) (e : Entry) → slice_get (option_map_or statement_entries (statement_at ts t s) []) k ≡ Some e → m ≡ statement_place ts t s + k
+    → slice_get (entries_of ts) m ≡ Some e
+get_statement ts t s k m e found place =
+    get_flat transaction_entries ts t (suc (length (flat_map statement_entries (take s (statements_at ts t))) + k)) m e (inside (slice_get ts t) found) (omega arith)
+  where
+    inside : (o : Option PlacedTransaction) → slice_get (option_map_or statement_entries (option_and_then (λ x. slice_get x.statements s) o) []) k ≡ Some e
+        → slice_get (option_map_or transaction_entries o []) (suc (length (flat_map statement_entries (take s (option_map_or (λ x. x.statements) o []))) + k)) ≡ Some e
+    inside None found = absurd (none-some e found)
+    inside (Some x) found =
+        let n = length (flat_map statement_entries (take s x.statements)) + k in
+        get_front (event_entry x.begin ∷ flat_map statement_entries x.statements) (event_entry x.end ∷ []) (suc n) e (get_flat statement_entries x.statements s k n e found refl)
 
--- the list has this element there
-pub record Finds {A : Type 0} (xs : List A) (n : ℕ) (v : A) : Type 0 where
-  pub within : n < length xs
-  pub value : (x : A) → x ≡ get_or xs n x → x ≡ v
+pub get_map : (ts : List PlacedTransaction) (t s k m : ℕ) (p : Placed) → map_at ts t s k ≡ Some p → m ≡ statement_place ts t s + k → slice_get (entries_of ts) m ≡ Some (event_entry p)
+get_map ts t s k m p is place = get_statement ts t s k m (event_entry p) (own (statement_at ts t s) is) place
+  where
+    own : (o : Option PlacedStatement) → option_and_then (λ y. slice_get y.maps k) o ≡ Some p → slice_get (option_map_or statement_entries o []) k ≡ Some (event_entry p)
+    own None is = absurd (none-some p is)
+    own (Some y) is = get_front (map event_entry y.maps) (map rows_entry y.rows) k (event_entry p) (slice_get-map event_entry y.maps k ∙ ap (option_map event_entry) is)
 
-pub finds : {A : Type 0} (xs ys : List A) (n : ℕ) (v : A) → xs ≡ ys → slice_get ys n ≡ Some v → Finds xs n v
-finds xs ys n v is found =
-    let here : slice_get xs n ≡ Some v = ap (λ zs. slice_get zs n) is ∙ found in
-    let inside : n < length xs = slice_get_within xs n v here in
-    record { within = inside; value = λ x item. same_Some x v (sym (slice_get_read xs (length xs) n x refl inside item) ∙ here) }
+pub get_rows : (ts : List PlacedTransaction) (t s k m : ℕ) (r : PlacedRows) → rows_at ts t s k ≡ Some r → m ≡ rows_place ts t s + k → slice_get (entries_of ts) m ≡ Some (rows_entry r)
+get_rows ts t s k m r is place = get_statement ts t s (length (maps_in ts t s) + k) m (rows_entry r) (own (statement_at ts t s) is) (omega arith)
+  where
+    own : (o : Option PlacedStatement) → option_and_then (λ y. slice_get y.rows k) o ≡ Some r → slice_get (option_map_or statement_entries o []) (length (option_map_or (λ y. y.maps) o []) + k) ≡ Some (rows_entry r)
+    own None is = absurd (none-some r is)
+    own (Some y) is =
+        get_behind (map event_entry y.maps) (map rows_entry y.rows) k (length y.maps + k) (rows_entry r) (omega (arith, length-map y.maps event_entry)) (slice_get-map rows_entry y.rows k ∙ ap (option_map rows_entry) is)

@@ -1,80 +1,106 @@
 -- What is known of an index: its lists, and that the events of its groups stand in its log.
-use Rattle.std.proofs.Common.{◌≡◌, ℕ, zero, suc, ◌+◌, ◌<◌, ◌≤◌, Bool, true, false, if◌then◌else◌, List, [], ◌∷◌, length, take, drop, get_or, Option, Some, None, IsSome, bytes_eq, refl, sym, ap, ◌∙◌, zero-add, arith}
+use Rattle.std.proofs.Common.{◌≡◌, ℕ, zero, suc, ◌+◌, ◌<◌, List, [], ◌∷◌, length, take, drop, Option, Some, None, IsSome, refl, sym, ap, subst, ◌∙◌, arith}
 use Rattle.std.specs.Option.{option_map_or}
 use Rattle.std.specs.List.{AllByRecursion, slice_get}
-use Rattle.std.proofs.lemmas.List.{drop-drop}
-use Rattle.std.proofs.lemmas.Option.{same_Some}
+use Rattle.std.proofs.lemmas.Bool.{false≢true}
+use Rattle.std.proofs.lemmas.Option.{same_Some, slice_get_within, option_and_then_some}
 use Rattle.blog_event.specs.declared.event.Event as told
 use Rattle.blog_event.specs.Event.{Event, event_at, event_of, event_size}
-use Rattle.blog_event.specs.File.{Placed, placed_from, magic, is_below, events_from, read}
-use Rattle.blog_trans.specs.declared.lists.Entry.{Entry}
-use Rattle.blog_trans.specs.declared.lists.TransactionStart.{TransactionStart}
+use Rattle.blog_event.specs.File.{Placed, placed_from, read}
+use Rattle.blog_event.specs.Going.{AreRead}
+use Rattle.blog_event.proofs.Going.{opened-reads-on}
 use Rattle.blog_trans.specs.declared.groups.Index.{Index}
 use Rattle.blog_trans.specs.Selection.{Selection}
-use Rattle.blog_trans.specs.Acceptance.{is_in_range, range}
-use Rattle.blog_trans.specs.Groups.{PlacedTransaction, placed_groups}
-use Rattle.blog_trans.specs.PlacedFacts.{IsPlacedTransaction}
-use Rattle.blog_trans.specs.IndexView.{index_bytes, index_groups, index_selection, placed}
-use Rattle.blog_trans.proofs.PlacedParts.{all-by, all-filter}
-use Rattle.blog_trans.proofs.PlacedFacts.{transaction-at}
-use Rattle.blog_trans.specs.Shown.{shown}
-use Rattle.blog_trans.proofs.Shown.{groups-shown}
-use Rattle.blog_trans.specs.Entries.{event_entry, statements_in, transaction_place, transaction_start, transaction_starts}
+use Rattle.blog_trans.specs.Acceptance.{IsAccepted, is_in_range, range}
+use Rattle.blog_trans.specs.Groups.{PlacedRows, PlacedStatement, PlacedTransaction, placed_groups}
+use Rattle.blog_trans.specs.PlacedFacts.{IsPlacedMap, IsPlacedRows, IsPlacedStatement, IsPlacedTransaction}
+use Rattle.blog_trans.specs.IndexView.{Stands, IsOfEntry, IsRowsOfEntry, index_bytes, index_groups, index_selection, placed, statement_at, map_at, rows_at, maps_in, rows_in, rows_place}
+use Rattle.blog_trans.specs.Entries.{event_entry, transaction_start, statement_start, statements_in, transaction_place, statement_place}
+use Rattle.blog_trans.proofs.PlacedParts.{all-at, all-by, all-filter}
+use Rattle.blog_trans.proofs.PlacedFacts.{groups-placed}
+use Rattle.blog_trans.proofs.Shown.{accepted-opens}
 use Rattle.blog_trans.proofs.Columns.{transactions_len, statements_len}
-use Rattle.blog_trans.proofs.EntriesFound.{Finds, finds, get_transaction_start}
-use Rattle.blog_trans.proofs.IndexFound.{next_transaction, at_begin, at_end}
+use Rattle.blog_trans.proofs.EntriesFound.{inner, get_begin, get_end, get_map, get_rows, get_statement_start, get_transaction_start, next_statement}
 
 -- ---- the events of the groups stand in the log
 
--- the event stands at its place
-abbrev pub Stands : List ℕ → Placed → Type 0
-Stands bytes p = event_at (drop p.pos bytes) ≡ Some p.event
+stand_left : (bytes : List ℕ) (stop : Option ℕ) (at : ℕ) (es : List Event) → AreRead bytes stop at es → AllByRecursion (Stands bytes) (placed_from at es)
+stand_left bytes stop at [] are = tt
+stand_left bytes stop at (e ∷ es) (below, stands, left) = (stands, stand_left bytes stop (at + event_size e) es left)
 
--- one event, if there is one, and what follows it
-stand_step : (bytes : List ℕ) (b : Bool) (o : Option Event) (pos : ℕ) (rest : Event → List Event)
-    → ((e : Event) → o ≡ Some e → Stands bytes (record { pos = pos; event = e }) × AllByRecursion (Stands bytes) (placed_from (pos + event_size e) (rest e)))
-    → AllByRecursion (Stands bytes) (placed_from pos (if b then option_map_or (λ e. e ∷ rest e) o [] else []))
-stand_step bytes false o pos rest by = tt
-stand_step bytes true None pos rest by = tt
-stand_step bytes true (Some e) pos rest by = by e refl
+stand_read : (bytes : List ℕ) (sel : Selection) → IsAccepted bytes sel → AllByRecursion (Stands bytes) (placed_from 4 (read bytes sel.stop))
+stand_read bytes sel accepted =
+    let on = opened-reads-on bytes sel.stop (accepted-opens bytes sel accepted) in
+    subst (λ es. AllByRecursion (Stands bytes) (placed_from 4 es)) (sym on.read_is) (on.stands, stand_left bytes sel.stop (4 + event_size on.first) on.later on.left.are)
 
-stand_from : (n : ℕ) (stop : Option ℕ) (pos : ℕ) (left bytes : List ℕ) → left ≡ drop pos bytes → AllByRecursion (Stands bytes) (placed_from pos (events_from n stop pos left))
-unfolding events_from
-stand_from zero stop pos left bytes same = tt
-stand_from (suc n) stop pos left bytes same =
-    stand_step bytes (is_below pos stop) (event_at left) pos (λ e. events_from n stop (pos + event_size e) (drop (event_size e) left))
-    (λ e found. (ap event_at (sym same) ∙ found, stand_from n stop (pos + event_size e) (drop (event_size e) left) bytes (ap (drop (event_size e)) same ∙ drop-drop (event_size e) pos bytes)))
-
-stand_read : (bytes : List ℕ) (stop : Option ℕ) → AllByRecursion (Stands bytes) (placed_from 4 (read bytes stop))
-unfolding read
-stand_read bytes stop =
-    stand_step bytes (bytes_eq (take 4 bytes) magic) (event_at (drop 4 bytes)) 4 (λ e. events_from (length bytes) stop (4 + event_size e) (drop (event_size e) (drop 4 bytes)))
-    (λ e found. (found, stand_from (length bytes) stop (4 + event_size e) (drop (event_size e) (drop 4 bytes)) bytes (drop-drop (event_size e) 4 bytes)))
-
-pub transaction_known : (bytes : List ℕ) (sel : Selection) (t : ℕ) (x : PlacedTransaction) → slice_get (placed_groups bytes sel) t ≡ Some x → IsPlacedTransaction (Stands bytes) sel x
+pub groups_known : (bytes : List ℕ) (sel : Selection) → IsAccepted bytes sel → AllByRecursion (IsPlacedTransaction (Stands bytes) sel) (placed_groups bytes sel)
 unfolding placed_groups
-transaction_known bytes sel t x at =
-    transaction-at (Stands bytes) sel (range sel (placed_from 4 (read bytes sel.stop))) t x
-    (all-by _ _ (λ p h. h.0) _ (all-filter (Stands bytes) (is_in_range sel) (placed_from 4 (read bytes sel.stop)) (stand_read bytes sel.stop))) at
+groups_known bytes sel accepted =
+    groups-placed (Stands bytes) sel (range sel (placed_from 4 (read bytes sel.stop)))
+    (all-by _ _ (λ p h. h.0) _ (all-filter (Stands bytes) (is_in_range sel) (placed_from 4 (read bytes sel.stop)) (stand_read bytes sel accepted)))
 
--- so does each of them
-pub shown-stand : (bytes : List ℕ) (sel : Selection) → AllByRecursion (Stands bytes) (shown bytes sel)
-unfolding placed_groups shown
-shown-stand bytes sel =
-    groups-shown (Stands bytes) sel (range sel (placed_from 4 (read bytes sel.stop)))
-    (all-by _ _ (λ p h. h.0) _ (all-filter (Stands bytes) (is_in_range sel) (placed_from 4 (read bytes sel.stop)) (stand_read bytes sel.stop)))
-
--- ---- of an index
-
-pub known : {A : Type 0} (index : Index A) (t : ℕ) (x : PlacedTransaction) → slice_get (index_groups index) t ≡ Some x → IsPlacedTransaction (Stands (index_bytes index)) (index_selection index) x
-known index t x at = transaction_known (index_bytes index) (index_selection index) t x at
-
--- ---- elements by number
+-- ---- of an index, by number
 
 pub found : {A : Type 0} (xs : List A) (n : ℕ) → n < length xs → (x : A) × (slice_get xs n ≡ Some x)
 found [] n below = absurd (omega arith)
 found (x ∷ xs) zero below = (x, refl)
 found (x ∷ xs) (suc n) below = found xs n (omega arith)
+
+pub some_found : {A : Type 0} (o : Option A) → IsSome o → (x : A) × (o ≡ Some x)
+some_found None some = absurd (false≢true some)
+some_found (Some x) some = (x, refl)
+
+known : {A : Type 0} (index : Index A) (t : ℕ) (x : PlacedTransaction) → slice_get (index_groups index) t ≡ Some x → IsPlacedTransaction (Stands (index_bytes index)) (index_selection index) x
+known index t x at = all-at (IsPlacedTransaction (Stands (index_bytes index)) (index_selection index)) (index_groups index) t x (groups_known (index_bytes index) (index_selection index) index.accepted) at
+
+statement_known : {A : Type 0} (index : Index A) (t s : ℕ) (y : PlacedStatement) → statement_at (index_groups index) t s ≡ Some y → IsPlacedStatement (Stands (index_bytes index)) (index_selection index) y
+statement_known index t s y is =
+    option_and_then_some (λ x. slice_get x.statements s) (slice_get (index_groups index) t) y is
+    (λ x at inside. all-at (IsPlacedStatement (Stands (index_bytes index)) (index_selection index)) x.statements s y (known index t x at).statements inside)
+
+pub map_known : {A : Type 0} (index : Index A) (t s m : ℕ) (p : Placed) → map_at (index_groups index) t s m ≡ Some p → IsPlacedMap (Stands (index_bytes index)) (index_selection index) p
+map_known index t s m p is =
+    option_and_then_some (λ y. slice_get y.maps m) (statement_at (index_groups index) t s) p is
+    (λ y at inside. all-at (IsPlacedMap (Stands (index_bytes index)) (index_selection index)) y.maps m p (statement_known index t s y at).maps inside)
+
+-- ---- entries
+
+pub begin_read : {A : Type 0} (index : Index A) (t n : ℕ) → t < length (index_groups index) → n ≡ transaction_place (index_groups index) t
+    → (x : PlacedTransaction) × (slice_get (index_groups index) t ≡ Some x) × IsOfEntry index n x.begin
+begin_read index t n below place =
+    let (x, at) = found (index_groups index) t below in
+    let here = ap (λ es. slice_get es n) index.entries_are ∙ get_begin (index_groups index) t n x at place in
+    (x, at, record { entry = event_entry x.begin; here = here; place = refl; stands = (known index t x at).begin_member })
+
+pub end_read : {A : Type 0} (index : Index A) (t n : ℕ) → t < length (index_groups index) → n + 1 ≡ transaction_place (index_groups index) (t + 1)
+    → (x : PlacedTransaction) × (slice_get (index_groups index) t ≡ Some x) × IsOfEntry index n x.end
+end_read index t n below place =
+    let (x, at) = found (index_groups index) t below in
+    let here = ap (λ es. slice_get es n) index.entries_are ∙ get_end (index_groups index) t n x at place in
+    (x, at, record { entry = event_entry x.end; here = here; place = refl; stands = (known index t x at).end_member })
+
+pub map_read : {A : Type 0} (index : Index A) (t s m n : ℕ) → IsSome (map_at (index_groups index) t s m) → n ≡ statement_place (index_groups index) t s + m
+    → (p : Placed) × (map_at (index_groups index) t s m ≡ Some p) × IsOfEntry index n p
+map_read index t s m n some place =
+    let (p, is) = some_found (map_at (index_groups index) t s m) some in
+    let here = ap (λ es. slice_get es n) index.entries_are ∙ get_map (index_groups index) t s m n p is place in
+    (p, is, record { entry = event_entry p; here = here; place = refl; stands = (map_known index t s m p is).member })
+
+pub rows_read : {A : Type 0} (index : Index A) (t s r n : ℕ) → IsSome (rows_at (index_groups index) t s r) → n ≡ rows_place (index_groups index) t s + r
+    → (p : PlacedRows) × (rows_at (index_groups index) t s r ≡ Some p) × IsRowsOfEntry index n p
+rows_read index t s r n some place =
+    let (p, is) = some_found (rows_at (index_groups index) t s r) some in
+    let here = ap (λ es. slice_get es n) index.entries_are ∙ get_rows (index_groups index) t s r n p is place in
+    option_and_then_some (λ y. slice_get y.rows r) (statement_at (index_groups index) t s) p is
+    (λ y at inside. (
+      p,
+      is,
+      record {
+        here = here;
+        maps = y.maps;
+        known = all-at (IsPlacedRows (Stands (index_bytes index)) (index_selection index) y.maps) y.rows r p (statement_known index t s y at).rows inside;
+      },
+    ))
 
 -- ---- an event that was read is the one that stands there
 
@@ -83,58 +109,10 @@ some_at bytes p at same stands = rw (same, stands) refl
 
 pub placed_is : (bytes : List ℕ) (p : Placed) (at : ℕ) (e : told.Event) → at ≡ p.pos → Stands bytes p → event_at (drop at bytes) ≡ Some (event_of e) → e.pos ≡ at → placed e ≡ p
 placed_is bytes p at e same stands read pos =
-    let event : event_of e ≡ p.event = same_Some (event_of e) p.event (sym read ∙ ap (λ n. event_at (drop n bytes)) same ∙ stands) in
-    ap (λ (n : ℕ). record { pos = n; event = event_of e }) (pos ∙ same) ∙ ap (λ (v : Event). record { pos = p.pos; event = v }) event
+    let event = same_Some (event_of e) p.event (sym read ∙ ap (λ n. event_at (drop n bytes)) same ∙ stands) in
+    λ i. record { pos = (pos ∙ same) i; event = event i }
 
--- ---- an entry of an event of an index
-
--- the event that stands at the entry's position is this one
-pub record Reads {A : Type 0} (index : Index A) (n : ℕ) (p : Placed) : Type 0 where
-  pub entry : Finds index.entries.items n (event_entry p)
-  pub stands : Stands (index_bytes index) p
-
-entry_same : {A : Type 0} (index : Index A) (n : ℕ) (p : Placed) (e : Entry) → Reads index n p → e ≡ get_or index.entries.items n e → e.at ≡ p.pos
-entry_same index n p e reads item = ap (λ (x : Entry). x.at) (reads.entry.value e item)
-
-pub reads_some : {A : Type 0} (index : Index A) (n : ℕ) (p : Placed) (e : Entry) → Reads index n p → e ≡ get_or index.entries.items n e → IsSome (event_at (drop e.at (index_bytes index)))
-reads_some index n p e reads item = some_at (index_bytes index) p e.at (entry_same index n p e reads item) reads.stands
-
-pub reads_is : {A : Type 0} (index : Index A) (n : ℕ) (p : Placed) (e : Entry) (event : told.Event) → Reads index n p → e ≡ get_or index.entries.items n e
-    → event_at (drop e.at (index_bytes index)) ≡ Some (event_of event) → event.pos ≡ e.at → placed event ≡ p
-reads_is index n p e event reads item read pos = placed_is (index_bytes index) p e.at event (entry_same index n p e reads item) reads.stands read pos
-
--- the `BEGIN` and the end of a transaction
-pub begin_read : {A : Type 0} (index : Index A) (t n : ℕ) → t < length (index_groups index) → n ≡ transaction_place (index_groups index) t
-    → (x : PlacedTransaction) × (slice_get (index_groups index) t ≡ Some x) × Reads index n x.begin
-begin_read index t n below place =
-    let x = found (index_groups index) t below in
-    (x.0, x.1, record { entry = at_begin index.entries.items (index_groups index) t n x.0 index.entries_are x.1 place; stands = (known index t x.0 x.1).begin_member })
-
-pub end_read : {A : Type 0} (index : Index A) (t n : ℕ) → t < length (index_groups index) → n + 1 ≡ transaction_place (index_groups index) (t + 1)
-    → (x : PlacedTransaction) × (slice_get (index_groups index) t ≡ Some x) × Reads index n x.end
-end_read index t n below place =
-    let x = found (index_groups index) t below in
-    (x.0, x.1, record { entry = at_end index.entries.items (index_groups index) t n x.0 index.entries_are x.1 place; stands = (known index t x.0 x.1).end_member })
-
--- there is an entry before the end of a transaction
-pub end_some : {A : Type 0} (index : Index A) (t : ℕ) → t < length (index_groups index) → 2 ≤ transaction_place (index_groups index) (t + 1)
-end_some index t below =
-    let x = found (index_groups index) t below in
-    omega (arith, next_transaction (index_groups index) t x.0 x.1)
-
--- where a transaction begins
-pub transaction_read : {A : Type 0} (index : Index A) (t : ℕ) → t < length (index_groups index)
-    → Finds index.transactions.items t (transaction_start (0 + transaction_place (index_groups index) t) (0 + statements_in (take t (index_groups index))))
-transaction_read index t below =
-    finds index.transactions.items (transaction_starts 0 0 (index_groups index)) t (transaction_start (0 + transaction_place (index_groups index) t) (0 + statements_in (take t (index_groups index)))) index.transactions_are
-    (get_transaction_start 0 0 (index_groups index) t below)
-
-pub first_entry : {A : Type 0} (index : Index A) (t : ℕ) (x : TransactionStart) → t < length (index_groups index) → x ≡ get_or index.transactions.items t x → x.entry ≡ transaction_place (index_groups index) t
-first_entry index t x below item = ap (λ (s : TransactionStart). s.entry) ((transaction_read index t below).value x item) ∙ zero-add (transaction_place (index_groups index) t)
-
-pub first_statement : {A : Type 0} (index : Index A) (t : ℕ) (x : TransactionStart) → t < length (index_groups index) → x ≡ get_or index.transactions.items t x
-    → x.statement ≡ statements_in (take t (index_groups index))
-first_statement index t x below item = ap (λ (s : TransactionStart). s.statement) ((transaction_read index t below).value x item) ∙ zero-add (statements_in (take t (index_groups index)))
+-- ---- beginnings
 
 -- how many transactions and statements there are
 pub many_transactions : {A : Type 0} (index : Index A) → length index.transactions.items ≡ length (index_groups index)
@@ -142,3 +120,31 @@ many_transactions index = ap length index.transactions_are ∙ transactions_len 
 
 pub many_statements : {A : Type 0} (index : Index A) → length index.statements.items ≡ statements_in (index_groups index)
 many_statements index = ap length index.statements_are ∙ statements_len 0 (index_groups index)
+
+pub transaction_read : {A : Type 0} (index : Index A) (t : ℕ) → t < length (index_groups index)
+    → slice_get index.transactions.items t ≡ Some (transaction_start (transaction_place (index_groups index) t) (statements_in (take t (index_groups index))))
+transaction_read index t below = ap (λ xs. slice_get xs t) index.transactions_are ∙ get_transaction_start 0 0 (index_groups index) t _ _ below (omega arith) (omega arith)
+
+pub below : {A : Type 0} (index : Index A) (t s : ℕ) → IsSome (statement_at (index_groups index) t s) → t < length (index_groups index)
+below index t s some =
+    let (y, is) = some_found (statement_at (index_groups index) t s) some in
+    option_and_then_some (λ x. slice_get x.statements s) (slice_get (index_groups index) t) y is (λ x at inside. slice_get_within (index_groups index) t x at)
+
+pub statement_read : {A : Type 0} (index : Index A) (t s n : ℕ) → IsSome (statement_at (index_groups index) t s) → n ≡ statements_in (take t (index_groups index)) + s
+    → slice_get index.statements.items n ≡ Some (statement_start (statement_place (index_groups index) t s) (length (maps_in (index_groups index) t s)))
+statement_read index t s n some place =
+    let ts = index_groups index in
+    let (y, is) = some_found (statement_at ts t s) some in
+    ap (λ xs. slice_get xs n) index.statements_are
+    ∙ get_statement_start 0 ts t s n (statement_place ts t s) y (sym (inner (λ x. x.statements) (slice_get ts t) s) ∙ is) place (omega arith)
+    ∙ ap (λ o. Some (statement_start (statement_place ts t s) (length (option_map_or (λ z. z.maps) o [])))) (sym is)
+
+-- where the next statement begins
+pub end_found : {A : Type 0} (index : Index A) (t s : ℕ) → IsSome (statement_at (index_groups index) t s)
+    → statement_place (index_groups index) t (s + 1) ≡ rows_place (index_groups index) t s + length (rows_in (index_groups index) t s)
+end_found index t s some =
+    let ts = index_groups index in
+    let (y, is) = some_found (statement_at ts t s) some in
+    let maps = ap (λ o. length (option_map_or (λ z. z.maps) o [])) is in
+    let rows = ap (λ o. length (option_map_or (λ z. z.rows) o [])) is in
+    omega (arith, next_statement ts t s y (sym (inner (λ x. x.statements) (slice_get ts t) s) ∙ is))

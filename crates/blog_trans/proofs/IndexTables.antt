@@ -1,51 +1,27 @@
 -- The numbers by table of an index are those of its groups.
-use Rattle.std.proofs.Common.{◌≡◌, ℕ, List, [], ◌∷◌, ◌++◌, map, length, Some, option_map, refl, sym, ap, ◌∙◌}
+use Rattle.std.proofs.Common.{◌≡◌, ℕ, List, [], map, length, Some, option_map, sym, ap, ◌∙◌}
 use Rattle.std.specs.List.{flat_map, slice_get}
 use Rattle.std.proofs.lemmas.List.{append-nil, length-map}
 use Rattle.std.proofs.lemmas.List.Folds.{flat_map-map}
+use Rattle.std.proofs.lemmas.Simd.{map-map}
 use Rattle.std.proofs.lemmas.Option.{slice_get-map}
-use Rattle.blog_event.specs.File.{Placed}
 use Rattle.blog_row.specs.TableMap.{Table}
 use Rattle.blog_trans.specs.Selection.{Selection}
-use Rattle.blog_trans.specs.Groups.{PlacedStatement, PlacedTransaction, Transaction, placed_groups, groups, event_value, rows_value, statement_value, transaction_value}
-use Rattle.blog_trans.specs.Changes.{Change, TableCount, table_of, changes_of_rows, changes_of_statement, changes_of, count_of, first_tables, tables_of, counts_of}
+use Rattle.blog_trans.specs.Groups.{PlacedTransaction, Transaction, placed_groups, groups, transaction_value}
+use Rattle.blog_trans.specs.Changes.{Change, TableCount, table_of, changes_of, count_of, first_tables, tables_of, counts_of}
 use Rattle.blog_trans.specs.BuilderView.{statements_changes, statements_tables, placed_changes, placed_tables}
 
--- ---- the changes
-
-statements_changed : (ss : List PlacedStatement) → statements_changes ss ≡ flat_map changes_of_statement (map statement_value ss)
-statements_changed [] = refl
-statements_changed (s ∷ ss) =
-    ap (λ cs. cs ++ statements_changes ss) (sym (flat_map-map changes_of_rows rows_value s.rows))
-    ∙ ap (λ cs. flat_map changes_of_rows (map rows_value s.rows) ++ cs) (statements_changed ss)
+-- ---- the changes and the tables of values
 
 changed : (ts : List PlacedTransaction) → flat_map (λ t. statements_changes t.statements) ts ≡ changes_of (map transaction_value ts)
-changed [] = refl
-changed (t ∷ ts) =
-    ap (λ cs. cs ++ flat_map (λ t. statements_changes t.statements) ts) (statements_changed t.statements)
-    ∙ ap (λ cs. flat_map changes_of_statement (map statement_value t.statements) ++ cs) (changed ts)
-
--- ---- the tables
-
-maps_named : (ms : List Placed) → map (λ m. table_of m.event.body) ms ≡ map (λ m. table_of m.body) (map event_value ms)
-maps_named [] = refl
-maps_named (m ∷ ms) = ap (λ ts. table_of m.event.body ∷ ts) (maps_named ms)
-
-statements_named : (ss : List PlacedStatement) → statements_tables ss ≡ flat_map (λ s. map (λ m. table_of m.body) s.maps) (map statement_value ss)
-statements_named [] = refl
-statements_named (s ∷ ss) =
-    ap (λ ts. ts ++ statements_tables ss) (maps_named s.maps)
-    ∙ ap (λ ts. map (λ m. table_of m.body) (map event_value s.maps) ++ ts) (statements_named ss)
+changed ts = simp flat_map-map
 
 -- the tables of the maps of groups, before each is taken once
 abbrev map_tables : List Transaction → List Table
 map_tables ts = flat_map (λ t. flat_map (λ s. map (λ m. table_of m.body) s.maps) t.statements) ts
 
 named : (ts : List PlacedTransaction) → flat_map (λ t. statements_tables t.statements) ts ≡ map_tables (map transaction_value ts)
-named [] = refl
-named (t ∷ ts) =
-    ap (λ xs. xs ++ flat_map (λ t. statements_tables t.statements) ts) (statements_named t.statements)
-    ∙ ap (λ xs. flat_map (λ s. map (λ m. table_of m.body) s.maps) (map statement_value t.statements) ++ xs) (named ts)
+named ts = simp (flat_map-map, map-map)
 
 -- ---- of the groups of a log
 

@@ -1,12 +1,14 @@
 -- How the kind of an event is told.
-use Rattle.std.proofs.Common.{◌≡◌, ℕ, zero, suc, ◌+◌, ◌*◌, ◌/◌, ◌%◌, ◌<◌, ◌≤◌, ◌≢◌, Bool, true, false, List, length, drop, Some, None, refl, sym, subst, ap, ◌∙◌, inl, inr, arith, bit_and}
+use Rattle.std.proofs.Common.{◌≡◌, ℕ, zero, suc, ◌+◌, ◌*◌, ◌/◌, ◌%◌, ◌<◌, ◌≤◌, ◌≢◌, Bool, true, false, List, [], ◌∷◌, length, drop, Some, None, refl, sym, subst, ap, ◌∙◌, inl, inr, arith, bit_and}
 use Rattle.std.specs.Prelude.{◌⊎◌, ◌&&◌, ◌||◌, ◌==◌, not, if◌then◌else◌, nat_le, nat_lt, bytes_eq, codes, slice_index}
+use Rattle.std.specs.List.{list_all}
 use Rattle.std.specs.Option.{option_map_or}
-use Rattle.std.proofs.lemmas.Bool.{cases_lt}
+use Rattle.std.proofs.lemmas.Bool.{cases_lt, and_parts}
 use Rattle.std.proofs.lemmas.Bool.Decides.{nat_tests}
 use Rattle.std.proofs.lemmas.Nat.Bits.{and_high}
 use Rattle.byteorder.specs.Endian.{little_number}
 use Rattle.blog_event.specs.Event.{Event}
+use Rattle.blog_row.specs.Column.{is_one_of}
 use Rattle.blog_row.specs.RowsKind.{rows_kind_of}
 use Rattle.blog_trans.specs.declared.kind.EventKind.{EventKind}
 use Rattle.blog_trans.specs.declared.kind.EventKind.TheVariants as kind
@@ -83,64 +85,37 @@ among P low (suc more) n all least most = elim (cases_lt low n) [
   | inr here ↦ let is : low ≡ n = omega arith in subst P is all.0
 ]
 
--- numbers that differ
-differs : (n m : ℕ) → n ≢ m → (n == m) ≡ false
-differs n m h = grind (arith, nat_tests)
-
 -- a type number that no line but the last tells
 abbrev pub IsOther : ℕ → Type 0
 IsOther n = (n < 1) ⊎ (((19 < n) × (n < 33) × (n ≢ 29)) ⊎ ((35 < n) × (n ≢ 39)))
 
--- such a number is not among the others
-not-low : (n m : ℕ) → IsOther n → 0 < m → m < 20 → (n == m) ≡ false
-not-low n m (inl none) least most = differs n m (omega arith)
-not-low n m (inr (inl some)) least most = differs n m (omega arith)
-not-low n m (inr (inr more)) least most = differs n m (omega arith)
+-- one that another line tells
+abbrev is_told : ℕ → Bool
+is_told m = (nat_lt 0 m && nat_lt m 20) || (m == 29 || ((nat_lt 32 m && nat_lt m 36) || m == 39))
 
-not-29 : (n : ℕ) → IsOther n → (n == 29) ≡ false
-not-29 n (inl none) = differs n 29 (omega arith)
-not-29 n (inr (inl some)) = differs n 29 (omega arith)
-not-29 n (inr (inr more)) = differs n 29 (omega arith)
+not-told : (n m : ℕ) → IsOther n → is_told m ≡ true → (n == m) ≡ false
+not-told n m (inl none) told = grind (arith, nat_tests)
+not-told n m (inr (inl some)) told = grind (arith, nat_tests)
+not-told n m (inr (inr more)) told = grind (arith, nat_tests)
 
-not-39 : (n : ℕ) → IsOther n → (n == 39) ≡ false
-not-39 n (inl none) = differs n 39 (omega arith)
-not-39 n (inr (inl some)) = differs n 39 (omega arith)
-not-39 n (inr (inr more)) = differs n 39 (omega arith)
-
-not-gtid : (n m : ℕ) → IsOther n → 32 < m → m < 36 → (n == m) ≡ false
-not-gtid n m (inl none) least most = differs n m (omega arith)
-not-gtid n m (inr (inl some)) least most = differs n m (omega arith)
-not-gtid n m (inr (inr more)) least most = differs n m (omega arith)
+none-told : (n : ℕ) (ms : List ℕ) → IsOther n → list_all is_told ms ≡ true → is_one_of ms n ≡ false
+none-told n [] h told = refl
+none-told n (m ∷ ms) h told =
+    let parts = and_parts (is_told m) (list_all is_told ms) told in
+    rw (not-told n m h parts.0) (none-told n ms h parts.1)
 
 -- the kind of an event of such a type
 pub kind-of-other : (e : Event) → IsOther e.kind → option_map_or kind.Rows (rows_kind_of e.kind) (other_kind e.kind e.flags) ≡ kind_of e
 unfolding kind_of
 kind-of-other e h =
-    let low : (m : ℕ) → 0 < m → m < 20 → (e.kind == m) ≡ false = λ m. not-low e.kind m h in
-    let gtid : (m : ℕ) → 32 < m → m < 36 → (e.kind == m) ≡ false = λ m. not-gtid e.kind m h in
     rw (
-      low 2 (omega arith) (omega arith),
-      low 16 (omega arith) (omega arith),
-      gtid 33 (omega arith) (omega arith),
-      gtid 34 (omega arith) (omega arith),
-      low 3 (omega arith) (omega arith),
-      low 4 (omega arith) (omega arith),
-      gtid 35 (omega arith) (omega arith),
-      not-29 e.kind h,
-      low 1 (omega arith) (omega arith),
-      low 5 (omega arith) (omega arith),
-      low 6 (omega arith) (omega arith),
-      low 7 (omega arith) (omega arith),
-      low 8 (omega arith) (omega arith),
-      low 9 (omega arith) (omega arith),
-      low 10 (omega arith) (omega arith),
-      low 11 (omega arith) (omega arith),
-      low 12 (omega arith) (omega arith),
-      low 13 (omega arith) (omega arith),
-      low 14 (omega arith) (omega arith),
-      low 17 (omega arith) (omega arith),
-      low 18 (omega arith) (omega arith),
-      low 15 (omega arith) (omega arith),
-      low 19 (omega arith) (omega arith),
-      not-39 e.kind h,
+      not-told e.kind 2 h refl,
+      not-told e.kind 16 h refl,
+      none-told e.kind (33 ∷ 34 ∷ []) h refl,
+      none-told e.kind (3 ∷ 4 ∷ 35 ∷ []) h refl,
+      not-told e.kind 29 h refl,
+      none-told e.kind (1 ∷ 5 ∷ 6 ∷ 7 ∷ 8 ∷ 9 ∷ 10 ∷ 11 ∷ 12 ∷ 13 ∷ 14 ∷ 17 ∷ 18 ∷ []) h refl,
+      not-told e.kind 15 h refl,
+      not-told e.kind 19 h refl,
+      not-told e.kind 39 h refl,
     ) refl

@@ -1,48 +1,39 @@
 -- The largest event of the groups, found by their entries.
-use Rattle.std.proofs.Common.{◌≡◌, ℕ, zero, suc, ◌+◌, ◌<◌, max, List, [], ◌∷◌, length, map, drop, get_or, Some, IsSome, refl, sym, ap, ◌∙◌, arith}
+use Rattle.std.proofs.Common.{◌≡◌, ℕ, ◌<◌, List, length, Some, option_map, sym, ap, ◌∙◌}
 use Rattle.std.specs.List.{AllByRecursion, slice_get}
-use Rattle.std.proofs.lemmas.List.{drop_all, length-map}
-use Rattle.std.proofs.lemmas.Option.{none-some, same_Some, slice_get-get_or}
-use Rattle.blog_event.specs.Event.{event_at, event_size}
+use Rattle.std.proofs.lemmas.List.{length-map}
+use Rattle.std.proofs.lemmas.Option.{slice_get-map}
 use Rattle.blog_event.specs.File.{Placed}
 use Rattle.blog_trans.specs.declared.lists.Entry.{Entry}
 use Rattle.blog_trans.specs.declared.groups.Index.{Index}
-use Rattle.blog_trans.specs.IndexView.{index_bytes, index_selection}
-use Rattle.blog_trans.specs.Shown.{largest, shown}
-use Rattle.blog_trans.proofs.IndexFacts.{Stands, shown-stand, some_at}
-use Rattle.blog_trans.proofs.PlacedParts.{all-at}
-use Rattle.blog_trans.proofs.Shown.{entries-at}
-use Rattle.blog_trans.proofs.Turns.{drop-at}
+use Rattle.blog_trans.specs.Selection.{Selection}
+use Rattle.blog_trans.specs.Acceptance.{IsAccepted}
+use Rattle.blog_trans.specs.Groups.{placed_groups}
+use Rattle.blog_trans.specs.PlacedFacts.{IsPlacedTransaction}
+use Rattle.blog_trans.specs.IndexView.{Stands, IsOfEntry, index_bytes, index_selection}
+use Rattle.blog_trans.specs.Shown.{shown, transaction_shown}
+use Rattle.blog_trans.proofs.EntriesFound.{mapped}
+use Rattle.blog_trans.proofs.IndexFacts.{found, groups_known}
+use Rattle.blog_trans.proofs.PlacedParts.{all-at, all-joined}
+use Rattle.blog_trans.proofs.Shown.{transaction-within, entries-at}
 
--- of two lists whose elements have the same of something
-alike : {A B C : Type 0} (f : A → C) (g : B → C) (xs : List A) (ys : List B) (i : ℕ) (x : A) → map f xs ≡ map g ys → slice_get xs i ≡ Some x → (y : B) × (slice_get ys i ≡ Some y) × (f x ≡ g y)
-alike f g [] ys i x same at = absurd (none-some x at)
-alike f g (x ∷ xs) [] i z same at = absurd (cc)
-alike f g (x ∷ xs) (y ∷ ys) zero z same at = let own : f x ≡ g y = cc in (y, refl, ap f (sym (same_Some x z at)) ∙ own)
-alike f g (x ∷ xs) (y ∷ ys) (suc i) z same at = let others : map f xs ≡ map g ys = cc in alike f g xs ys i z others at
+-- the events of the groups stand in the log
+shown-stand : (bytes : List ℕ) (sel : Selection) → IsAccepted bytes sel → AllByRecursion (Stands bytes) (shown bytes sel)
+unfolding shown
+shown-stand bytes sel accepted = all-joined (IsPlacedTransaction (Stands bytes) sel) (Stands bytes) transaction_shown (transaction-within (Stands bytes) sel) (placed_groups bytes sel) (groups_known bytes sel accepted)
 
 -- the event of an entry
-pub entry-shown : {A : Type 0} (index : Index A) (entries : List Entry) (i : ℕ) (d : Entry) → entries ≡ index.entries.items → i < length entries
-    → (p : Placed) × (slice_get (shown (index_bytes index) (index_selection index)) i ≡ Some p) × ((get_or entries i d).at ≡ p.pos)
-entry-shown index entries i d same within =
-    alike (λ (e : Entry). e.at) (λ (p : Placed). p.pos) entries (shown (index_bytes index) (index_selection index)) i (get_or entries i d)
-    (entries-at entries (index_bytes index) (index_selection index) (same ∙ index.entries_are)) (slice_get-get_or entries i d within)
+pub entry-shown : {A : Type 0} (index : Index A) (i : ℕ) → i < length index.entries.items → (p : Placed) × (slice_get (shown (index_bytes index) (index_selection index)) i ≡ Some p) × IsOfEntry index i p
+entry-shown index i within =
+    let all = shown (index_bytes index) (index_selection index) in
+    let (e, here) = found index.entries.items i within in
+    let ats = entries-at index.entries.items (index_bytes index) (index_selection index) index.entries_are in
+    let (p, at, place) = mapped (λ (p : Placed). p.pos) (slice_get all i) e.at (sym (slice_get-map (λ (p : Placed). p.pos) all i) ∙ ap (λ ns. slice_get ns i) (sym ats)
+    ∙ slice_get-map (λ (e : Entry). e.at) index.entries.items i ∙ ap (option_map (λ (e : Entry). e.at)) here) in
+    (p, at, record { entry = e; here = here; place = sym place; stands = all-at (Stands (index_bytes index)) all i p (shown-stand (index_bytes index) (index_selection index) index.accepted) at })
 
--- it stands in the log
-pub entry-stands : {A : Type 0} (index : Index A) (i at : ℕ) (p : Placed) → slice_get (shown (index_bytes index) (index_selection index)) i ≡ Some p → at ≡ p.pos → Stands (index_bytes index) p
-entry-stands index i at p here same = all-at (Stands (index_bytes index)) (shown (index_bytes index) (index_selection index)) i p (shown-stand (index_bytes index) (index_selection index)) here
-
-pub entry-some : {A : Type 0} (index : Index A) (entries : List Entry) (i : ℕ) (d : Entry) → entries ≡ index.entries.items → i < length entries → IsSome (event_at (drop (get_or entries i d).at (index_bytes index)))
-entry-some index entries i d same within =
-    let (p, here, pos) = entry-shown index entries i d same within in
-    some_at (index_bytes index) p (get_or entries i d).at pos (entry-stands index i (get_or entries i d).at p here pos)
-
--- one more is looked at
-pub largest-next : (most : ℕ) (ps : List Placed) (i : ℕ) (p : Placed) → slice_get ps i ≡ Some p → largest (max most (event_size p.event)) (drop (i + 1) ps) ≡ largest most (drop i ps)
-largest-next most ps i p here = sym (ap (largest most) (drop-at ps i p here))
-
--- none is left
-pub shown-many : {A : Type 0} (index : Index A) (entries : List Entry) → entries ≡ index.entries.items → length (shown (index_bytes index) (index_selection index)) ≡ length entries
-shown-many index entries same =
-    let ats = ap length (entries-at entries (index_bytes index) (index_selection index) (same ∙ index.entries_are)) in
-    sym (length-map (shown (index_bytes index) (index_selection index)) (λ (p : Placed). p.pos)) ∙ sym ats ∙ length-map entries (λ (e : Entry). e.at)
+-- how many there are
+pub shown-many : {A : Type 0} (index : Index A) → length (shown (index_bytes index) (index_selection index)) ≡ length index.entries.items
+shown-many index =
+    sym (length-map (shown (index_bytes index) (index_selection index)) (λ (p : Placed). p.pos))
+    ∙ sym (ap length (entries-at index.entries.items (index_bytes index) (index_selection index) index.entries_are)) ∙ length-map index.entries.items (λ (e : Entry). e.at)

@@ -13,9 +13,7 @@ pub mod KeptRows
 pub mod ProgressFirsts
 pub mod ProgressMaps
 pub mod Columns
-pub mod EntriesMarked
-pub mod EntriesClosed
-pub mod EntriesEnded
+pub mod EntriesKept
 pub mod TableNumbers
 pub mod CheckingStatement
 pub mod CheckingMaps
@@ -32,9 +30,7 @@ mod BuilderSteps
 mod WalkCode
 pub mod EntriesFound
 pub mod IndexTables
-pub mod IndexFound
 pub mod IndexFacts
-pub mod IndexStatements
 mod IndexCode
 pub mod IndexRows
 pub mod Turns

@@ -1,7 +1,7 @@
 -- The facts of each group of events.
 use Rattle.std.proofs.Common.{◌≡◌, ℕ, Bool, true, false, ◌&&◌, ◌||◌, not, if◌then◌else◌, List, [], ◌∷◌, map, reverse, Option, Some, None, bytes_eq, refl, sym, ap, subst, ◌∙◌}
 use Rattle.std.specs.Option.{option_map_or}
-use Rattle.std.specs.List.{AllByRecursion, IsDistinct, filter_map, slice_get, list_any, Contains}
+use Rattle.std.specs.List.{AllByRecursion, IsDistinct, filter_map, list_any, Contains}
 use Rattle.std.proofs.lemmas.Bool.{and_parts, or_left, or_right, false≢true}
 use Rattle.std.proofs.lemmas.List.{reverse-reverse}
 use Rattle.std.proofs.lemmas.List.Elements.{All-contains_itself, recursion_from_All}
@@ -16,7 +16,7 @@ use Rattle.blog_trans.specs.PlacedFacts.{IsPlacedMap, IsPlacedRows, IsPlacedStat
 use Rattle.blog_trans.proofs.ProgressSteps.{not-holds}
 use Rattle.blog_trans.proofs.ProgressFirsts.{id_at, ids_of, is_id_among, without_id, IsFirst, bytes-own, bytes-same, among-without, first-filter, first-found}
 use Rattle.blog_trans.proofs.KeptRows.{IsKeptOf, under-found, kept-facts}
-use Rattle.blog_trans.proofs.PlacedParts.{all-by, all-both, all-map, all-filter, all-found, all-given, all-at, any-map, IsSpanOf, spans-all, statements-all}
+use Rattle.blog_trans.proofs.PlacedParts.{all-by, all-both, all-map, all-filter, all-found, all-given, any-map, IsSpanOf, spans-all, statements-all}
 
 -- ---- maps
 
@@ -195,24 +195,3 @@ groups-placed Member sel es all =
 -- each event of the groups is one of the events
 pub groups-among : (sel : Selection) (es : List Placed) → AllByRecursion (IsPlacedTransaction (Contains es) sel) (placed_groups_in sel es)
 groups-among sel es = groups-placed (Contains es) sel es (recursion_from_All (Contains es) es (All-contains_itself es))
-
--- ---- by their numbers
-
--- the transaction of a number
-pub transaction-at : (Member : Placed → Type 0) (sel : Selection) (es : List Placed) (k : ℕ) (t : PlacedTransaction) → AllByRecursion Member es → slice_get (placed_groups_in sel es) k ≡ Some t
-    → IsPlacedTransaction Member sel t
-transaction-at Member sel es k t all e = all-at (IsPlacedTransaction Member sel) (placed_groups_in sel es) k t (groups-placed Member sel es all) e
-
--- its statement of a number
-pub statement-at : (Member : Placed → Type 0) (sel : Selection) (t : PlacedTransaction) (k : ℕ) (s : PlacedStatement) → IsPlacedTransaction Member sel t → slice_get t.statements k ≡ Some s
-    → IsPlacedStatement Member sel s
-statement-at Member sel t k s placed e = all-at (IsPlacedStatement Member sel) t.statements k s placed.statements e
-
--- that one's map of a number
-pub map-at : (Member : Placed → Type 0) (sel : Selection) (s : PlacedStatement) (k : ℕ) (m : Placed) → IsPlacedStatement Member sel s → slice_get s.maps k ≡ Some m → IsPlacedMap Member sel m
-map-at Member sel s k m placed e = all-at (IsPlacedMap Member sel) s.maps k m placed.maps e
-
--- and its rows event of a number
-pub rows-at : (Member : Placed → Type 0) (sel : Selection) (s : PlacedStatement) (k : ℕ) (r : PlacedRows) → IsPlacedStatement Member sel s → slice_get s.rows k ≡ Some r
-    → IsPlacedRows Member sel s.maps r
-rows-at Member sel s k r placed e = all-at (IsPlacedRows Member sel s.maps) s.rows k r placed.rows e

@@ -10,6 +10,7 @@ use Rattle.std.proofs.lemmas.Map.Views.{any-filter_same}
 use Rattle.std.proofs.lemmas.Slice.Eq.{bytes_eq-Decides}
 use Rattle.blog_event.specs.File.{Placed}
 use Rattle.blog_row.specs.RowsEvent.{table_id}
+use Rattle.blog_row.proofs.ReversedRows.{all-append}
 use Rattle.blog_trans.specs.Places.{is_map, is_map_of, map_in}
 use Rattle.blog_trans.specs.Groups.{PlacedRows, first_maps}
 use Rattle.blog_trans.specs.StatementMaps.{first_of_ids}
@@ -114,12 +115,8 @@ first-latest ids (x ∷ xs) p =
 pub first-filter : (ids : List (List ℕ)) (statement : List Placed) → first_maps ids (reverse statement) ≡ filter (λ m. is_id_among ids (id_at m)) (first_of_ids statement)
 first-filter ids [] = refl
 first-filter ids (p ∷ statement) =
-    ap (first_maps ids) (reverse-latest p statement)
-    ∙ first-latest ids (reverse statement) p
-    ∙ ap (λ t. first_maps ids (reverse statement) ++ (if is_map p && (is_id_among ids (id_at p) && not t) then p ∷ [] else []))
-    (sym (list_any-IsPermutation (is_map_of (id_at p)) statement (reverse statement) (IsPermutation-reverse statement)))
-    ∙ ap (λ l. l ++ (if is_map p && (is_id_among ids (id_at p) && not earlier) then p ∷ [] else [])) (first-filter ids statement)
-    ∙ by_case (is_map p) earlier
+    rw (reverse-latest p statement, first-latest ids (reverse statement) p, sym (list_any-IsPermutation (is_map_of (id_at p)) statement (reverse statement) (IsPermutation-reverse statement)), first-filter ids statement)
+    (by_case (is_map p) earlier)
   where
     asked : Placed → Bool
     asked m = is_id_among ids (id_at m)
@@ -144,10 +141,6 @@ find-none test (x ∷ xs) e = by_case (test x) e (find-none test xs)
     by_case true h more = absurd (false≢true (sym h))
     by_case false h more = more h
 
-all-with : {A : Type 0} (P Q : A → Type 0) → ((x : A) → P x → Q x) → (xs : List A) → AllByRecursion P xs → (y : A) → Q y → AllByRecursion Q (xs ++ y ∷ [])
-all-with P Q each [] all y last = (last, tt)
-all-with P Q each (x ∷ xs) all y last = (each x all.0, all-with P Q each xs all.1 y last)
-
 -- each is found by its id
 abbrev pub IsFirst : List Placed → Placed → Type 0
 IsFirst statement m = map_in (reverse statement) (id_at m) ≡ Some m
@@ -170,5 +163,5 @@ first-found (p ∷ statement) = by_case (is_map p) refl (list_any (is_map_of (id
     by_case : (b : Bool) → is_map p ≡ b → (d : Bool) → list_any (is_map_of (id_at p)) statement ≡ d → AllByRecursion (IsFirst statement) (first_of_ids statement)
         → AllByRecursion (IsFirst (p ∷ statement)) (if b && not d then first_of_ids statement ++ p ∷ [] else first_of_ids statement)
     by_case true is true some others = all-by _ _ stays _ others
-    by_case true is false none others = all-with _ _ stays _ others p (own is none)
+    by_case true is false none others = all-append (IsFirst (p ∷ statement)) (first_of_ids statement) (p ∷ []) (all-by _ _ stays _ others) (own is none, tt)
     by_case false is d some others = all-by _ _ stays _ others

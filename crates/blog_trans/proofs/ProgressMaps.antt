@@ -1,20 +1,21 @@
 -- The maps of a kept statement are the first maps that are used. `statement` has its events, the latest first.
-use Rattle.std.proofs.Common.{◌≡◌, ℕ, Bool, true, false, ◌&&◌, ◌||◌, if◌then◌else◌, List, [], ◌∷◌, ◌++◌, filter, reverse, Option, Some, None, bytes_eq, refl, sym, ap, ◌∙◌, append-nil}
+use Rattle.std.proofs.Common.{◌≡◌, ℕ, Bool, true, false, ◌&&◌, ◌||◌, if◌then◌else◌, List, [], ◌∷◌, ◌++◌, filter, reverse, Option, Some, None, is_some, bytes_eq, refl, sym, ap, ◌∙◌, append-nil}
 use Rattle.std.specs.Option.{option_map_or}
 use Rattle.std.specs.List.{AllByRecursion, list_any}
-use Rattle.std.proofs.lemmas.Bool.{false≢true}
-use Rattle.std.proofs.lemmas.Option.{none-some, same_Some}
+use Rattle.std.proofs.lemmas.Bool.{and_from, and_parts, false≢true}
+use Rattle.std.proofs.lemmas.Option.{same_Some}
 use Rattle.blog_event.specs.File.{Placed}
 use Rattle.blog_trans.specs.Selection.{Selection}
+use Rattle.blog_trans.specs.Kinds.{rows_of_kind}
 use Rattle.blog_trans.specs.Places.{is_rows, since, map_in}
 use Rattle.blog_trans.specs.Acceptance.{is_selected, HavePassed}
 use Rattle.blog_trans.specs.Groups.{PlacedRows, PlacedStatement, kept_rows, first_maps, statement_if}
 use Rattle.blog_trans.specs.Progress.{Open, appended_if, with_rows, closed, progress}
 use Rattle.blog_trans.specs.StatementMaps.{first_of_ids, is_used}
 use Rattle.blog_trans.proofs.ProgressSteps.{reverse-behind, IsChecked}
-use Rattle.blog_trans.proofs.ProgressRows.{AreChecked, kept_so_far, with-checked, no-rows-kept, found-stays}
+use Rattle.blog_trans.proofs.ProgressRows.{AreChecked, kept_so_far, with-checked, found-stays}
 use Rattle.blog_trans.proofs.ProgressState.{open-kept}
-use Rattle.blog_trans.proofs.ProgressFirsts.{id_at, ids_of, is_id_among, IsFirst, bytes-own, bytes-same, bytes-differ, and-false, or-swap, and-spread, first-filter, first-found}
+use Rattle.blog_trans.proofs.ProgressFirsts.{id_at, ids_of, is_id_among, IsFirst, bytes-own, bytes-same, and-false, or-swap, and-spread, first-filter, first-found}
 use Rattle.blog_trans.proofs.KeptRows.{kept-facts}
 
 -- ---- used maps
@@ -30,38 +31,42 @@ among-appended [] (Some r) id = refl
 among-appended (x ∷ rows) (Some r) id =
     ap (λ t. bytes_eq id (id_at x.event) || t) (among-appended rows (Some r) id) ∙ or-swap (bytes_eq id (id_at x.event)) (bytes_eq id (id_at r.event)) (is_id_among (ids_of rows) id)
 
+-- two tests that hold together
+both-ways : (a b : Bool) → (a ≡ true → b ≡ true) → (b ≡ true → a ≡ true) → a ≡ b
+both-ways true b to from = sym (to refl)
+both-ways false true to from = from refl
+both-ways false false to from = refl
+
 -- a map is used by a rows event that is its statement's and of its id, if this is kept
 used-latest : (sel : Selection) (m : Placed) (statement later : List Placed) (p : Placed) → (is_rows p ≡ true → IsChecked sel statement p)
     → map_in (reverse statement ++ p ∷ later) (id_at m) ≡ Some m → (is_selected sel m.event.body && (is_rows p && bytes_eq (id_at p) (id_at m))) ≡ has_id (kept_rows sel (reverse statement) p) (id_at m)
-used-latest sel m statement later p checked found = by_rows (is_rows p) refl
+used-latest sel m statement later p checked found = both-ways _ _ to (from kept refl)
   where
-    selected : Bool
-    selected = is_selected sel m.event.body
+    kept : Option PlacedRows
+    kept = kept_rows sel (reverse statement) p
 
     -- its map is the one by which it was checked
     same_map : (c : Placed) → map_in (reverse statement) (id_at p) ≡ Some c → bytes_eq (id_at p) (id_at m) ≡ true → c ≡ m
     same_map c at same =
         same_Some c m (sym (found-stays (reverse statement) (p ∷ later) (id_at p) c at) ∙ ap (map_in (reverse statement ++ p ∷ later)) (bytes-same (id_at p) (id_at m) same) ∙ found)
 
-    by_kept : (c : IsChecked sel statement p) (o : Option PlacedRows) → kept_rows sel (reverse statement) p ≡ o → (b : Bool) → bytes_eq (id_at p) (id_at m) ≡ b
-        → (s : Bool) → selected ≡ s → (s && b) ≡ has_id o (id_at m)
-    by_kept c None kept b same false is = refl
-    by_kept c None kept false same true is = refl
-    by_kept c None kept true same true is =
-        let some = c.kept (ap (λ (x : Placed). is_selected sel x.event.body) (same_map c.map c.found same) ∙ is) in
-        absurd (none-some some.0 (sym kept ∙ some.1))
-    by_kept c (Some r) kept false same s is =
-        and-false s ∙ sym (ap (λ (x : Placed). bytes_eq (id_at m) (id_at x)) (kept-facts sel (reverse statement) p r kept).event_is ∙ bytes-differ (id_at p) (id_at m) same)
-    by_kept c (Some r) kept true same true is =
-        sym (ap (λ (x : Placed). bytes_eq (id_at m) (id_at x)) (kept-facts sel (reverse statement) p r kept).event_is
-        ∙ ap (bytes_eq (id_at m)) (bytes-same (id_at p) (id_at m) same) ∙ bytes-own (id_at m))
-    by_kept c (Some r) kept true same false is =
-        let facts = kept-facts sel (reverse statement) p r kept in
-        absurd (false≢true (sym is ∙ sym (ap (λ (x : Placed). is_selected sel x.event.body) (same_map r.map facts.found same)) ∙ facts.selected))
+    to : (is_selected sel m.event.body && (is_rows p && bytes_eq (id_at p) (id_at m))) ≡ true → has_id kept (id_at m) ≡ true
+    to h =
+        let (selected, others) = and_parts (is_selected sel m.event.body) (is_rows p && bytes_eq (id_at p) (id_at m)) h in
+        let (one, same) = and_parts (is_rows p) (bytes_eq (id_at p) (id_at m)) others in
+        let c = checked one in
+        let (r, is) = c.kept (ap (λ (x : Placed). is_selected sel x.event.body) (same_map c.map c.found same) ∙ selected) in
+        ap (λ o. has_id o (id_at m)) is ∙ ap (λ (x : Placed). bytes_eq (id_at m) (id_at x)) (kept-facts sel (reverse statement) p r is).event_is
+        ∙ ap (bytes_eq (id_at m)) (bytes-same (id_at p) (id_at m) same) ∙ bytes-own (id_at m)
 
-    by_rows : (b : Bool) → is_rows p ≡ b → (selected && (b && bytes_eq (id_at p) (id_at m))) ≡ has_id (kept_rows sel (reverse statement) p) (id_at m)
-    by_rows true is = by_kept (checked is) (kept_rows sel (reverse statement) p) refl (bytes_eq (id_at p) (id_at m)) refl selected refl
-    by_rows false is = and-false selected ∙ sym (ap (λ o. has_id o (id_at m)) (no-rows-kept sel (reverse statement) p is))
+    from : (o : Option PlacedRows) → kept ≡ o → has_id o (id_at m) ≡ true → (is_selected sel m.event.body && (is_rows p && bytes_eq (id_at p) (id_at m))) ≡ true
+    from None is h = absurd (false≢true h)
+    from (Some r) is h =
+        let facts = kept-facts sel (reverse statement) p r is in
+        let own = bytes-same (id_at m) (id_at p) (sym (ap (λ (x : Placed). bytes_eq (id_at m) (id_at x)) facts.event_is) ∙ h) in
+        let same = ap (λ x. bytes_eq x (id_at m)) (sym own) ∙ bytes-own (id_at m) in
+        and_from _ _ (sym (ap (λ (x : Placed). is_selected sel x.event.body) (same_map r.map facts.found same)) ∙ facts.selected)
+        (and_from _ _ (ap (λ j. is_some (rows_of_kind j)) facts.kind_is) same)
 
 -- the first map of an id is used if a kept rows event has the id
 used-is : (sel : Selection) (m : Placed) (statement : List Placed) → AreChecked sel statement → (later : List Placed) → map_in (reverse statement ++ later) (id_at m) ≡ Some m
@@ -69,10 +74,12 @@ used-is : (sel : Selection) (m : Placed) (statement : List Placed) → AreChecke
 used-is sel m [] checked later found = and-false (is_selected sel m.event.body)
 used-is sel m (p ∷ statement) checked later found =
     let behind = ap (λ l. map_in l (id_at m)) (sym (reverse-behind p statement later)) ∙ found in
-    and-spread (is_selected sel m.event.body) (is_rows p && bytes_eq (id_at p) (id_at m)) (list_any (λ q. is_rows q && bytes_eq (id_at q) (id_at m)) statement)
-    ∙ ap (λ t. t || is_used sel statement m) (used-latest sel m statement later p checked.0 behind)
-    ∙ ap (λ t. has_id (kept_rows sel (reverse statement) p) (id_at m) || t) (used-is sel m statement checked.1 (p ∷ later) behind)
-    ∙ sym (among-appended (kept_so_far sel statement) (kept_rows sel (reverse statement) p) (id_at m))
+    rw (
+      and-spread (is_selected sel m.event.body) (is_rows p && bytes_eq (id_at p) (id_at m)) (list_any (λ q. is_rows q && bytes_eq (id_at q) (id_at m)) statement),
+      used-latest sel m statement later p checked.0 behind,
+      used-is sel m statement checked.1 (p ∷ later) behind,
+    )
+    (sym (among-appended (kept_so_far sel statement) (kept_rows sel (reverse statement) p) (id_at m)))
 
 -- two tests that answer alike leave the same
 filter-same : {A : Type 0} (P : A → Type 0) (f g : A → Bool) → ((x : A) → P x → f x ≡ g x) → (xs : List A) → AllByRecursion P xs → filter f xs ≡ filter g xs

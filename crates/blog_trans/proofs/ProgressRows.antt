@@ -1,6 +1,6 @@
 -- The kept rows events of a statement: those that were kept as they came are those that the whole statement keeps.
 -- `statement` has its events, the latest first.
-use Rattle.std.proofs.Common.{◌≡◌, ℕ, Bool, true, false, ◌||◌, not, if◌then◌else◌, List, [], ◌∷◌, ◌++◌, reverse, Option, Some, None, is_some, option_and_then, refl, sym, ap, ◌∙◌, append-nil}
+use Rattle.std.proofs.Common.{◌≡◌, ℕ, Bool, true, false, ◌||◌, not, if◌then◌else◌, List, [], ◌∷◌, ◌++◌, reverse, Option, Some, None, is_some, option_and_then, refl, sym, ap, ◌∙◌, append_assoc, append-nil}
 use Rattle.std.specs.Option.{option_or}
 use Rattle.std.specs.List.{list_any, filter_map, cons_option}
 use Rattle.std.proofs.lemmas.Bool.{false≢true}
@@ -8,15 +8,14 @@ use Rattle.std.proofs.lemmas.List.Elements.{filter_map-append}
 use Rattle.std.proofs.lemmas.List.Folds.{find-append}
 use Rattle.blog_event.specs.File.{Placed}
 use Rattle.blog_row.specs.RowsEvent.{table_id}
-use Rattle.blog_trans.specs.declared.kind.EventKind.{EventKind}
-use Rattle.blog_trans.specs.declared.kind.EventKind.TheVariants as kind
 use Rattle.blog_trans.specs.Selection.{Selection}
 use Rattle.blog_trans.specs.Kinds.{rows_of_kind}
 use Rattle.blog_trans.specs.Places.{kind_at, is_begin, is_rows, is_last_rows, since, is_map_of, map_in}
 use Rattle.blog_trans.specs.Acceptance.{is_selected, HavePassed}
 use Rattle.blog_trans.specs.Groups.{PlacedRows, rows_by_kind, kept_rows}
 use Rattle.blog_trans.specs.Progress.{appended_if}
-use Rattle.blog_trans.proofs.ProgressSteps.{reverse-latest, reverse-behind, IsChecked, Step, begins, ends, rows, other, step-of}
+use Rattle.blog_trans.proofs.KeptRows.{kept-facts}
+use Rattle.blog_trans.proofs.ProgressSteps.{reverse-latest, reverse-behind, IsChecked, rows-checked}
 
 -- each rows event was checked, with the events of the statement before it
 abbrev pub AreChecked : Selection → List Placed → Type 0
@@ -30,43 +29,28 @@ kept_so_far sel (p ∷ statement) = appended_if (kept_so_far sel statement) (kep
 
 -- ---- the events of the open statement were checked
 
--- a rows event that passed was checked
-pub rows-step : (sel : Selection) (earlier : List Placed) (p : Placed) → Step sel earlier p → is_rows p ≡ true → IsChecked sel (since earlier) p
-rows-step sel earlier p (begins b) is = absurd (false≢true (sym (ap (λ k. is_some (rows_of_kind k)) b.kind_is) ∙ is))
-rows-step sel earlier p (ends e) is = absurd (false≢true (sym e.rows ∙ is))
-rows-step sel earlier p (rows r) is = r.checked
-rows-step sel earlier p (other o) is = absurd (false≢true (sym o.rows ∙ is))
-
--- so were those of the open statement
+-- the rows events of the open statement
 pub since-checked : (sel : Selection) (earlier : List Placed) → HavePassed sel earlier → AreChecked sel (since earlier)
 since-checked sel [] passed = tt
 since-checked sel (p ∷ earlier) passed = by_case (is_begin p || is_last_rows p) (since-checked sel earlier passed.1)
   where
     by_case : (b : Bool) → AreChecked sel (since earlier) → AreChecked sel (if not b then p ∷ since earlier else [])
     by_case true others = tt
-    by_case false others = (rows-step sel earlier p (step-of sel earlier p passed.0), others)
+    by_case false others = (rows-checked sel earlier p passed.0, others)
 
 -- and those of the open statement with one more event
 pub with-checked : (sel : Selection) (earlier : List Placed) (p : Placed) → HavePassed sel (p ∷ earlier) → AreChecked sel (p ∷ since earlier)
-with-checked sel earlier p passed = (rows-step sel earlier p (step-of sel earlier p passed.0), since-checked sel earlier passed.1)
+with-checked sel earlier p passed = (rows-checked sel earlier p passed.0, since-checked sel earlier passed.1)
 
 -- ---- what is kept
 
 -- nothing of an event that is no rows event
 pub no-rows-kept : (sel : Selection) (events : List Placed) (p : Placed) → is_rows p ≡ false → kept_rows sel events p ≡ None
-no-rows-kept sel events p none = by_map (map_in events (table_id p.event.body))
+no-rows-kept sel events p none = by_case (kept_rows sel events p) refl
   where
-    by_kind : (m : Placed) (k : EventKind) → is_some (rows_of_kind k) ≡ false → rows_by_kind p m k ≡ None
-    by_kind m (kind.Rows r) e = absurd (false≢true (sym e))
-    by_kind m k e = refl
-
-    by_test : (m : Placed) (b : Bool) → (if b then rows_by_kind p m (kind_at p) else None) ≡ None
-    by_test m true = by_kind m (kind_at p) none
-    by_test m false = refl
-
-    by_map : (o : Option Placed) → option_and_then (λ m. if is_selected sel m.event.body then rows_by_kind p m (kind_at p) else None) o ≡ None
-    by_map None = refl
-    by_map (Some m) = by_test m (is_selected sel m.event.body)
+    by_case : (o : Option PlacedRows) → kept_rows sel events p ≡ o → o ≡ None
+    by_case None is = refl
+    by_case (Some r) is = absurd (false≢true (sym none ∙ ap (λ k. is_some (rows_of_kind k)) (kept-facts sel events p r is).kind_is))
 
 -- the first map of an id stays the first behind which others come
 pub found-stays : (xs ys : List Placed) (id : List ℕ) (m : Placed) → map_in xs id ≡ Some m → map_in (xs ++ ys) id ≡ Some m
@@ -85,10 +69,10 @@ kept-stays sel statement later p checked = by_case (is_rows p) refl
     by_case true is = by_found (checked is)
     by_case false is = no-rows-kept sel (reverse statement ++ later) p is ∙ sym (no-rows-kept sel (reverse statement) p is)
 
--- one more, if there is one
-pub appended-is : {A : Type 0} (xs : List A) (o : Option A) → xs ++ cons_option o [] ≡ appended_if xs o
-appended-is xs None = append-nil xs
-appended-is xs (Some x) = refl
+-- one more, if there is one, stands before what follows
+pub kept-before : {A : Type 0} (xs ys : List A) (o : Option A) → xs ++ cons_option o ys ≡ appended_if xs o ++ ys
+kept-before xs ys None = refl
+kept-before xs ys (Some x) = sym (append_assoc xs (x ∷ []) ys)
 
 -- the whole statement keeps those that were kept as they came, whatever comes behind them
 pub kept-are : (sel : Selection) (statement : List Placed) → AreChecked sel statement → (later : List Placed)
@@ -96,12 +80,8 @@ pub kept-are : (sel : Selection) (statement : List Placed) → AreChecked sel st
 kept-are sel [] checked later = refl
 kept-are sel (p ∷ statement) checked later =
     let keep : Placed → Option PlacedRows = kept_rows sel (reverse statement ++ p ∷ later) in
-    ap (λ events. filter_map (kept_rows sel events) (reverse (p ∷ statement))) (reverse-behind p statement later)
-    ∙ ap (filter_map keep) (reverse-latest p statement)
-    ∙ filter_map-append keep (reverse statement) (p ∷ [])
-    ∙ ap (λ l. l ++ filter_map keep (p ∷ [])) (kept-are sel statement checked.1 (p ∷ later))
-    ∙ ap (λ o. kept_so_far sel statement ++ cons_option o []) (kept-stays sel statement (p ∷ later) p checked.0)
-    ∙ appended-is (kept_so_far sel statement) (kept_rows sel (reverse statement) p)
+    rw (reverse-behind p statement later, reverse-latest p statement, filter_map-append keep (reverse statement) (p ∷ []), kept-are sel statement checked.1 (p ∷ later), kept-stays sel statement (p ∷ later) p checked.0)
+    (kept-before (kept_so_far sel statement) [] (kept_rows sel (reverse statement) p) ∙ append-nil (appended_if (kept_so_far sel statement) (kept_rows sel (reverse statement) p)))
 
 -- the rows events that a statement keeps
 pub statement-keeps : (sel : Selection) (statement : List Placed) → AreChecked sel statement

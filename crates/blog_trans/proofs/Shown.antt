@@ -1,10 +1,11 @@
 -- Groups have events of the range, and none of them twice.
-use Rattle.std.proofs.Common.{◌≡◌, ℕ, ◌+◌, ◌≤◌, ◌<◌, Bool, true, false, ◌&&◌, if◌then◌else◌, List, [], ◌∷◌, ◌++◌, length, map, take, filter, not, bytes_eq, Option, Some, None, refl, sym, ap, ap₂, ◌∙◌, subst, arith}
+use Rattle.std.proofs.Common.{◌≡◌, ℕ, ◌+◌, ◌≤◌, ◌<◌, Bool, true, false, if◌then◌else◌, List, [], ◌∷◌, ◌++◌, length, map, take, reverse, Option, Some, None, refl, sym, ap, ◌∙◌, subst, arith}
 use Rattle.std.specs.Prelude.{◌==◌, Contains}
-use Rattle.std.specs.List.{AllByRecursion, IsDistinct, cons_option, filter_map, flat_map, list_any}
-use Rattle.std.proofs.lemmas.Bool.{eqb-true, eq-eqb, false_from_ne_true}
+use Rattle.std.specs.List.{AllByRecursion, IsDistinct, flat_map}
+use Rattle.std.proofs.lemmas.Bool.{eqb-true, eq-eqb}
 use Rattle.std.proofs.lemmas.Option.{none-some}
 use Rattle.std.proofs.lemmas.List.{length-map, map-append}
+use Rattle.std.proofs.lemmas.Simd.{map-map}
 use Rattle.std.proofs.lemmas.List.Recursion.{is_sum_by}
 use Rattle.blog_event.specs.declared.fault.Fault.{Fault}
 use Rattle.blog_event.specs.Event.{Event, event_size}
@@ -12,100 +13,22 @@ use Rattle.blog_event.specs.File.{Placed, placed_from, end_of, read}
 use Rattle.blog_event.specs.Going.{ReadsOn}
 use Rattle.blog_event.specs.Opening.{opening_fault}
 use Rattle.blog_event.proofs.Going.{opened-reads-on}
-use Rattle.blog_row.specs.RowsEvent.{table_id}
 use Rattle.blog_row.proofs.ReversedRows.{all-append}
 use Rattle.blog_trans.specs.Selection.{Selection}
-use Rattle.blog_trans.specs.Kinds.{is_map_kind}
-use Rattle.blog_trans.specs.Places.{is_map}
-use Rattle.blog_trans.specs.Acceptance.{range, is_in_range, IsAccepted, Passes}
-use Rattle.blog_trans.specs.Groups.{PlacedRows, PlacedStatement, PlacedTransaction, Span, spans, statements_of, kept_rows, first_maps, statement_if, kept_statement, transaction_if, kept_transaction, placed_groups_in, placed_groups}
+use Rattle.blog_trans.specs.Acceptance.{range, is_in_range, IsAccepted}
+use Rattle.blog_trans.specs.Groups.{PlacedRows, PlacedStatement, PlacedTransaction, placed_groups_in, placed_groups}
 use Rattle.blog_trans.specs.PlacedFacts.{IsPlacedMap, IsPlacedRows, IsPlacedStatement, IsPlacedTransaction}
 use Rattle.blog_trans.specs.declared.lists.Entry.{Entry}
-use Rattle.blog_trans.specs.Entries.{event_entry, rows_entry, statement_entries, transaction_entries, entries_of}
+use Rattle.blog_trans.specs.Entries.{entries_of}
 use Rattle.blog_trans.specs.Shown.{statement_shown, transaction_shown, shown, shown_positions, events_in_range, ShowsEachOnce}
-use Rattle.blog_trans.proofs.Sums.{sum_of, sum-append, sum-map, sum-joined, sum-filter, sum-kept, sum-ones}
-use Rattle.blog_trans.proofs.Apart.{statements-fit, span_sum, spans-fit}
+use Rattle.blog_trans.proofs.Sums.{sum_of, sum-joined, sum-filter, sum-reverse, sum-ones}
+use Rattle.blog_trans.proofs.Apart.{transaction_sum}
+use Rattle.blog_trans.proofs.ProgressState.{state-of}
+use Rattle.blog_trans.proofs.ProgressGroups.{all-passed}
 use Rattle.blog_trans.proofs.Opening.{opening-refused}
-use Rattle.blog_trans.proofs.PlacedFacts.{groups-among, groups-placed}
-use Rattle.blog_trans.proofs.ProgressAccepted.{accepted-passes}
+use Rattle.blog_trans.proofs.PlacedFacts.{groups-among}
+use Rattle.blog_trans.proofs.ProgressAccepted.{accepted-passes, accepted-groups}
 use Rattle.blog_trans.proofs.PlacedParts.{all-by, all-map, all-joined}
-use Rattle.blog_trans.proofs.KeptRows.{kept-facts}
-
--- ---- rows events that are kept
-
--- it is no map, and the event is the one that it was read of
-kept-own : (sel : Selection) (s : List Placed) (p : Placed) (r : PlacedRows) → kept_rows sel s p ≡ Some r → (is_map p ≡ false) × (r.event ≡ p)
-kept-own sel s p r e = let kept = kept-facts sel s p r e in (ap is_map_kind kept.kind_is, kept.event_is)
-
--- ---- sums over what is kept: whatever number each event has
-
--- the number of a rows event's own event
-abbrev rows_sum : (Placed → ℕ) → List PlacedRows → ℕ
-rows_sum w rows = sum_of (λ (r : PlacedRows). w r.event) rows
-
--- one more event is taken as a map, or kept as a rows event, or neither
-once-step : (w : Placed → ℕ) (p : Placed) (map any : Bool) (o : Option PlacedRows) → ((r : PlacedRows) → o ≡ Some r → (map ≡ false) × (r.event ≡ p))
-    → (with_it without : List Placed) (rows : List PlacedRows) (n : ℕ) → sum_of w with_it + rows_sum w rows ≤ n → sum_of w without + rows_sum w rows ≤ n
-    → sum_of w (if map && any then p ∷ with_it else without) + rows_sum w (cons_option o rows) ≤ w p + n
-once-step w p true true None own with_it without rows n one other = omega arith
-once-step w p true false None own with_it without rows n one other = omega arith
-once-step w p false any None own with_it without rows n one other = omega arith
-once-step w p true any (Some r) own with_it without rows n one other = let never : true ≡ false = (own r refl).0 in absurd (cc)
-once-step w p false any (Some r) own with_it without rows n one other = let same : w r.event ≡ w p = ap w (own r refl).1 in omega arith
-
--- maps and rows events are taken of different events
-once-total : (w : Placed → ℕ) (sel : Selection) (s es : List Placed) (ids : List (List ℕ))
-    → sum_of w (first_maps ids es) + rows_sum w (filter_map (kept_rows sel s) es) ≤ sum_of w es
-once-total w sel s [] ids = omega arith
-once-total w sel s (p ∷ es) ids =
-    once-step w p (is_map p) (list_any (λ id. bytes_eq (table_id p.event.body) id) ids) (kept_rows sel s p) (kept-own sel s p)
-    (first_maps (filter (λ id. not (bytes_eq (table_id p.event.body) id)) ids) es) (first_maps ids es) (filter_map (kept_rows sel s) es) (sum_of w es)
-    (once-total w sel s es (filter (λ id. not (bytes_eq (table_id p.event.body) id)) ids)) (once-total w sel s es ids)
-
--- a statement
-statement-once : (w : Placed → ℕ) (sel : Selection) (events : List Placed) (s : PlacedStatement) → kept_statement sel events ≡ Some s → sum_of w (statement_shown s) ≤ sum_of w events
-statement-once w sel events s e = by_rows (filter_map (kept_rows sel events) events) refl e
-  where
-    by_rows : (rows : List PlacedRows) → filter_map (kept_rows sel events) events ≡ rows → statement_if events rows ≡ Some s → sum_of w (statement_shown s) ≤ sum_of w events
-    by_rows [] is e = absurd (cc)
-    by_rows (r ∷ rows) is e =
-        let ids : List (List ℕ) = map (λ (x : PlacedRows). table_id x.event.event.body) (r ∷ rows) in
-        let made : PlacedStatement = record { maps = first_maps ids events; rows = r ∷ rows } in
-        let same : made ≡ s = cc in
-        let fits = once-total w sel events events ids in
-        let rows_same : rows_sum w (filter_map (kept_rows sel events) events) ≡ rows_sum w (r ∷ rows) = ap (rows_sum w) is in
-        let joined : sum_of w (statement_shown made) ≡ sum_of w made.maps + sum_of w (map (λ (x : PlacedRows). x.event) made.rows) = sum-append w made.maps (map (λ (x : PlacedRows). x.event) made.rows) in
-        let rows_values : sum_of w (map (λ (x : PlacedRows). x.event) made.rows) ≡ rows_sum w made.rows = sum-map w (λ (x : PlacedRows). x.event) made.rows in
-        let own : sum_of w (statement_shown made) ≤ sum_of w events = omega arith in
-        subst (λ (x : PlacedStatement). sum_of w (statement_shown x) ≤ sum_of w events) same own
-
--- a transaction
-transaction-once : (w : Placed → ℕ) (sel : Selection) (span : Span) (t : PlacedTransaction) → kept_transaction sel span ≡ Some t → sum_of w (transaction_shown t) ≤ span_sum w span
-transaction-once w sel span t e = by_statements (filter_map (kept_statement sel) (statements_of span.inside)) refl e
-  where
-    by_statements : (ss : List PlacedStatement) → filter_map (kept_statement sel) (statements_of span.inside) ≡ ss → transaction_if span ss ≡ Some t → sum_of w (transaction_shown t) ≤ span_sum w span
-    by_statements [] is e = absurd (cc)
-    by_statements (s ∷ ss) is e =
-        let made : PlacedTransaction = record { begin = span.begin; statements = s ∷ ss; end = span.end } in
-        let same : made ≡ t = cc in
-        let size : PlacedStatement → ℕ = λ (x : PlacedStatement). sum_of w (statement_shown x) in
-        let kept : sum_of size (filter_map (kept_statement sel) (statements_of span.inside)) ≤ sum_of (sum_of w) (statements_of span.inside) =
-        sum-kept (sum_of w) size (kept_statement sel) (statement-once w sel) (statements_of span.inside) in
-        let cut = statements-fit w span.inside in
-        let ss_same : sum_of size (filter_map (kept_statement sel) (statements_of span.inside)) ≡ sum_of size (s ∷ ss) = ap (sum_of size) is in
-        let inside : sum_of w (flat_map statement_shown (s ∷ ss)) ≡ sum_of size (s ∷ ss) = sum-joined w statement_shown size (λ x. refl) (s ∷ ss) in
-        let joined : sum_of w (flat_map statement_shown (s ∷ ss) ++ (span.end ∷ [])) ≡ sum_of w (flat_map statement_shown (s ∷ ss)) + sum_of w (span.end ∷ []) = sum-append w (flat_map statement_shown (s ∷ ss)) (span.end ∷ []) in
-        let own : sum_of w (transaction_shown made) ≤ span_sum w span = omega arith in
-        subst (λ (x : PlacedTransaction). sum_of w (transaction_shown x) ≤ span_sum w span) same own
-
--- the groups of events that pass
-pub groups-once : (w : Placed → ℕ) (sel : Selection) (ps : List Placed) → Passes sel [] ps → sum_of w (flat_map transaction_shown (placed_groups_in sel ps)) ≤ sum_of w ps
-groups-once w sel ps passes =
-    let size : PlacedTransaction → ℕ = λ (t : PlacedTransaction). sum_of w (transaction_shown t) in
-    let joined = sum-joined w transaction_shown size (λ x. refl) (placed_groups_in sel ps) in
-    let kept = sum-kept (span_sum w) size (kept_transaction sel) (transaction-once w sel) (spans ps) in
-    let apart = spans-fit w sel [] ps passes in
-    omega arith
 
 -- ---- what holds of events holds of those of their groups
 
@@ -116,22 +39,12 @@ statement-within Member sel s placed =
     (all-map (IsPlacedRows Member sel s.maps) Member (λ (r : PlacedRows). r.event) (λ r is. is.member) s.rows placed.rows)
 
 -- of a transaction
-transaction-within : (Member : Placed → Type 0) (sel : Selection) (t : PlacedTransaction) → IsPlacedTransaction Member sel t → AllByRecursion Member (transaction_shown t)
+pub transaction-within : (Member : Placed → Type 0) (sel : Selection) (t : PlacedTransaction) → IsPlacedTransaction Member sel t → AllByRecursion Member (transaction_shown t)
 transaction-within Member sel t placed = (
   placed.begin_member,
   all-append Member (flat_map statement_shown t.statements) (t.end ∷ [])
       (all-joined (IsPlacedStatement Member sel) Member statement_shown (statement-within Member sel) t.statements placed.statements) (placed.end_member, tt),
 )
-
--- of groups
-pub groups-shown : (Member : Placed → Type 0) (sel : Selection) (ps : List Placed) → AllByRecursion Member ps → AllByRecursion Member (flat_map transaction_shown (placed_groups_in sel ps))
-groups-shown Member sel ps all =
-    all-joined (IsPlacedTransaction Member sel) Member transaction_shown (transaction-within Member sel) (placed_groups_in sel ps) (groups-placed Member sel ps all)
-
--- so they are among these events
-groups-within : (sel : Selection) (ps : List Placed) → AllByRecursion (Contains ps) (flat_map transaction_shown (placed_groups_in sel ps))
-groups-within sel ps =
-    all-joined (IsPlacedTransaction (Contains ps) sel) (Contains ps) transaction_shown (transaction-within (Contains ps) sel) (placed_groups_in sel ps) (groups-among sel ps)
 
 -- ---- positions
 
@@ -139,25 +52,16 @@ groups-within sel ps =
 abbrev at_pos : ℕ → Placed → ℕ
 at_pos pos p = if pos == p.pos then 1 else 0
 
--- events that follow each other behind a position don't stand at it
-none-behind : (pos at : ℕ) (es : List Event) → pos < at → sum_of (at_pos pos) (placed_from at es) ≡ 0
-none-behind pos at [] behind = refl
-none-behind pos at (e ∷ es) behind =
-    let others = none-behind pos (at + event_size e) es (omega arith) in
-    let differs : (pos == at) ≡ false = false_from_ne_true (pos == at) (λ same. let equal = eqb-true pos at same in omega arith) in
-    rw differs (omega (arith, others))
+-- of events that follow each other none stands in front of the first, and at most one at any position
+one-more : (pos at size n : ℕ) (b : Bool) → (pos == at) ≡ b → 0 < size → (pos < at + size → n ≡ 0) → n ≤ 1 → (pos < at → (if b then 1 else 0) + n ≡ 0) × ((if b then 1 else 0) + n ≤ 1)
+one-more pos at size n true same some none most = let equal = eqb-true pos at same in let behind = none (omega arith) in (λ below. absurd (omega arith), omega arith)
+one-more pos at size n false same some none most = (λ below. let behind = none (omega arith) in omega arith, omega arith)
 
--- at most one of them stands at a position
-one-at : (pos at : ℕ) (es : List Event) → sum_of (at_pos pos) (placed_from at es) ≤ 1
-one-at pos at [] = omega arith
-one-at pos at (e ∷ es) = by_case (pos == at) refl (one-at pos (at + event_size e) es)
-  where
-    by_case : (b : Bool) → (pos == at) ≡ b → sum_of (at_pos pos) (placed_from (at + event_size e) es) ≤ 1 → (if b then 1 else 0) + sum_of (at_pos pos) (placed_from (at + event_size e) es) ≤ 1
-    by_case true same others =
-        let equal = eqb-true pos at same in
-        let none = none-behind pos (at + event_size e) es (omega arith) in
-        omega arith
-    by_case false same others = omega arith
+one-at : (pos at : ℕ) (es : List Event) → (pos < at → sum_of (at_pos pos) (placed_from at es) ≡ 0) × (sum_of (at_pos pos) (placed_from at es) ≤ 1)
+one-at pos at [] = (λ below. refl, omega arith)
+one-at pos at (e ∷ es) =
+    let others = one-at pos (at + event_size e) es in
+    one-more pos at (event_size e) (sum_of (at_pos pos) (placed_from (at + event_size e) es)) (pos == at) refl (omega arith) others.0 others.1
 
 -- where none stands at a position, each position is another
 none-at : (pos : ℕ) (ps : List Placed) → sum_of (at_pos pos) ps ≤ 0 → AllByRecursion (λ y. (pos == y) ≡ false) (map (λ (p : Placed). p.pos) ps)
@@ -194,7 +98,7 @@ range-fits sel format rest = sum-filter own_size (is_in_range sel) (placed_from 
 -- ---- the theorem
 
 -- an accepted log is opened
-accepted-opens : (bytes : List ℕ) (sel : Selection) → IsAccepted bytes sel → opening_fault bytes ≡ None
+pub accepted-opens : (bytes : List ℕ) (sel : Selection) → IsAccepted bytes sel → opening_fault bytes ≡ None
 accepted-opens bytes sel accepted = by_case (opening_fault bytes) refl
   where
     by_case : (o : Option Fault) → opening_fault bytes ≡ o → o ≡ None
@@ -203,8 +107,13 @@ accepted-opens bytes sel accepted = by_case (opening_fault bytes) refl
 
 -- whatever number each event has, the sum over the groups is no larger than that over the range
 shown-sum : (w : Placed → ℕ) (bytes : List ℕ) (sel : Selection) → IsAccepted bytes sel → sum_of w (shown bytes sel) ≤ sum_of w (events_in_range bytes sel)
-unfolding shown placed_groups
-shown-sum w bytes sel accepted = groups-once w sel (events_in_range bytes sel) (accepted-passes bytes sel accepted)
+unfolding shown
+shown-sum w bytes sel accepted =
+    let es = events_in_range bytes sel in
+    let fits = (state-of sel (reverse es) (all-passed sel es (accepted-passes bytes sel accepted))).fits w in
+    let joined = sum-joined w transaction_shown (transaction_sum w) (λ x. refl) (placed_groups bytes sel) in
+    let same = ap (sum_of (transaction_sum w)) (accepted-groups bytes sel accepted) in
+    omega (arith, sum-reverse w es)
 
 -- the sizes of an accepted log's shown events
 pub shown-sizes : (bytes : List ℕ) (sel : Selection) → IsAccepted bytes sel → end_of 4 (take 1 (read bytes sel.stop)) + sum_of own_size (shown bytes sel) ≤ length bytes
@@ -224,14 +133,16 @@ shown-sizes bytes sel accepted =
 -- the events of the groups are of the range
 shown-within : (bytes : List ℕ) (sel : Selection) → AllByRecursion (Contains (events_in_range bytes sel)) (shown bytes sel)
 unfolding shown placed_groups
-shown-within bytes sel = groups-within sel (events_in_range bytes sel)
+shown-within bytes sel =
+    let of = Contains (events_in_range bytes sel) in
+    all-joined (IsPlacedTransaction of sel) of transaction_shown (transaction-within of sel) (placed_groups_in sel (events_in_range bytes sel)) (groups-among sel (events_in_range bytes sel))
 
 -- and stand at distinct positions
 shown-once : (bytes : List ℕ) (sel : Selection) → IsAccepted bytes sel → IsDistinct (λ a b. a == b) (map (λ (p : Placed). p.pos) (shown bytes sel))
 shown-once bytes sel accepted = positions-distinct (shown bytes sel) (λ pos.
     let kept = shown-sum (at_pos pos) bytes sel accepted in
     let ranged = sum-filter (at_pos pos) (is_in_range sel) (placed_from 4 (read bytes sel.stop)) in
-    let one = one-at pos 4 (read bytes sel.stop) in
+    let one = (one-at pos 4 (read bytes sel.stop)).1 in
     omega arith)
 
 -- they are no more than those of the range
@@ -260,36 +171,18 @@ pos_of p = p.pos
 abbrev at_of : Entry → ℕ
 at_of e = e.at
 
--- of maps and of rows events
-maps-at : (ms : List Placed) → map at_of (map event_entry ms) ≡ map pos_of ms
-maps-at [] = refl
-maps-at (m ∷ ms) = ap (λ (ats : List ℕ). m.pos ∷ ats) (maps-at ms)
+-- a map of lists that are joined
+map-joined : {A B C : Type 0} (f : B → C) (g : A → List B) (xs : List A) → map f (flat_map g xs) ≡ flat_map (λ x. map f (g x)) xs
+map-joined f g [] = refl
+map-joined f g (x ∷ xs) = map-append f (g x) (flat_map g xs) ∙ ap (λ l. map f (g x) ++ l) (map-joined f g xs)
 
-rows-at : (rows : List PlacedRows) → map at_of (map rows_entry rows) ≡ map pos_of (map (λ (r : PlacedRows). r.event) rows)
-rows-at [] = refl
-rows-at (r ∷ rows) = ap (λ (ats : List ℕ). r.event.pos ∷ ats) (rows-at rows)
-
--- of elements whose entries are said one by one
-joined-at : {A : Type 0} (f : A → List Entry) (g : A → List Placed) → ((x : A) → map at_of (f x) ≡ map pos_of (g x)) → (xs : List A) → map at_of (flat_map f xs) ≡ map pos_of (flat_map g xs)
-joined-at f g same [] = refl
-joined-at f g same (x ∷ xs) = map-append at_of (f x) (flat_map f xs) ∙ ap₂ ◌++◌ (same x) (joined-at f g same xs) ∙ sym (map-append pos_of (g x) (flat_map g xs))
-
--- of a statement
-statement-at : (s : PlacedStatement) → map at_of (statement_entries s) ≡ map pos_of (statement_shown s)
-statement-at s =
-    map-append at_of (map event_entry s.maps) (map rows_entry s.rows) ∙ ap₂ ◌++◌ (maps-at s.maps) (rows-at s.rows) ∙ sym (map-append pos_of s.maps (map (λ (r : PlacedRows). r.event) s.rows))
-
--- of a transaction
-transaction-at : (t : PlacedTransaction) → map at_of (transaction_entries t) ≡ map pos_of (transaction_shown t)
-transaction-at t =
-    ap (λ (ats : List ℕ). t.begin.pos ∷ ats) (map-append at_of (flat_map statement_entries t.statements) (event_entry t.end ∷ [])
-    ∙ ap (λ (ats : List ℕ). ats ++ t.end.pos ∷ []) (joined-at statement_entries statement_shown statement-at t.statements)
-    ∙ sym (map-append pos_of (flat_map statement_shown t.statements) (t.end ∷ [])))
+all-at-once : (ts : List PlacedTransaction) → map at_of (entries_of ts) ≡ map pos_of (flat_map transaction_shown ts)
+all-at-once ts = simp (map-joined, map-append, map-map)
 
 -- the positions of entries are those of the events that are shown
 pub entries-at : (entries : List Entry) (bytes : List ℕ) (sel : Selection) → entries ≡ entries_of (placed_groups bytes sel) → map at_of entries ≡ shown_positions bytes sel
 unfolding shown
-entries-at entries bytes sel is = ap (map at_of) is ∙ joined-at transaction_entries transaction_shown transaction-at (placed_groups bytes sel)
+entries-at entries bytes sel is = ap (map at_of) is ∙ all-at-once (placed_groups bytes sel)
 
 -- so none of them comes twice
 pub entries-once : (entries : List Entry) (bytes : List ℕ) (sel : Selection) → IsAccepted bytes sel → entries ≡ entries_of (placed_groups bytes sel)

@@ -51,7 +51,7 @@ abbrev pub IsNoBegin : Placed → Type 0
 IsNoBegin p = is_begin p ≡ false
 
 -- behind the last event of a statement none is open
-since-cut : (earlier : List Placed) (p : Placed) → is_last_rows p ≡ true → since (p ∷ earlier) ≡ []
+pub since-cut : (earlier : List Placed) (p : Placed) → is_last_rows p ≡ true → since (p ∷ earlier) ≡ []
 since-cut earlier p is = by_case (is_begin p) (is_last_rows p) is
   where
     by_case : (b c : Bool) → c ≡ true → (if not (b || c) then p ∷ since earlier else []) ≡ []
@@ -60,7 +60,7 @@ since-cut earlier p is = by_case (is_begin p) (is_last_rows p) is
     by_case false false e = absurd (false≢true e)
 
 -- the open one goes on with another event
-since-on : (earlier : List Placed) (p : Placed) → is_begin p ≡ false → is_last_rows p ≡ false → since (p ∷ earlier) ≡ p ∷ since earlier
+pub since-on : (earlier : List Placed) (p : Placed) → is_begin p ≡ false → is_last_rows p ≡ false → since (p ∷ earlier) ≡ p ∷ since earlier
 since-on earlier p no_begin no_last = rw (no_begin, no_last) refl
 
 -- the events of all statements
@@ -79,10 +79,7 @@ one-more earlier p are is = ap statements_of (reverse-latest p earlier) ∙ are 
 -- another event makes none
 none-more : (earlier : List Placed) (p : Placed) → AreCut earlier → is_last_rows p ≡ false → statements_of (reverse (p ∷ earlier)) ≡ statements_of (reverse earlier)
 none-more earlier p are no_last =
-    ap statements_of (reverse-latest p earlier)
-    ∙ are (p ∷ [])
-    ∙ ap (λ l. statements_of (reverse earlier) ++ l) (cut-none (since earlier) (p ∷ []) (since-no-last earlier) (rw no_last refl))
-    ∙ append-nil (statements_of (reverse earlier))
+    rw (reverse-latest p earlier, are (p ∷ []), cut-none (since earlier) (p ∷ []) (since-no-last earlier) (rw no_last refl)) (append-nil (statements_of (reverse earlier)))
 
 are-cut : (earlier : List Placed) → AllByRecursion IsNoBegin earlier → AreCut earlier
 are-cut [] none left = refl
@@ -91,16 +88,10 @@ are-cut (p ∷ earlier) none left = by_case (is_last_rows p) refl (are-cut earli
     by_case : (b : Bool) → is_last_rows p ≡ b → AreCut earlier
         → statements_of (reverse (p ∷ earlier) ++ left) ≡ statements_of (reverse (p ∷ earlier)) ++ statements_of (reverse (since (p ∷ earlier)) ++ left)
     by_case true is are =
-        ap statements_of (reverse-behind p earlier left)
-        ∙ are (p ∷ left)
-        ∙ ap (λ l. statements_of (reverse earlier) ++ l) (cut-last earlier left p is)
-        ∙ sym (append_assoc (statements_of (reverse earlier)) (reverse (p ∷ since earlier) ∷ []) (statements_of left))
-        ∙ ap₂ (λ ss st. ss ++ statements_of (reverse st ++ left)) (sym (one-more earlier p are is)) (sym (since-cut earlier p is))
+        rw (reverse-behind p earlier left, are (p ∷ left), cut-last earlier left p is, one-more earlier p are is, since-cut earlier p is)
+        (sym (append_assoc (statements_of (reverse earlier)) (reverse (p ∷ since earlier) ∷ []) (statements_of left)))
     by_case false no_last are =
-        ap statements_of (reverse-behind p earlier left)
-        ∙ are (p ∷ left)
-        ∙ ap (λ l. statements_of (reverse earlier) ++ statements_of l) (sym (reverse-behind p (since earlier) left))
-        ∙ ap₂ (λ ss st. ss ++ statements_of (reverse st ++ left)) (sym (none-more earlier p are no_last)) (sym (since-on earlier p none.0 no_last))
+        rw (reverse-behind p earlier left, are (p ∷ left), none-more earlier p are no_last, since-on earlier p none.0 no_last, reverse-behind p (since earlier) left) refl
 
 -- the last event of a statement ends the one that is seen looking back from it
 pub statements-ended : (earlier left : List Placed) (p : Placed) → AllByRecursion IsNoBegin earlier → is_last_rows p ≡ true

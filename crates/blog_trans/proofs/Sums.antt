@@ -1,7 +1,8 @@
 -- Sums over lists.
-use Rattle.std.proofs.Common.{◌≡◌, ℕ, ◌+◌, ◌≤◌, Bool, true, false, List, [], ◌∷◌, ◌++◌, length, map, filter, Option, Some, None, refl, ap, ap₂, ◌∙◌, arith}
+use Rattle.std.proofs.Common.{◌≡◌, ℕ, ◌+◌, ◌≤◌, Bool, true, false, List, [], ◌∷◌, ◌++◌, length, map, filter, reverse, refl, ap, ap₂, ◌∙◌, arith}
 use Rattle.std.specs.Prelude.{if◌then◌else◌}
-use Rattle.std.specs.List.{cons_option, filter_map, flat_map}
+use Rattle.std.specs.List.{flat_map}
+use Rattle.std.proofs.lemmas.List.{reverse-append}
 
 -- the sum of a number of each element
 abbrev pub sum_of : {A : Type 0} → (A → ℕ) → List A → ℕ
@@ -32,14 +33,10 @@ sum-filter f test (x ∷ xs) = one (test x) (sum-filter f test xs)
     one true others = omega arith
     one false others = omega arith
 
--- nor do elements that are kept with no larger a number
-pub sum-kept : {A B : Type 0} (f : A → ℕ) (g : B → ℕ) (keep : A → Option B) → ((x : A) (y : B) → keep x ≡ Some y → g y ≤ f x) → (xs : List A) → sum_of g (filter_map keep xs) ≤ sum_of f xs
-sum-kept f g keep fits [] = omega arith
-sum-kept {B = B} f g keep fits (x ∷ xs) = one (keep x) (fits x) (sum-kept f g keep fits xs)
-  where
-    one : (o : Option B) → ((y : B) → o ≡ Some y → g y ≤ f x) → sum_of g (filter_map keep xs) ≤ sum_of f xs → sum_of g (cons_option o (filter_map keep xs)) ≤ f x + sum_of f xs
-    one None own others = omega arith
-    one (Some y) own others = let fit = own y refl in omega arith
+-- the order doesn't matter
+pub sum-reverse : {A : Type 0} (f : A → ℕ) (xs : List A) → sum_of f (reverse xs) ≡ sum_of f xs
+sum-reverse f [] = refl
+sum-reverse f (x ∷ xs) = ap (sum_of f) (reverse-append (x ∷ []) xs) ∙ sum-append f (reverse xs) (x ∷ []) ∙ (let others = sum-reverse f xs in omega arith)
 
 -- with one for each element it is the length
 pub sum-ones : {A : Type 0} (xs : List A) → sum_of (λ (x : A). 1) xs ≡ length xs

@@ -1,7 +1,9 @@
 -- Names of tables, and tables in the order in which each comes first.
-use Rattle.std.proofs.Common.{◌≡◌, Bool, true, false, if◌then◌else◌, ◌||◌, List, [], ◌∷◌, ◌++◌, refl, ap, ◌∙◌, Decides}
+use Rattle.std.proofs.Common.{◌≡◌, Bool, true, false, if◌then◌else◌, ◌||◌, List, [], ◌∷◌, ◌++◌, refl, sym, ap, ◌∙◌, Decides}
+use Rattle.std.specs.Cmp.{IsEquivalence}
 use Rattle.std.specs.List.{list_any}
-use Rattle.std.proofs.lemmas.Bool.Decides.{Decides-and, Decides-like}
+use Rattle.std.proofs.lemmas.Bool.{false≢true}
+use Rattle.std.proofs.lemmas.Bool.Decides.{Decides-and, Decides-like, same_from_decides}
 use Rattle.std.proofs.lemmas.Slice.Eq.{bytes_eq-Decides}
 use Rattle.blog_row.specs.TableMap.{Table}
 use Rattle.blog_trans.specs.Acceptance.{is_same_table}
@@ -19,34 +21,43 @@ same-table t u = (is_same_table-Decides t u).0
 pub own-table : (t : Table) → is_same_table t t ≡ true
 own-table t = (is_same_table-Decides t t).1 refl
 
--- one more table, known or not
-abbrev pub with_table : List Table → List Table → Table → List Table
-with_table seen ts t = if list_any (is_same_table t) seen || list_any (is_same_table t) ts then ts else ts ++ t ∷ []
+pub table-laws : IsEquivalence is_same_table
+table-laws = record {
+  refl = own-table;
+  symm = λ t u. same_from_decides (is_same_table t u) (is_same_table u t) (is_same_table-Decides t u) (Decides-like (is_same_table u t) sym sym (is_same_table-Decides u t));
+  congr = λ t u v same. ap (λ x. is_same_table x v) (same-table t u same);
+}
 
-pub first_tables-more : (seen ts : List Table) (t : Table) → first_tables seen (ts ++ t ∷ []) ≡ with_table seen (first_tables seen ts) t
+-- one more table is taken where it is none of those before
+pub first_tables-more : (seen ts : List Table) (t : Table)
+    → first_tables seen (ts ++ t ∷ []) ≡ first_tables seen ts ++ (if list_any (is_same_table t) seen || list_any (is_same_table t) ts then [] else t ∷ [])
 first_tables-more seen [] t = at (list_any (is_same_table t) seen)
   where
     at : (b : Bool) → (if b then [] else t ∷ []) ≡ (if b || false then [] else t ∷ [])
     at true = refl
     at false = refl
-first_tables-more seen (u ∷ ts) t = by_case (list_any (is_same_table u) seen) (first_tables-more seen ts t) (first_tables-more (u ∷ seen) ts t)
+first_tables-more seen (u ∷ ts) t = by_case (list_any (is_same_table u) seen) refl (first_tables-more seen ts t) (first_tables-more (u ∷ seen) ts t)
   where
-    turned : (x s a : Bool) (xs ys : List Table) → (if (x || s) || a then u ∷ xs else u ∷ ys) ≡ (if s || (x || a) then u ∷ xs else u ∷ ys)
-    turned true true a xs ys = refl
-    turned true false a xs ys = refl
-    turned false s a xs ys = refl
+    any : List Table → Bool
+    any us = list_any (is_same_table t) us
 
-    behind : (b : Bool) (xs ys : List Table) → u ∷ (if b then xs else ys) ≡ (if b then u ∷ xs else u ∷ ys)
-    behind true xs ys = refl
-    behind false xs ys = refl
+    if_none : Bool → List Table
+    if_none b = if b then [] else t ∷ []
 
-    by_case : (b : Bool) → first_tables seen (ts ++ t ∷ []) ≡ with_table seen (first_tables seen ts) t
-        → first_tables (u ∷ seen) (ts ++ t ∷ []) ≡ with_table (u ∷ seen) (first_tables (u ∷ seen) ts) t
+    known : (x s a : Bool) → (x ≡ true → s ≡ true) → (s || a) ≡ (s || (x || a))
+    known x true a was = refl
+    known true false a was = absurd (false≢true (was refl))
+    known false false a was = refl
+
+    turned : (x s a : Bool) → ((x || s) || a) ≡ (s || (x || a))
+    turned true true a = refl
+    turned true false a = refl
+    turned false s a = refl
+
+    by_case : (b : Bool) → list_any (is_same_table u) seen ≡ b → first_tables seen (ts ++ t ∷ []) ≡ first_tables seen ts ++ if_none (any seen || any ts)
+        → first_tables (u ∷ seen) (ts ++ t ∷ []) ≡ first_tables (u ∷ seen) ts ++ if_none (any (u ∷ seen) || any ts)
         → (if b then first_tables seen (ts ++ t ∷ []) else u ∷ first_tables (u ∷ seen) (ts ++ t ∷ []))
-        ≡ with_table seen (if b then first_tables seen ts else u ∷ first_tables (u ∷ seen) ts) t
-    by_case true kept added = kept
-    by_case false kept added =
-        let ks = first_tables (u ∷ seen) ts in
-        ap (λ xs. u ∷ xs) added
-        ∙ behind ((is_same_table t u || list_any (is_same_table t) seen) || list_any (is_same_table t) ks) ks (ks ++ t ∷ [])
-        ∙ turned (is_same_table t u) (list_any (is_same_table t) seen) (list_any (is_same_table t) ks) ks (ks ++ t ∷ [])
+        ≡ (if b then first_tables seen ts else u ∷ first_tables (u ∷ seen) ts) ++ if_none (any seen || any (u ∷ ts))
+    by_case true is kept added =
+        kept ∙ ap (λ b. first_tables seen ts ++ if_none b) (known (is_same_table t u) (any seen) (any ts) (λ same. ap (λ v. list_any (is_same_table v) seen) (same-table t u same) ∙ is))
+    by_case false is kept added = ap (λ us. u ∷ us) added ∙ ap (λ b. u ∷ (first_tables (u ∷ seen) ts ++ if_none b)) (turned (is_same_table t u) (any seen) (any ts))

@@ -1,5 +1,5 @@
 -- How far a walk over a log has come: what was read, and what is left.
-use Rattle.std.proofs.Common.{◌≡◌, ℕ, ◌+◌, ◌<◌, ◌≤◌, Bool, true, false, not, ◌&&◌, ◌==◌, if◌then◌else◌, List, [], ◌∷◌, ◌++◌, length, drop, reverse, Option, Some, None, refl, sym, ap, ◌∙◌, subst, inl, inr, arith}
+use Rattle.std.proofs.Common.{◌≡◌, ℕ, ◌+◌, ◌<◌, ◌≤◌, Bool, true, false, not, ◌&&◌, ◌==◌, if◌then◌else◌, List, [], ◌∷◌, ◌++◌, length, drop, reverse, Option, Some, None, Ok, refl, sym, ap, ◌∙◌, subst, inl, inr, arith}
 use Rattle.std.proofs.lemmas.Bool.{ne_eqb, eq-eqb}
 use Rattle.std.proofs.lemmas.List.{append-nil, reverse-reverse, length-drop}
 use Rattle.std.proofs.lemmas.List.Elements.{filter-append}
@@ -10,15 +10,19 @@ use Rattle.blog_event.specs.Fault.{needs, first_failing, fault_at}
 use Rattle.blog_event.specs.Event.{Event, event_at, event_size}
 use Rattle.blog_event.specs.File.{Placed, placed_from, end_of, is_below, read}
 use Rattle.blog_event.specs.Going.{EndsAt, AreRead}
+use Rattle.blog_event.specs.Opening.{opening_fault}
 use Rattle.blog_event.proofs.Headers.{event-at-short}
 use Rattle.blog_event.proofs.Going.{event-within, left-more, left-none}
 use Rattle.blog_event.proofs.Opened.{LogReads}
 use Rattle.blog_trans.specs.declared.builder.IndexBuilder.{IndexBuilder}
 use Rattle.blog_trans.specs.Selection.{Selection}
-use Rattle.blog_trans.specs.Acceptance.{event_fault, is_in_range, range, is_start_inside, read_fault, first_read_fault, IsRefusal}
-use Rattle.blog_trans.specs.BuilderView.{HasTaken, IsWithin}
-use Rattle.blog_trans.specs.WalkView.{walk_fault, IsPassedBy, Lead, IsReached}
-use Rattle.blog_trans.proofs.CountsCode.{few-upto}
+use Rattle.blog_trans.specs.Acceptance.{event_fault, is_in_range, range, is_start_inside, read_fault, first_read_fault, fault, IsAccepted, IsRefusal}
+use Rattle.blog_trans.specs.Groups.{placed_groups}
+use Rattle.blog_trans.specs.ListsView.{all_ended}
+use Rattle.blog_trans.specs.BuilderView.{HasTaken, IsWithin, Keeps}
+use Rattle.blog_trans.specs.WalkView.{walk_fault, IsPassedBy, Lead, IsReached, IsThrough, end_fault}
+use Rattle.blog_trans.proofs.IndexCode.{end-refused, last-is, progress-is}
+use Rattle.blog_trans.proofs.CheckingRows.{alone}
 use Rattle.blog_trans.proofs.ProgressSteps.{reverse-latest, reverse-behind}
 
 -- the events that were read, the latest first, and those that are left
@@ -33,11 +37,7 @@ pub record Left {A : Type 0} (bytes : List ℕ) (sel : Selection) (at : ℕ) (bu
 
 -- no fault before others
 fault-behind : (check : Option Fault) (others : Option Fault) → check ≡ None → first_failing (check ∷ others ∷ []) ≡ others
-fault-behind check others none = ap (λ c. first_failing (c ∷ others ∷ [])) none ∙ at others
-  where
-    at : (o : Option Fault) → first_failing (None ∷ o ∷ []) ≡ o
-    at None = refl
-    at (Some f) = refl
+fault-behind check others none = ap (λ c. first_failing (c ∷ others ∷ [])) none ∙ alone others
 
 fault-first : (check : Option Fault) (others : List (Option Fault)) (f : Fault) → check ≡ Some f → first_failing (check ∷ others) ≡ Some f
 fault-first check others f is = ap (λ c. first_failing (c ∷ others)) is
@@ -185,27 +185,28 @@ module _ {A : Type 0} (bytes : List ℕ) (sel : Selection) (at : ℕ) (builder :
               last true = sym (reverse-latest p (range sel ps))
               last false = append-nil (reverse (range sel ps))
 
+-- the fault of a log that was read to its end, as the program computes it
+pub end-is-fault : {A : Type 0} (bytes : List ℕ) (sel : Selection) (end at : ℕ) (builder : IndexBuilder A) (o : Option Fault) → opening_fault bytes ≡ None → end ≡ length bytes
+    → IsThrough bytes sel (Ok at) builder → o ≡ end_fault end sel builder.checker.place at → fault bytes sel ≡ o
+end-is-fault bytes sel end at builder o opened ends through is =
+    end-refused bytes sel opened through.0 ∙ last-is bytes sel end at builder.checker.place ends through.1 through.2.checker.place_is ∙ sym is
+
+-- what is kept of one that has none
+pub keeps-groups : {A : Type 0} (bytes : List ℕ) (sel : Selection) (at : ℕ) (builder : IndexBuilder A) → IsThrough bytes sel (Ok at) builder → IsAccepted bytes sel → Keeps (all_ended (placed_groups bytes sel)) builder
+keeps-groups bytes sel at builder through accepted = subst (λ k. Keeps k builder) (progress-is bytes sel accepted through.2.passed) through.2.keeps
+
 -- ---- small facts
 
 pub within-more : {A : Type 0} (builder : IndexBuilder A) (n m : ℕ) → n ≤ m → IsWithin n builder → IsWithin m builder
-within-more builder n m le few = record { entries = omega (arith, le, few.entries); tables = omega (arith, le, few.tables); numbers = few-upto n m builder.counts.rows.items le few.numbers }
-
-pub both : {a b : Bool} → a ≡ true → b ≡ true → a && b ≡ true
-both p q = λ i. p i && q i
+within-more builder n m le few = record { entries = omega (arith, le, few.entries); tables = omega (arith, le, few.tables); images = omega (arith, le, few.images) }
 
 -- no event stands at the end
 pub none-at-end : (bytes : List ℕ) (at : ℕ) → at ≡ length bytes → event_at (drop at bytes) ≡ None
 none-at-end bytes at is = event-at-short (drop at bytes) (omega (arith, length-drop at bytes, is))
 
-not-same : (n m : ℕ) → (n ≡ m → ⊥) → not (n == m) ≡ true
-not-same n m ne = ap not (ne_eqb n m ne)
-
 pub below-the-end : {b : Bool} (n m : ℕ) → b ≡ true → (n ≡ m → ⊥) → b && not (n == m) ≡ true
-below-the-end n m below ne = both below (not-same n m ne)
+below-the-end n m below ne = rw (below, ne_eqb n m ne) refl
 
 pub at-the-end : (b : Bool) (n m : ℕ) → n ≡ m → b && not (n == m) ≡ false
-at-the-end b n m is = ap (λ x. b && not x) (eq-eqb n m is) ∙ no b
-  where
-    no : (b : Bool) → b && false ≡ false
-    no true = refl
-    no false = refl
+at-the-end true n m is = ap not (eq-eqb n m is)
+at-the-end false n m is = refl

@@ -18,7 +18,7 @@ use Rattle.blog_trans.specs.Progress.{Open, Progress, progress}
 use Rattle.blog_trans.specs.Acceptance.{HavePassed, IsRefusal}
 use Rattle.blog_trans.specs.CheckerView.{HasChecked}
 use Rattle.blog_trans.specs.ListsView.{HasKept}
-use Rattle.blog_trans.specs.CountsView.{AreCounts, AreFew}
+use Rattle.blog_trans.specs.CountsView.{AreCounts}
 
 -- ---- the changes and the tables of what is kept
 
@@ -64,7 +64,7 @@ pub record HasTaken {A : Type 0} (sel : Selection) (earlier : List Placed) (buil
 pub record IsWithin {A : Type 0} (n : ℕ) (builder : IndexBuilder A) : Type 0 where
   pub entries : vec_len builder.lists.entries + index_map_len builder.checker.maps ≤ n
   pub tables : index_map_len builder.checker.layouts ≤ n
-  pub numbers : AreFew n builder.counts
+  pub images : builder.counts.images ≤ n
 
 -- what is told of an event whose first failing check is this one: it passed and is walked, or the log is refused at it
 abbrev pub IsTakenOrRefused : {A : Type 0} → Option Cause → Selection → List Placed → ℕ → Result Unit Fault → IndexBuilder A → Type 0

@@ -1,6 +1,6 @@
 -- What is known of the events before one, as the program holds it, and what checking that one tells. `earlier` has the
 -- events of the range, the latest first, and `statement` those of the open statement.
-use Rattle.std.specs.Prelude.{◌≡◌, ◌&&◌, ℕ, Bool, true, false, not, List, [], ◌∷◌, length, map, reverse, Option, Some, None, Result, Ok, Err, option_map, IsOk, MatchResult, bytes_eq, if◌then◌else◌, ⊤, slice_get}
+use Rattle.std.specs.Prelude.{◌≡◌, ◌&&◌, ℕ, Bool, true, false, not, List, [], ◌∷◌, length, map, reverse, Option, Some, None, Result, Ok, option_map, IsOk, MatchResult, bytes_eq, if◌then◌else◌, ⊤, slice_get}
 use Rattle.std.specs.Option.{option_map_or}
 use Rattle.std.specs.Result.{result_ok}
 use Rattle.std.specs.List.{list_any, AllByRecursion}
@@ -10,12 +10,11 @@ use Rattle.blog_event.specs.declared.fault.Fault.TheVariants.{MapClash}
 use Rattle.blog_event.specs.Fault.{Cause, fault_at, first_failing}
 use Rattle.blog_event.specs.File.{Placed, AreBytes}
 use Rattle.blog_row.specs.declared.layout.Layout as told
-use Rattle.blog_row.specs.declared.fault.RowFault.{RowFault}
 use Rattle.blog_row.specs.declared.kind.RowsKind.{RowsKind}
 use Rattle.blog_row.specs.Column.{Layout}
 use Rattle.blog_row.specs.LayoutView.{layout_columns}
 use Rattle.blog_row.specs.TableMap.{names_of, layout_of, Table}
-use Rattle.blog_row.specs.RowsEvent.{RowsBody, rows_of, table_id, has_end_flag}
+use Rattle.blog_row.specs.RowsEvent.{table_id, has_end_flag}
 use Rattle.blog_trans.specs.declared.checker.Checker.{Checker}
 use Rattle.blog_trans.specs.declared.layouts.SelectedTable.{SelectedTable}
 use Rattle.blog_trans.specs.declared.checker.MapSeen.{MapSeen}
@@ -25,7 +24,7 @@ use Rattle.blog_trans.specs.Selection.{Selection}
 use Rattle.blog_trans.specs.Changes.{table_of}
 use Rattle.blog_trans.specs.Groups.{PlacedRows, kept_rows}
 use Rattle.blog_trans.specs.Places.{is_map, is_rows, is_map_of, map_in, place, since}
-use Rattle.blog_trans.specs.Acceptance.{is_selected, clashes_by_id, clashes_by_layout, have_same_layout, cause_of_row, selected_map_checks, event_fault, IsRefusal}
+use Rattle.blog_trans.specs.Acceptance.{is_selected, clashes_by_id, clashes_by_layout, have_same_layout, rows_check, selected_map_checks, event_fault, IsRefusal}
 use Rattle.blog_trans.specs.StatementMaps.{first_of_ids, facts_of, facts_held}
 use Rattle.blog_trans.specs.TablesView.{table_named, tables_known, IsNumbered}
 
@@ -96,19 +95,28 @@ AreColumns sel earlier p result layouts =
 
 -- ---- rows events
 
--- what is told of a rows event by the columns of its map: the event, or why it is refused
-abbrev pub IsReadBy : RowsKind → Layout → Placed → MapSeen → Result (Option KeptRows) Fault → Type 0
-IsReadBy kind layout p map result =
-    MatchResult result (λ kept. (k : KeptRows) × (body : RowsBody) × (kept ≡ Some k) × (rows_of kind layout p.event.body ≡ Ok body)
-    × (k.map ≡ map.at) × (option_map (λ t. t.number) map.table ≡ Some k.table) × (k.action ≡ kind.action) × (k.images ≡ length body.images))
-    (λ fault. (cause : RowFault) × (rows_of kind layout p.event.body ≡ Err cause) × (fault ≡ cause_of_row cause p.pos))
+-- the program holds this map, which is the statement's first of the table id
+pub record IsMapHeld (sel : Selection) (statement : List Placed) (id : List ℕ) (v : MapSeen) (m : Placed) : Type 0 where
+  pub found : map_in (reverse statement) id ≡ Some m
+  pub at : v.at ≡ m.pos
+  pub body : v.body.now ≡ m.event.body
+  pub layout : option_map (λ t. layout_columns t.layout) v.table ≡ columns_known sel m
+  pub known : is_selected sel m.event.body ≡ true → IsOk (layout_of m.event.body)
 
--- the same rows event, whose table has its number among these
-abbrev pub IsKept : List Table → Option KeptRows → Option PlacedRows → Type 0
-IsKept tables None None = ⊤
-IsKept tables None (Some r) = ⊥
-IsKept tables (Some kept) None = ⊥
-IsKept tables (Some kept) (Some r) = (kept.map ≡ r.map.pos) × (slice_get tables kept.table ≡ Some (table_of r.map.event.body)) × (kept.action ≡ r.kind.action) × (kept.images ≡ length r.body.images)
+-- the same rows event, which begins at this position, and whose table has its number among these
+abbrev pub IsKept : List Table → ℕ → Option KeptRows → Option PlacedRows → Type 0
+IsKept tables at None None = ⊤
+IsKept tables at None (Some r) = ⊥
+IsKept tables at (Some kept) None = ⊥
+IsKept tables at (Some kept) (Some r) =
+    (at ≡ r.event.pos) × (kept.map ≡ r.map.pos) × (slice_get tables kept.table ≡ Some (table_of r.map.event.body)) × (kept.action ≡ r.kind.action) × (kept.images ≡ length r.body.images)
+
+-- what is told of a rows event by its map: how it is kept, or why it is refused
+abbrev pub IsReadBy : RowsKind → Placed → MapSeen → Result (Option KeptRows) Fault → Type 0
+IsReadBy kind p map result =
+    (tables : List Table) (sel : Selection) (statement : List Placed) (m : Placed) → IsNumbered tables map → IsMapHeld sel statement (table_id p.event.body) map m
+    → MatchResult result (λ kept. (rows_check sel kind p.event.body (map_in (reverse statement) (table_id p.event.body)) ≡ None) × IsKept tables p.pos kept (kept_rows sel (reverse statement) p))
+    (λ fault. fault_at p.pos (rows_check sel kind p.event.body (map_in (reverse statement) (table_id p.event.body))) ≡ Some fault)
 
 -- how many images a rows event has, if it is kept
 abbrev pub images_of : Option KeptRows → ℕ
@@ -139,5 +147,5 @@ abbrev pub AreChecked : {A : Type 0} → Selection → Placed → Checker A → 
 AreChecked sel p before result checker =
     (earlier : List Placed) → HasChecked sel (since earlier) earlier before
     → MatchResult result (λ rows. (event_fault sel earlier p ≡ None) × HasChecked sel (p ∷ since earlier) (p ∷ earlier) checker
-    × (has_end_flag p.event.body ≡ rows.1) × IsKept (tables_known checker.layouts) rows.0 (kept_rows sel (reverse (since earlier)) p))
+    × (has_end_flag p.event.body ≡ rows.1) × IsKept (tables_known checker.layouts) p.pos rows.0 (kept_rows sel (reverse (since earlier)) p))
     (λ fault. IsRefusal (fault_at p.pos (event_fault sel earlier p)) fault)

@@ -1,12 +1,11 @@
 -- What counts hold of the rows of tables.
-use Rattle.std.specs.Prelude.{◌≡◌, ◌≤◌, ◌<◌, IfSome, ℕ, Bool, false, List, [], map, length, slice_get, Option, Some, None, ◌+◌, ◌/◌}
-use Rattle.std.specs.List.{list_any, AllByRecursion, IsDistinct}
+use Rattle.std.specs.Prelude.{◌≡◌, ◌≤◌, ℕ, Bool, false, List, [], map, length, slice_get, Option, Some, None, ◌+◌, ◌/◌}
+use Rattle.std.specs.List.{list_any, position_or_len, IsDistinct}
 use Rattle.blog_row.specs.TableMap.{Table}
 use Rattle.blog_row.specs.declared.kind.RowsAction.{RowsAction}
 use Rattle.blog_row.specs.declared.kind.RowsAction.TheVariants.{Write, Update, Delete}
 use Rattle.blog_trans.specs.declared.counts.Count.{Count}
 use Rattle.blog_trans.specs.declared.counts.Counts.{Counts}
-use Rattle.blog_trans.specs.declared.checker.MapSeen.{MapSeen}
 use Rattle.blog_trans.specs.Acceptance.{is_same_table}
 use Rattle.blog_trans.specs.Changes.{Change, TableCount, count_of, first_tables}
 
@@ -26,21 +25,18 @@ abbrev pub is_kept : Option Count → Bool
 is_kept None = false
 is_kept (Some c) = c.kept
 
--- these are the numbers of the changes, by table, and the tables of the kept maps in the order in which each comes first.
+-- what is held of a table: its numbers, and whether it is one of those
+abbrev pub told_of : Table → Option Count → TableCount × Bool
+told_of t c = (counted t c, is_kept c)
+
+-- the same of these changes and of the tables of these maps
+abbrev pub facts_of : List Change → List Table → Table → TableCount × Bool
+facts_of cs ts t = (count_of cs t, list_any (is_same_table t) ts)
+
+-- These are the numbers of the changes, by table, and the tables of the kept maps in the order in which each comes first.
 -- `tables` has the selected tables by their numbers: all that have changes, and each of them once.
 pub record AreCounts {A : Type 0} (tables : List Table) (cs : List Change) (ts : List Table) (counts : Counts A) : Type 0 where
-  pub rows : (n : ℕ) (t : Table) → slice_get tables n ≡ Some t → counted t (slice_get counts.rows.items n) ≡ count_of cs t
-  pub others : (t : Table) → list_any (is_same_table t) tables ≡ false → counted t None ≡ count_of cs t
-  pub kept : (n : ℕ) (t : Table) → slice_get tables n ≡ Some t → is_kept (slice_get counts.rows.items n) ≡ list_any (is_same_table t) ts
-  pub known : (t : Table) → list_any (is_same_table t) tables ≡ false → list_any (is_same_table t) ts ≡ false
+  pub told : (t : Table) → told_of t (slice_get counts.rows.items (position_or_len (is_same_table t) tables)) ≡ facts_of cs ts t
   pub firsts : map (λ n. slice_get tables n) counts.tables.items ≡ map Some (first_tables [] ts)
   pub few : length counts.rows.items ≤ length tables
   pub distinct : IsDistinct is_same_table tables
-
--- each of the numbers is at most n
-abbrev pub AreFew : {A : Type 0} → ℕ → Counts A → Type 0
-AreFew n counts = AllByRecursion (λ c. (c.inserts ≤ n) × (c.updates ≤ n) × (c.deletes ≤ n)) counts.rows.items
-
--- the numbers of the maps' tables are below n
-abbrev pub AreBelow : ℕ → List MapSeen → Type 0
-AreBelow n maps = AllByRecursion (λ m. IfSome m.table (λ t. t.number < n)) maps

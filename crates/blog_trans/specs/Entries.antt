@@ -1,6 +1,6 @@
 -- The flat list of what is kept: an entry for each event of the groups, in the order in which the log in normal form has
 -- them; and the two lists that lead through it: where each transaction begins in it, and where each statement does.
-use Rattle.std.specs.Prelude.{◌≡◌, ℕ, ◌+◌, List, [], ◌∷◌, ◌++◌, map, length, take, slice_get, None, Some}
+use Rattle.std.specs.Prelude.{◌≡◌, ℕ, ◌+◌, List, [], ◌∷◌, ◌++◌, map, length, take, slice_get, None}
 use Rattle.std.specs.Option.{option_map_or}
 use Rattle.std.specs.List.{flat_map}
 use Rattle.blog_event.specs.File.{Placed}
@@ -86,10 +86,10 @@ ShowsGroups entries transactions statements ts = Shows entries transactions stat
 abbrev pub transaction_place : List PlacedTransaction → ℕ → ℕ
 transaction_place ts t = length (entries_of (take t ts))
 
--- the entry at which a statement of the transaction begins
-abbrev pub statement_place : List PlacedTransaction → ℕ → PlacedTransaction → ℕ → ℕ
-statement_place ts t x s = transaction_place ts t + 1 + length (flat_map statement_entries (take s x.statements))
+-- the statements of a transaction, none where there is no such one
+abbrev pub statements_at : List PlacedTransaction → ℕ → List PlacedStatement
+statements_at ts t = option_map_or (λ x. x.statements) (slice_get ts t) []
 
--- the entry of the first rows event of a statement, behind those of its maps
-abbrev pub IsRowsPlace : List PlacedTransaction → ℕ → ℕ → ℕ → Type 0
-IsRowsPlace ts t s n = (x : PlacedTransaction) (y : PlacedStatement) → slice_get ts t ≡ Some x → slice_get x.statements s ≡ Some y → n ≡ statement_place ts t x s + length y.maps
+-- the entry at which a statement of a transaction begins
+abbrev pub statement_place : List PlacedTransaction → ℕ → ℕ → ℕ
+statement_place ts t s = transaction_place ts t + 1 + length (flat_map statement_entries (take s (statements_at ts t)))

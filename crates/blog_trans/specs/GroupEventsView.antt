@@ -10,9 +10,11 @@ use Rattle.blog_row.specs.declared.order.Order.TheVariants.{Forward, Backward}
 use Rattle.blog_row.specs.TableMap.{names_of, layout_of, map_names}
 use Rattle.blog_row.specs.LayoutView.{layout_columns}
 use Rattle.blog_row.specs.RowsEventView.{rows_kind, rows_layout, rows_body}
-use Rattle.blog_trans.specs.Groups.{PlacedStatement, PlacedTransaction}
+use Rattle.blog_event.specs.File.{Placed}
+use Rattle.blog_trans.specs.Groups.{PlacedRows, PlacedTransaction}
+use Rattle.blog_trans.specs.Entries.{statements_at}
 use Rattle.blog_trans.specs.InTurn.{GroupEvent, Begins, Maps, Changes, Ends, in_order, rows_in_turn, statement_in_turn, transaction_in_turn}
-use Rattle.blog_trans.specs.IndexView.{index_groups, placed}
+use Rattle.blog_trans.specs.IndexView.{index_groups, maps_in, placed, rows_in}
 use Rattle.blog_trans.specs.declared.group_events.GroupRows.{GroupRows}
 use Rattle.blog_trans.specs.declared.group_events.GroupEvent as seen
 use Rattle.blog_trans.specs.declared.group_events.GroupEvent.TheVariants as given
@@ -48,22 +50,24 @@ IsWhole (given.End event) = HasSize event
 abbrev pub among : {A : Type 0} → Numbers → List A → List A
 among numbers xs = drop numbers.start (take numbers.end xs)
 
--- of the open statement
-abbrev pub statement_left : Order → Numbers → Numbers → PlacedStatement → List GroupEvent
-statement_left order maps rows s = map Maps (among maps s.maps) ++ rows_in_turn (in_order order (among rows s.rows))
+-- the end event of a transaction, none where there is no such one
+abbrev pub ends_in : List PlacedTransaction → ℕ → List GroupEvent
+ends_in ts t = option_map_or (λ x. Ends x.end ∷ []) (slice_get ts t) []
 
--- of the open transaction
-abbrev pub transaction_left : Order → Numbers → ℕ → Numbers → Numbers → PlacedTransaction → List GroupEvent
-transaction_left order statements statement maps rows t =
-    option_map_or (statement_left order maps rows) (slice_get t.statements statement) []
-    ++ (flat_map (statement_in_turn order) (in_order order (among statements t.statements)) ++ Ends t.end ∷ [])
+-- of the open transaction: these maps and rows events of its open statement, and what follows
+abbrev pub opened : List Placed → List PlacedRows → List GroupEvent → List GroupEvent
+opened maps rows others = map Maps maps ++ (rows_in_turn rows ++ others)
+
+abbrev pub open_left : {A : Type 0} → GroupEvents A → List GroupEvent
+open_left events =
+    let ts = index_groups events.index.now in
+    opened (among events.maps (maps_in ts events.transaction events.statement)) (in_order events.order (among events.rows (rows_in ts events.transaction events.statement)))
+    (flat_map (statement_in_turn events.order) (in_order events.order (among events.statements (statements_at ts events.transaction))) ++ ends_in ts events.transaction)
 
 -- the events that are left
 abbrev pub events_left : {A : Type 0} → GroupEvents A → List GroupEvent
 events_left events =
-    (if events.is_open
-    then option_map_or (transaction_left events.order events.statements events.statement events.maps events.rows) (slice_get (index_groups events.index.now) events.transaction) []
-    else [])
+    (if events.is_open then open_left events else [])
     ++ flat_map (transaction_in_turn events.order) (in_order events.order (among events.transactions (index_groups events.index.now)))
 
 -- a step gives the first event that is left, and none where none is

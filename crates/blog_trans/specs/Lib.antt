@@ -12,6 +12,7 @@ pub mod ListsView
 pub mod TablesView
 pub mod StatementMaps
 pub mod CheckerView
+pub mod Few
 pub mod CountsView
 pub mod BuilderView
 pub mod PlacedFacts

@@ -1,5 +1,5 @@
 -- What is kept of the events so far, as the program holds it.
-use Rattle.std.specs.Prelude.{◌≡◌, ℕ, ◌+◌, List, [], ◌∷◌, ◌++◌, length, Some}
+use Rattle.std.specs.Prelude.{◌≡◌, ℕ, ◌+◌, List, [], ◌∷◌, ◌++◌, length, None, Some, IfSome}
 use Rattle.std.specs.List.{flat_map}
 use Rattle.blog_event.specs.File.{Placed}
 use Rattle.blog_trans.specs.declared.lists.IndexLists.{IndexLists}
@@ -16,7 +16,19 @@ pub record AreMarks (transaction first statement : ℕ) (done : List PlacedTrans
 -- the lists show what is kept, and the marks lie where the open transaction and its open statement begin
 pub record HasKept {A : Type 0} (lists : IndexLists A) (k : Progress) : Type 0 where
   pub shows : Shows lists.entries.items lists.transactions.items lists.statements.items k
-  pub marked : (o : Open) → k.current ≡ Some o → AreMarks lists.transaction_start lists.first_statement lists.statement_start k.done o
+  pub marked : IfSome k.current (AreMarks lists.transaction_start lists.first_statement lists.statement_start k.done)
+
+-- these transactions, and no open one
+abbrev pub all_ended : List PlacedTransaction → Progress
+all_ended done = record { done = done; current = None }
+
+-- these, and the open one
+abbrev pub open_behind : List PlacedTransaction → Open → Progress
+open_behind done o = record { done = done; current = Some o }
+
+-- an open transaction whose last statement has ended
+abbrev pub between_statements : Placed → List PlacedStatement → Open
+between_statements begin statements = record { begin = begin; statements = statements; rows = [] }
 
 -- a statement of these maps and rows events behind others, if it has any rows event
 abbrev pub statement_behind : List PlacedStatement → List Placed → List PlacedRows → List PlacedStatement
@@ -25,4 +37,4 @@ statement_behind statements maps (r ∷ rows) = statements ++ record { maps = ma
 
 -- the end of the open statement, whose rows events go by these maps
 abbrev pub closed_by : List Placed → Open → Open
-closed_by maps o = record { begin = o.begin; statements = statement_behind o.statements maps o.rows; rows = [] }
+closed_by maps o = between_statements o.begin (statement_behind o.statements maps o.rows)

@@ -23,6 +23,10 @@ first_of_ids (p ∷ statement) =
 abbrev pub is_used : Selection → List Placed → Placed → Bool
 is_used sel statement m = is_selected sel m.event.body && list_any (λ p. is_rows p && bytes_eq (table_id p.event.body) (table_id m.event.body)) statement
 
+-- those that are used, of the maps of a statement
+abbrev pub used_of : Selection → List Placed → List Placed
+used_of sel statement = filter (is_used sel statement) (first_of_ids statement)
+
 -- what is known of a map
 pub record MapFacts : Type 0 where
   pub id : ℕ

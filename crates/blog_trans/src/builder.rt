@@ -1,25 +1,21 @@
 //! Walking through a log: each event of the range is checked, and what the groups take of it is kept.
 
-ghost use Rattle.std.specs.Prelude.{◌≡◌, ◌+◌, ◌≤◌, ◌<◌, ◌^◌, ℕ, Option, List, [], ◌∷◌, map, length, Some, None, IsOk, OnOk, IfErr, IfSome, MatchResult, vec_len, vec_capacity, reverse, IfOk};
-ghost use Rattle.blog_trans.specs.Places.{kind_at, since};
-ghost use Rattle.indexmap.specs.IndexMap.{values, index_map_len};
+ghost use Rattle.std.specs.Prelude.{◌≡◌, ◌+◌, ◌≤◌, ◌<◌, ◌^◌, Option, List, [], ◌∷◌, length, OnOk, IfErr, MatchResult, vec_len, IfOk};
+ghost use Rattle.indexmap.specs.IndexMap.{index_map_len};
 ghost use Rattle.blog_event.specs.declared.fault.Fault.TheVariants.{OutOfMemory};
 ghost use Rattle.blog_event.specs.Fault.{fault_at};
 ghost use Rattle.blog_event.specs.Event.{event_of, event_size};
 ghost use Rattle.blog_event.specs.File.{Placed, is_below};
 ghost use Rattle.blog_trans.specs.Selection.{Selection as Sel, selection_of};
-ghost use Rattle.blog_trans.specs.Acceptance.{event_fault, HavePassed, IsRefusal, IsAccepted, fault, is_start_inside, range, read_fault};
-ghost use Rattle.blog_trans.specs.Groups.{PlacedRows, kept_rows};
-ghost use Rattle.blog_trans.specs.Changes.{table_of};
-ghost use Rattle.blog_trans.specs.Progress.{Open, Progress, with_rows, progress};
-ghost use Rattle.blog_trans.specs.TablesView.{tables_known, table_at};
-ghost use Rattle.blog_trans.specs.StatementMaps.{used_maps};
-ghost use Rattle.blog_row.specs.declared.kind.RowsKind.{RowsKind};
-ghost use Rattle.blog_row.specs.RowsEvent.{has_end_flag};
-ghost use Rattle.blog_trans.specs.declared.kind.EventKind.TheVariants as kind;
+ghost use Rattle.blog_trans.specs.Acceptance.{event_fault, IsRefusal, IsAccepted, fault, is_start_inside, range, read_fault};
+ghost use Rattle.blog_trans.specs.Groups.{PlacedRows, PlacedTransaction};
+ghost use Rattle.blog_trans.specs.Progress.{Open, with_rows};
+ghost use Rattle.blog_trans.specs.TablesView.{tables_known};
+ghost use Rattle.blog_trans.specs.StatementMaps.{used_of};
+ghost use Rattle.blog_trans.specs.Kinds.{kind_of};
+ghost use Rattle.blog_trans.specs.declared.kind.EventKind.TheVariants as told;
 ghost use Rattle.blog_trans.specs.CheckerView.{IsKept, HasChecked, images_of};
-ghost use Rattle.blog_trans.specs.ListsView.{closed_by};
-ghost use Rattle.blog_trans.specs.CountsView.{AreBelow, AreFew};
+ghost use Rattle.blog_trans.specs.ListsView.{closed_by, open_behind};
 ghost use Rattle.blog_trans.specs.BuilderView.{HasTaken, IsWithin, IsTakenOrRefused, Keeps, placed};
 ghost use Rattle.blog_event.specs.LogView.{log_bytes};
 ghost use Rattle.blog_trans.specs.WalkView.{IsRead, IsReached, IsThrough, end_fault};
@@ -34,6 +30,7 @@ use crate::lists::IndexLists;
 use crate::place::Place;
 use crate::selection::Selection;
 use blog_event::{Event, Fault, Log};
+use blog_row::RowsKind;
 use std::alloc::Allocator;
 
 /// The size of an Xid event's body in bytes.
@@ -60,88 +57,53 @@ impl<'a, A: Allocator + Copy> IndexBuilder<'a, A> {
         }
     }
 
-    /// Keeps a rows event that begins at `at`.
-    fn keep(&mut self, at: u32, kept: &KeptRows) -> Result<(), Fault>
-        requires few { AreFew 4294967295 self.old.counts }
-        requires images { kept.now.images ≤ 4294967295 }
-        ensures kept { (k : Progress) (o : Open) (r : PlacedRows) → r.event.pos ≡ at → IsKept (tables_known self.old.checker.layouts) (Some kept.now) (Some r) → k.current ≡ Some o
-            → Keeps k self.old → OnOk result (Keeps (record { done = k.done; current = Some (with_rows (Some r) o) }) self.new) }
+    /// Keeps a rows event that begins at `at`, if its table is selected.
+    fn keep(&mut self, at: u32, kept: Option<KeptRows>) -> Result<(), Fault>
+        requires { self.old.counts.images + images_of kept < 2 ^ 64 }
+        ensures kept { (done : List PlacedTransaction) (o : Open) (r : Option PlacedRows) → IsKept (tables_known self.old.checker.layouts) at kept r → Keeps (open_behind done o) self.old
+            → OnOk result (Keeps (open_behind done (with_rows r o)) self.new) }
         ensures checker { self.new.checker ≡ self.old.checker }
-        ensures few { vec_len self.new.lists.entries ≤ vec_len self.old.lists.entries + 1 }
-        ensures numbers { (n : ℕ) → AreFew n self.old.counts → OnOk result (AreFew (n + kept.now.images) self.new.counts) }
+        ensures entries { vec_len self.new.lists.entries ≤ vec_len self.old.lists.entries + 1 }
+        ensures images { OnOk result (self.new.counts.images ≡ self.old.counts.images + images_of kept) }
         ensures refused { IfErr result (λ fault. fault ≡ OutOfMemory) }
-        ensures room { vec_len self.old.lists.entries < vec_capacity self.old.lists.entries → kept.now.table < vec_capacity self.old.counts.rows → IsOk result }
-        ensures entries_capacity { vec_capacity self.old.lists.entries ≤ vec_capacity self.new.lists.entries }
-        ensures rows_capacity { vec_capacity self.old.counts.rows ≤ vec_capacity self.new.counts.rows }
-        ensures statements { self.new.lists.statements ≡ self.old.lists.statements }
-        ensures tables { self.new.counts.tables ≡ self.old.counts.tables }
     {
+        let Some(kept) = kept else {
+            return Ok(());
+        };
         self.lists.rows(at, kept.map)?;
-        self.counts.count(kept)?;
+        self.counts.count(&kept)?;
         Ok(())
     }
 
     /// The open statement ends.
     fn close(&mut self) -> Result<(), Fault>
         requires { vec_len self.old.lists.entries + index_map_len self.old.checker.maps < 2 ^ 32 }
-        ensures kept { (k : Progress) (o : Open) (ms : List Placed) → map (λ m. m.at) (used_maps (values self.old.checker.maps)) ≡ map (λ m. m.pos) ms
-            → map (table_at (tables_known self.old.checker.layouts)) (used_maps (values self.old.checker.maps)) ≡ map (λ m. Some (table_of m.event.body)) ms
-            → (o.rows ≡ [] → ms ≡ []) → k.current ≡ Some o → Keeps k self.old
-            → OnOk result (Keeps (record { done = k.done; current = Some (closed_by ms o) }) self.new) }
-        ensures checker { (sel : Sel) (statement earlier : List Placed) → HasChecked sel statement earlier self.old.checker → OnOk result (HasChecked sel [] earlier self.new.checker) }
+        ensures kept { (sel : Sel) (statement earlier : List Placed) (done : List PlacedTransaction) (o : Open) → HasChecked sel statement earlier self.old.checker
+            → (o.rows ≡ [] → used_of sel statement ≡ []) → Keeps (open_behind done o) self.old
+            → OnOk result (HasChecked sel [] earlier self.new.checker × Keeps (open_behind done (closed_by (used_of sel statement) o)) self.new) }
         ensures layouts { OnOk result (self.new.checker.layouts ≡ self.old.checker.layouts) }
-        ensures few { OnOk result (vec_len self.new.lists.entries + index_map_len self.new.checker.maps ≤ vec_len self.old.lists.entries + index_map_len self.old.checker.maps) }
-        ensures numbers { (n : ℕ) → AreFew n self.old.counts → OnOk result (AreFew n self.new.counts) }
+        ensures entries { OnOk result (vec_len self.new.lists.entries + index_map_len self.new.checker.maps ≤ vec_len self.old.lists.entries + index_map_len self.old.checker.maps) }
+        ensures images { OnOk result (self.new.counts.images ≡ self.old.counts.images) }
         ensures refused { IfErr result (λ fault. fault ≡ OutOfMemory) }
-        ensures room { vec_len self.old.lists.entries + index_map_len self.old.checker.maps ≤ vec_capacity self.old.lists.entries → vec_len self.old.lists.statements < vec_capacity self.old.lists.statements
-            → AreBelow (vec_capacity self.old.counts.rows) (values self.old.checker.maps) → vec_len self.old.counts.tables + length (values self.old.checker.maps) ≤ vec_capacity self.old.counts.tables
-            → IsOk result }
     {
-        self.lists.close(self.checker.maps())?;
-        self.counts.keep(self.checker.maps())?;
+        self.lists.close(&self.checker.maps)?;
+        self.counts.keep(&self.checker.maps)?;
         self.checker.close();
         Ok(())
     }
 
-    /// Keeps a rows event that begins at `at`, if its table is selected.
-    fn keep_if(&mut self, at: u32, kept: Option<KeptRows>) -> Result<(), Fault>
-        requires few { AreFew 4294967295 self.old.counts }
-        requires images { IfSome kept (λ rows. rows.images ≤ 4294967295) }
-        ensures kept { (k : Progress) (o : Open) (x : Option PlacedRows) → ((r : PlacedRows) → x ≡ Some r → r.event.pos ≡ at) → IsKept (tables_known self.old.checker.layouts) kept x → k.current ≡ Some o
-            → Keeps k self.old → OnOk result (Keeps (record { done = k.done; current = Some (with_rows x o) }) self.new) }
-        ensures checker { self.new.checker ≡ self.old.checker }
-        ensures few { vec_len self.new.lists.entries ≤ vec_len self.old.lists.entries + 1 }
-        ensures numbers { (n : ℕ) → AreFew n self.old.counts → OnOk result (AreFew (n + images_of kept) self.new.counts) }
-        ensures refused { IfErr result (λ fault. fault ≡ OutOfMemory) }
-        ensures room { vec_len self.old.lists.entries < vec_capacity self.old.lists.entries → IfSome kept (λ rows. rows.table < vec_capacity self.old.counts.rows) → IsOk result }
-        ensures entries_capacity { vec_capacity self.old.lists.entries ≤ vec_capacity self.new.lists.entries }
-        ensures rows_capacity { vec_capacity self.old.counts.rows ≤ vec_capacity self.new.counts.rows }
-        ensures statements { self.new.lists.statements ≡ self.old.lists.statements }
-        ensures tables { self.new.counts.tables ≡ self.old.counts.tables }
-    {
-        match &kept {
-            Some(kept) => self.keep(at, kept),
-            None => Ok(()),
-        }
-    }
-
-    /// A rows event that begins at `at`, which is kept if its table is selected, and may be the last of its statement.
-    fn take_rows(&mut self, at: u32, kept: Option<KeptRows>, last: bool) -> Result<(), Fault>
-        requires few { AreFew 4294967295 self.old.counts }
-        requires images { IfSome kept (λ rows. rows.images ≤ 4294967295) }
+    /// A rows event, which may be the last of its statement.
+    fn take_rows(&mut self, kind: RowsKind, event: &Event<'a>) -> Result<(), Fault>
+        requires kind { kind_of (event_of event.now) ≡ told.Rows kind }
         requires room { vec_len self.old.lists.entries + index_map_len self.old.checker.maps + 1 < 2 ^ 32 }
-        ensures walks { (sel : Sel) (earlier : List Placed) (p : Placed) (k : RowsKind) → p.pos ≡ at → kind_at p ≡ kind.Rows k → has_end_flag p.event.body ≡ last
-            → IsKept (tables_known self.old.checker.layouts) kept (kept_rows sel (reverse (since earlier)) p) → HavePassed sel (p ∷ earlier)
-            → HasChecked sel (p ∷ since earlier) (p ∷ earlier) self.old.checker → Keeps (progress sel earlier) self.old → OnOk result (HasTaken sel (p ∷ earlier) self.new) }
+        requires images { self.old.counts.images + length event.now.body.now < 2 ^ 64 }
+        ensures walks { (sel : Sel) (earlier : List Placed) → HasTaken sel earlier self.old → IsTakenOrRefused (event_fault sel earlier (placed event.now)) sel (placed event.now ∷ earlier) event.now.pos result self.new }
         ensures layouts { OnOk result (self.new.checker.layouts ≡ self.old.checker.layouts) }
-        ensures few { OnOk result (vec_len self.new.lists.entries + index_map_len self.new.checker.maps ≤ vec_len self.old.lists.entries + index_map_len self.old.checker.maps + 1) }
-        ensures numbers { (n : ℕ) → AreFew n self.old.counts → OnOk result (AreFew (n + images_of kept) self.new.counts) }
-        ensures refused { IfErr result (λ fault. fault ≡ OutOfMemory) }
-        ensures room { vec_len self.old.lists.entries + index_map_len self.old.checker.maps < vec_capacity self.old.lists.entries → vec_len self.old.lists.statements < vec_capacity self.old.lists.statements → IfSome kept (λ rows. rows.table < vec_capacity self.old.counts.rows)
-            → AreBelow (vec_capacity self.old.counts.rows) (values self.old.checker.maps) → vec_len self.old.counts.tables + length (values self.old.checker.maps) ≤ vec_capacity self.old.counts.tables
-            → IsOk result }
+        ensures entries { OnOk result (vec_len self.new.lists.entries + index_map_len self.new.checker.maps ≤ vec_len self.old.lists.entries + index_map_len self.old.checker.maps + 1) }
+        ensures images { OnOk result (self.new.counts.images ≤ self.old.counts.images + length event.now.body.now) }
     {
-        self.keep_if(at, kept)?;
+        let (kept, last) = self.checker.take_rows(kind, event)?;
+        self.keep(event.pos, kept)?;
         if last {
             self.close()?;
         }
@@ -157,7 +119,7 @@ impl<'a, A: Allocator + Copy> IndexBuilder<'a, A> {
         ensures within { OnOk result (IsWithin (event.now.pos + (19 + length event.now.body.now)) self.new) }
     {
         let pos = event.pos;
-        let place = self.checker.place();
+        let place = self.checker.place;
         match event_kind(event) {
             EventKind::Begin => {
                 self.checker.begin(pos)?;
@@ -170,10 +132,7 @@ impl<'a, A: Allocator + Copy> IndexBuilder<'a, A> {
             }
             EventKind::Announcement => self.checker.announce(pos)?,
             EventKind::TableMap => self.checker.take_map(sel, event)?,
-            EventKind::Rows(kind) => {
-                let (kept, last) = self.checker.take_rows(kind, event)?;
-                self.take_rows(pos, kept, last)?;
-            }
+            EventKind::Rows(kind) => self.take_rows(kind, event)?,
             EventKind::Savepoint if place.is_inside() => {}
             EventKind::Between if place.is_outside() => {}
             EventKind::Savepoint | EventKind::Between | EventKind::SecondFormat => {
@@ -315,7 +274,7 @@ pub fn index_from<'a, 's, A: Allocator + Copy>(
         Ok(at) => at,
         Err(fault) => return Err(fault),
     };
-    if let Some(fault) = end_fault(log.end(), sel, builder.checker.place(), at) {
+    if let Some(fault) = end_fault(log.end(), sel, builder.checker.place, at) {
         return Err(fault);
     }
     let IndexBuilder {
@@ -323,5 +282,5 @@ pub fn index_from<'a, 's, A: Allocator + Copy>(
         lists,
         counts,
     } = builder;
-    Ok(Index::new(*log, *sel, lists, checker.into_layouts(), counts))
+    Ok(Index::new(*log, *sel, lists, checker.layouts, counts))
 }

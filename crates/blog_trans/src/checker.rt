@@ -7,8 +7,6 @@ ghost use Rattle.byteorder.specs.Endian.{little_number};
 ghost use Rattle.blog_event.specs.Event.{Event as Fields, event_of};
 ghost use Rattle.blog_event.specs.Fault.{first_failing};
 ghost use Rattle.blog_event.specs.File.{Placed, AreBytes};
-ghost use Rattle.blog_row.specs.Column.{Layout};
-ghost use Rattle.blog_row.specs.LayoutView.{layout_columns};
 ghost use Rattle.blog_row.specs.TableMap.{HasNames, map_names};
 ghost use Rattle.blog_trans.specs.Acceptance.{end_checks};
 ghost use Rattle.blog_trans.specs.Kinds.{kind_of, is_end_kind};
@@ -61,11 +59,12 @@ pub(crate) struct KeptRows {
 /// What has to be known of the events before one to check it.
 #[derive(Drop)]
 pub(crate) struct Checker<'a, A: Allocator> {
-    place: Place,
+    // Where the next event stands.
+    pub(crate) place: Place,
     // Whether the open statement has a rows event.
     has_rows: bool,
     // The first table map of each table id in the open statement.
-    maps: Maps<'a, A>,
+    pub(crate) maps: Maps<'a, A>,
     // The columns of each selected table in the range.
     pub(crate) layouts: Layouts<'a, A>,
 }
@@ -81,8 +80,8 @@ fn kept_rows<'a>(
     kind: RowsKind,
     event: &Event<'a>,
 ) -> Result<Option<KeptRows>, Fault>
-    ensures unselected { map.now.table ≡ None → result ≡ Ok None }
-    ensures read { (layout : Layout) → option_map (λ t. layout_columns t.layout) map.now.table ≡ Some layout → IsReadBy kind layout (record { pos = event.now.pos; event = event_of event.now }) map.now result }
+    requires { kind_of (event_of event.now) ≡ told.Rows kind }
+    ensures read { IsReadBy kind (record { pos = event.now.pos; event = event_of event.now }) map.now result }
     ensures selected { IfOk result (λ kept. is_some kept ≡ is_some map.now.table) }
     ensures images { IfOk result (λ kept. images_of kept ≤ length event.now.body.now) }
 {
@@ -114,27 +113,6 @@ impl<'a, A: Allocator + Copy> Checker<'a, A> {
             maps: IndexMap::with_hasher(alloc, BuildHasherDefault::new()),
             layouts: IndexMap::with_hasher(alloc, BuildHasherDefault::new()),
         }
-    }
-
-    /// Where the next event stands.
-    pub(crate) fn place(&self) -> Place
-        ensures { result ≡ self.now.place }
-    {
-        self.place
-    }
-
-    /// The table maps of the open statement.
-    pub(crate) fn maps(&self) -> &Maps<'a, A>
-        ensures { result.now ≡ self.now.maps }
-    {
-        &self.maps
-    }
-
-    /// The columns of the selected tables, when no more events are checked.
-    pub(crate) fn into_layouts(self) -> Layouts<'a, A>
-        ensures { result ≡ self.entry.layouts }
-    {
-        self.layouts
     }
 
     /// A `BEGIN`: a transaction begins, and with it a statement.

@@ -1,5 +1,8 @@
 //! Counting the rows of the groups by table.
 
+ghost use Rattle.std.proofs.Props.{props};
+ghost use Rattle.blog_trans.specs.Few.{AreFew};
+
 use crate::checker::{KeptRows, Maps};
 use blog_event::Fault;
 use blog_row::RowsAction;
@@ -22,6 +25,9 @@ pub(crate) struct Counts<A: Allocator> {
     rows: Vec<Count, A>,
     // The numbers of the tables of the kept maps, in the order of the groups.
     tables: Vec<u32, A>,
+    // How many images the kept rows events have: no table has more rows.
+    pub(crate) images: u64,
+    ghost few: { AreFew images rows.items } by { Prim.hlevel props },
 }
 
 impl Count {
@@ -62,24 +68,26 @@ impl Count {
 }
 
 impl<A: Allocator + Copy> Counts<A> {
-    ghost use Rattle.std.specs.Prelude.{◌≡◌, ◌+◌, ◌<◌, ◌≤◌, ◌++◌, ℕ, List, [], ◌∷◌, Some, length, map, slice_get, vec_len, vec_capacity, IsOk, OnOk, IfErr};
+    ghost use Rattle.std.specs.Prelude.{◌≡◌, ◌+◌, ◌<◌, ◌^◌, ◌++◌, List, [], ◌∷◌, Some, length, map, slice_get, vec_len, OnOk, IfErr};
+    ghost use Rattle.std.specs.List.{AllByRecursion};
     ghost use Rattle.blog_event.specs.declared.fault.Fault.TheVariants.{OutOfMemory};
     ghost use Rattle.indexmap.specs.IndexMap.{values};
     ghost use Rattle.blog_row.specs.TableMap.{Table};
     ghost use Rattle.blog_trans.specs.Groups.{RowsEvent};
     ghost use Rattle.blog_trans.specs.Changes.{Change, table_of, changes_of_rows};
-    ghost use Rattle.blog_trans.specs.TablesView.{table_at};
+    ghost use Rattle.blog_trans.specs.TablesView.{IsNumbered};
     ghost use Rattle.blog_trans.specs.StatementMaps.{used_maps};
-    ghost use Rattle.blog_trans.specs.CountsView.{AreBelow, AreCounts, AreFew};
+    ghost use Rattle.blog_trans.specs.CountsView.{AreCounts};
 
     /// Nothing is kept yet.
     pub(crate) fn new(alloc: A) -> Self
         ensures counts { AreCounts [] [] [] result }
-        ensures few { AreFew 0 result }
+        ensures images { result.images ≡ 0 }
     {
         Counts {
             rows: Vec::new(alloc),
             tables: Vec::new(alloc),
+            images: 0,
         }
     }
 
@@ -87,11 +95,8 @@ impl<A: Allocator + Copy> Counts<A> {
     fn reach(&mut self, table: u32) -> Result<(), Fault>
         ensures counts { (tables : List Table) (cs : List Change) (ts : List Table) → table < length tables → AreCounts tables cs ts self.old → OnOk result (AreCounts tables cs ts self.new) }
         ensures reached { OnOk result (table < vec_len self.new.rows) }
-        ensures few { (n : ℕ) → AreFew n self.old → OnOk result (AreFew n self.new) }
+        ensures images { self.new.images ≡ self.old.images }
         ensures refused { IfErr result (λ fault. fault ≡ OutOfMemory) }
-        ensures room { table < vec_capacity self.old.rows → IsOk result }
-        ensures capacity { vec_capacity self.old.rows ≤ vec_capacity self.new.rows }
-        ensures tables { self.new.tables ≡ self.old.tables }
     {
         let len = table as usize + 1;
         if self.rows.len() < len {
@@ -104,18 +109,15 @@ impl<A: Allocator + Copy> Counts<A> {
 
     /// Counts the rows of a kept rows event.
     pub(crate) fn count(&mut self, kept: &KeptRows) -> Result<(), Fault>
-        requires few { AreFew 4294967295 self.old }
-        requires images { kept.now.images ≤ 4294967295 }
+        requires { self.old.images + kept.now.images < 2 ^ 64 }
         ensures counts { (tables : List Table) (cs : List Change) (ts : List Table) (r : RowsEvent) → AreCounts tables cs ts self.old →
             r.content.kind.action ≡ kept.now.action → slice_get tables kept.now.table ≡ Some (table_of r.map) → length r.content.images ≡ kept.now.images →
             OnOk result (AreCounts tables (cs ++ changes_of_rows r) ts self.new) }
-        ensures few { (n : ℕ) → AreFew n self.old → OnOk result (AreFew (n + kept.now.images) self.new) }
+        ensures images { OnOk result (self.new.images ≡ self.old.images + kept.now.images) }
         ensures refused { IfErr result (λ fault. fault ≡ OutOfMemory) }
-        ensures room { kept.now.table < vec_capacity self.old.rows → IsOk result }
-        ensures capacity { vec_capacity self.old.rows ≤ vec_capacity self.new.rows }
-        ensures tables { self.new.tables ≡ self.old.tables }
     {
         self.reach(kept.table)?;
+        self.images += kept.images as u64;
         let before = self.rows[kept.table as usize];
         self.rows[kept.table as usize] = before.with(kept.action, kept.images);
         Ok(())
@@ -125,12 +127,8 @@ impl<A: Allocator + Copy> Counts<A> {
     fn keep_table(&mut self, table: u32) -> Result<(), Fault>
         ensures counts { (tables : List Table) (cs : List Change) (ts : List Table) (t : Table) → slice_get tables table ≡ Some t → AreCounts tables cs ts self.old →
             OnOk result (AreCounts tables cs (ts ++ t ∷ []) self.new) }
-        ensures few { (n : ℕ) → AreFew n self.old → OnOk result (AreFew n self.new) }
+        ensures images { self.new.images ≡ self.old.images }
         ensures refused { IfErr result (λ fault. fault ≡ OutOfMemory) }
-        ensures room { table < vec_capacity self.old.rows → vec_len self.old.tables < vec_capacity self.old.tables → IsOk result }
-        ensures capacity { vec_capacity self.old.rows ≤ vec_capacity self.new.rows }
-        ensures tables { vec_len self.new.tables ≤ vec_len self.old.tables + 1 }
-        ensures tables_capacity { vec_capacity self.old.tables ≤ vec_capacity self.new.tables }
     {
         self.reach(table)?;
         if !self.rows[table as usize].kept {
@@ -144,11 +142,10 @@ impl<A: Allocator + Copy> Counts<A> {
 
     /// Takes the tables of the maps that are kept of a statement.
     pub(crate) fn keep<'a>(&mut self, maps: &Maps<'a, A>) -> Result<(), Fault>
-        ensures counts { (tables : List Table) (cs : List Change) (ts us : List Table) → map (table_at tables) (used_maps (values maps.now)) ≡ map Some us → AreCounts tables cs ts self.old →
-            OnOk result (AreCounts tables cs (ts ++ us) self.new) }
-        ensures few { (n : ℕ) → AreFew n self.old → OnOk result (AreFew n self.new) }
+        ensures counts { (tables : List Table) (cs : List Change) (ts : List Table) → AllByRecursion (IsNumbered tables) (values maps.now) → AreCounts tables cs ts self.old →
+            OnOk result (AreCounts tables cs (ts ++ map (λ m. table_of m.body.now) (used_maps (values maps.now))) self.new) }
+        ensures images { self.new.images ≡ self.old.images }
         ensures refused { IfErr result (λ fault. fault ≡ OutOfMemory) }
-        ensures room { AreBelow (vec_capacity self.old.rows) (values maps.now) → vec_len self.old.tables + length (values maps.now) ≤ vec_capacity self.old.tables → IsOk result }
     {
         for map in maps.values() {
             if map.used {

@@ -3,11 +3,9 @@
 ghost use Rattle.std.specs.Prelude.{◌≡◌, ◌<◌, ◌≤◌, ℕ, true, false, drop, length, Some, IsSome};
 ghost use Rattle.std.specs.Option.{ForSome};
 ghost use Rattle.blog_event.specs.Event.{event_at, event_of};
-ghost use Rattle.blog_trans.specs.Entries.{IsRowsPlace};
-ghost use Rattle.blog_trans.specs.IndexView.{index_bytes, index_groups, map_at, rows_at, statement_at};
+ghost use Rattle.blog_trans.specs.IndexView.{index_bytes, index_groups, map_at, rows_at, rows_place, statement_at};
 
 use crate::groups::{Index, MapRead};
-use crate::kind::{EventKind, event_kind};
 use blog_event::Event;
 use blog_row::{Order, RowsEvent, TableMap};
 use std::alloc::{Allocator, Global};
@@ -72,7 +70,7 @@ pub struct GroupEvents<'i, 'a, 's, A: Allocator = Global> {
     ghost statements_known: { (s : ℕ) → statements.start ≤ s → s < statements.end → IsSome (statement_at (index_groups index.now) transaction s) },
     ghost maps_known: { (m : ℕ) → maps.start ≤ m → m < maps.end → IsSome (map_at (index_groups index.now) transaction statement m) },
     ghost rows_known: { (r : ℕ) → rows.start ≤ r → r < rows.end → IsSome (rows_at (index_groups index.now) transaction statement r) },
-    ghost rows_placed: { rows.start < rows.end → IsRowsPlace (index_groups index.now) transaction statement first_rows },
+    ghost rows_placed: { rows.start < rows.end → first_rows ≡ rows_place (index_groups index.now) transaction statement },
     ghost read_stands: { ForSome read (λ m. event_at (drop m.event.pos (index_bytes index.now)) ≡ Some (event_of m.event)) },
 }
 
@@ -196,18 +194,13 @@ impl<'i, 'a, 's, A: Allocator> GroupEvents<'i, 'a, 's, A> {
         ensures { GivesEvent self.old (Some result) self.new }
     {
         let r = self.rows.take(self.order);
-        let entry = self.index.entry(self.first_rows, r);
-        let event = self.index.event_at(entry.at);
-        let map = self.index.map_at(entry.map, self.read);
+        let (event, map, rows) = self.index.group_rows(self.first_rows + r, self.read);
         self.read = Some(map);
-        let EventKind::Rows(kind) = event_kind(&event) else {
-            unreachable!();
-        };
         GroupEvent::Rows(GroupRows {
             event,
             map: map.event,
             table: map.table,
-            rows: RowsEvent::known(kind, event.body, &map.layout),
+            rows,
             last: self.rows.is_empty(),
         })
     }

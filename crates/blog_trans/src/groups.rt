@@ -72,11 +72,12 @@ impl<'a, 's, A: Allocator> Index<'a, 's, A> {
     ghost use Rattle.std.specs.Option.{ForSome};
     ghost use Rattle.std.specs.List.{IsDistinct};
     ghost use Rattle.blog_event.specs.Event.{event_at, event_of};
+    ghost use Rattle.blog_event.specs.File.{Placed};
     ghost use Rattle.blog_row.specs.RowsEventView.{rows_kind, rows_layout, rows_body};
-    ghost use Rattle.blog_trans.specs.Groups.{PlacedStatement, PlacedTransaction, groups};
+    ghost use Rattle.blog_trans.specs.Groups.{PlacedRows, groups};
     ghost use Rattle.blog_trans.specs.Changes.{counts_of};
-    ghost use Rattle.blog_trans.specs.IndexView.{table_counted, index_bytes, index_groups, index_selection, placed, map_at, rows_at, statement_at};
-    ghost use Rattle.blog_trans.specs.Entries.{IsRowsPlace, ShowsGroups, statement_place, transaction_place};
+    ghost use Rattle.blog_trans.specs.IndexView.{IsOfEntry, IsRowsOfEntry, table_counted, index_bytes, index_groups, index_selection, placed, map_at, maps_in, rows_at, rows_place, statement_at};
+    ghost use Rattle.blog_trans.specs.Entries.{ShowsGroups, statement_place, transaction_place};
     ghost use Rattle.blog_trans.specs.Shown.{events_in_range, largest, shown, shown_positions};
 
     /// The groups of a log, of what was kept of it.
@@ -120,56 +121,23 @@ impl<'a, 's, A: Allocator> Index<'a, 's, A> {
         self.transactions.len()
     }
 
-    /// The entry at which transaction `t` begins.
-    fn transaction_start(&self, t: usize) -> usize
-        requires { t < length (index_groups self.now) }
-        ensures { result ≡ transaction_place (index_groups self.now) t }
+    /// The entry at which transaction `t` begins, and how many statements stand before it. Behind the last transaction
+    /// these are all entries and all statements.
+    fn transaction(&self, t: usize) -> (usize, usize)
+        requires { t ≤ length (index_groups self.now) }
+        ensures entry { result.0 ≡ transaction_place (index_groups self.now) t }
+        ensures statement { result.1 ≡ statements_in (take t (index_groups self.now)) }
     {
-        self.transactions[t].entry as usize
-    }
-
-    /// The entry behind transaction `t`.
-    fn transaction_end(&self, t: usize) -> usize
-        requires { t < length (index_groups self.now) }
-        ensures { result ≡ transaction_place (index_groups self.now) (t + 1) }
-    {
-        if self.transactions() > t + 1 {
-            self.transaction_start(t + 1)
+        if t < self.transactions() {
+            let start = self.transactions[t];
+            (start.entry as usize, start.statement as usize)
         } else {
-            self.entries.len()
+            (self.entries.len(), self.statements.len())
         }
-    }
-
-    /// The number of the first statement of transaction `t`.
-    fn first_statement(&self, t: usize) -> usize
-        requires { t < length (index_groups self.now) }
-        ensures { result ≡ statements_in (take t (index_groups self.now)) }
-    {
-        self.transactions[t].statement as usize
-    }
-
-    /// The number of the first statement behind transaction `t`.
-    fn statements_end(&self, t: usize) -> usize
-        requires { t < length (index_groups self.now) }
-        ensures { result ≡ statements_in (take (t + 1) (index_groups self.now)) }
-    {
-        if self.transactions() > t + 1 {
-            self.first_statement(t + 1)
-        } else {
-            self.statements.len()
-        }
-    }
-
-    /// The entry that is so many behind the first one.
-    pub(crate) fn entry(&self, first: usize, n: usize) -> Entry
-        requires { first + n < length (entries_of (index_groups self.now)) }
-        ensures { slice_get (entries_of (index_groups self.now)) (first + n) ≡ Some result }
-    {
-        self.entries[first + n]
     }
 
     /// The event that begins at a position.
-    pub(crate) fn event_at(&self, at: u32) -> Event<'a>
+    fn event_at(&self, at: u32) -> Event<'a>
         requires { IsSome (event_at (drop at (index_bytes self.now))) }
         ensures event { event_at (drop at (index_bytes self.now)) ≡ Some (event_of result) }
         ensures pos { result.pos ≡ at }
@@ -181,14 +149,22 @@ impl<'a, 's, A: Allocator> Index<'a, 's, A> {
         event
     }
 
+    /// The event of an entry.
+    fn event(&self, n: usize) -> Event<'a>
+        requires { (p : Placed) × IsOfEntry self.now n p }
+        ensures event { (p : Placed) → IsOfEntry self.now n p → placed result ≡ p }
+        ensures size { result.header.size ≡ event_size (event_of result) }
+    {
+        self.event_at(self.entries[n].at)
+    }
+
     /// The `BEGIN` of transaction `t`.
     pub fn begin(&self, t: usize) -> Event<'a>
         requires { t < length (index_groups self.now) }
         ensures event { option_map (λ x. x.begin) (slice_get (index_groups self.now) t) ≡ Some (placed result) }
         ensures size { result.header.size ≡ event_size (event_of result) }
     {
-        let start = self.transaction_start(t);
-        self.event_at(self.entries[start].at)
+        self.event(self.transaction(t).0)
     }
 
     /// The event that ends transaction `t`: a `COMMIT` or an Xid.
@@ -197,8 +173,7 @@ impl<'a, 's, A: Allocator> Index<'a, 's, A> {
         ensures event { option_map (λ x. x.end) (slice_get (index_groups self.now) t) ≡ Some (placed result) }
         ensures size { result.header.size ≡ event_size (event_of result) }
     {
-        let last = self.transaction_end(t) - 1;
-        self.event_at(self.entries[last].at)
+        self.event(self.transaction(t + 1).0 - 1)
     }
 
     /// The number of statements of transaction `t`.
@@ -206,7 +181,7 @@ impl<'a, 's, A: Allocator> Index<'a, 's, A> {
         requires { t < length (index_groups self.now) }
         ensures { option_map (λ x. length x.statements) (slice_get (index_groups self.now) t) ≡ Some result }
     {
-        self.statements_end(t) - self.first_statement(t)
+        self.transaction(t + 1).1 - self.transaction(t).1
     }
 
     /// The number of statements of all transactions.
@@ -219,22 +194,22 @@ impl<'a, 's, A: Allocator> Index<'a, 's, A> {
     /// Where statement `s` of transaction `t` begins.
     fn statement(&self, t: usize, s: usize) -> StatementStart
         requires { IsSome (statement_at (index_groups self.now) t s) }
-        ensures entry { (x : PlacedTransaction) → slice_get (index_groups self.now) t ≡ Some x → result.entry ≡ statement_place (index_groups self.now) t x s }
-        ensures maps { option_map (λ x. length x.maps) (statement_at (index_groups self.now) t s) ≡ Some result.maps }
+        ensures entry { result.entry ≡ statement_place (index_groups self.now) t s }
+        ensures maps { result.maps ≡ length (maps_in (index_groups self.now) t s) }
     {
-        let n = self.first_statement(t) + s;
+        let n = self.transaction(t).1 + s;
         self.statements[n]
     }
 
     /// The entry behind statement `s` of transaction `t`.
     fn statement_end(&self, t: usize, s: usize) -> usize
         requires { IsSome (statement_at (index_groups self.now) t s) }
-        ensures { (x : PlacedTransaction) → slice_get (index_groups self.now) t ≡ Some x → result ≡ statement_place (index_groups self.now) t x (s + 1) }
+        ensures { result ≡ statement_place (index_groups self.now) t (s + 1) }
     {
         if self.statements(t) > s + 1 {
             self.statement(t, s + 1).entry as usize
         } else {
-            self.transaction_end(t) - 1
+            self.transaction(t + 1).0 - 1
         }
     }
 
@@ -247,7 +222,7 @@ impl<'a, 's, A: Allocator> Index<'a, 's, A> {
     }
 
     /// The table map that begins at a position. It isn't read again where it is the one that was `read` before.
-    pub(crate) fn map_at(&self, at: u32, read: Option<MapRead<'a>>) -> MapRead<'a>
+    fn map_at(&self, at: u32, read: Option<MapRead<'a>>) -> MapRead<'a>
         requires some { IsSome (event_at (drop at (index_bytes self.now))) }
         requires named { IfSome (event_at (drop at (index_bytes self.now))) (λ e. IsSome (names_of e.body)) }
         requires laid_out { IfSome (event_at (drop at (index_bytes self.now))) (λ e. IsOk (layout_of e.body)) }
@@ -275,8 +250,7 @@ impl<'a, 's, A: Allocator> Index<'a, 's, A> {
         ensures names { names_of result.0.body.now ≡ Some (map_names result.1) }
         ensures size { result.0.header.size ≡ event_size (event_of result.0) }
     {
-        let n = self.statement(t, s).entry as usize + m;
-        let event = self.event_at(self.entries[n].at);
+        let event = self.event(self.statement(t, s).entry as usize + m);
         (event, TableMap::known(event.body))
     }
 
@@ -285,55 +259,40 @@ impl<'a, 's, A: Allocator> Index<'a, 's, A> {
         requires { IsSome (statement_at (index_groups self.now) t s) }
         ensures { option_map (λ x. length x.rows) (statement_at (index_groups self.now) t s) ≡ Some result }
     {
-        let start = self.statement(t, s);
-        self.statement_end(t, s) - start.entry as usize - start.maps as usize
+        self.statement_end(t, s) - self.first_rows(t, s)
     }
 
     /// The number of the entry of the first rows event of statement `s` of transaction `t`.
     pub(crate) fn first_rows(&self, t: usize, s: usize) -> usize
         requires { IsSome (statement_at (index_groups self.now) t s) }
-        ensures { IsRowsPlace (index_groups self.now) t s result }
+        ensures { result ≡ rows_place (index_groups self.now) t s }
     {
         let start = self.statement(t, s);
         start.entry as usize + start.maps as usize
     }
 
-    /// The rows event `r` of statement `s` of transaction `t`, and the map that it goes by.
-    fn rows_and_map(&self, t: usize, s: usize, r: usize) -> (Event<'a>, Event<'a>)
-        requires { IsSome (rows_at (index_groups self.now) t s r) }
-        ensures event { option_map (λ x. x.event) (rows_at (index_groups self.now) t s r) ≡ Some (placed result.0) }
-        ensures map { option_map (λ x. x.map) (rows_at (index_groups self.now) t s r) ≡ Some (placed result.1) }
-        ensures size { result.0.header.size ≡ event_size (event_of result.0) }
-    {
-        let start = self.statement(t, s);
-        let n = start.entry as usize + start.maps as usize + r;
-        let entry = self.entries[n];
-        (self.event_at(entry.at), self.event_at(entry.map))
-    }
-
-    /// The rows event `r` of statement `s` of transaction `t`, the map that it goes by, what that names, and the rows.
+    /// The rows event of an entry, the map that it goes by, and the rows. The map isn't read again where it is the one that
+    /// was `read` before.
     pub(crate) fn group_rows(
         &self,
-        t: usize,
-        s: usize,
-        r: usize,
-    ) -> (Event<'a>, Event<'a>, TableMap<'a>, RowsEvent<'a>)
-        requires { IsSome (rows_at (index_groups self.now) t s r) }
-        ensures event { option_map (λ x. x.event) (rows_at (index_groups self.now) t s r) ≡ Some (placed result.0) }
-        ensures map { option_map (λ x. x.map) (rows_at (index_groups self.now) t s r) ≡ Some (placed result.1) }
-        ensures kind { IfSome (rows_at (index_groups self.now) t s r) (λ x. x.kind ≡ rows_kind result.3) }
-        ensures read { IfSome (rows_at (index_groups self.now) t s r) (λ x. x.body ≡ rows_body result.3) }
-        ensures names { IfSome (rows_at (index_groups self.now) t s r) (λ x. names_of x.map.event.body ≡ Some (map_names result.2)) }
-        ensures layout { IfSome (rows_at (index_groups self.now) t s r) (λ x. layout_of x.map.event.body ≡ Ok (layout_columns (rows_layout result.3))) }
+        n: usize,
+        read: Option<MapRead<'a>>,
+    ) -> (Event<'a>, MapRead<'a>, RowsEvent<'a>)
+        requires rows { (r : PlacedRows) × IsRowsOfEntry self.now n r }
+        requires read { ForSome read (λ map. event_at (drop map.event.pos (index_bytes self.now)) ≡ Some (event_of map.event)) }
+        ensures rows { (r : PlacedRows) → IsRowsOfEntry self.now n r
+            → r ≡ record { event = placed result.0; map = placed result.1.event; kind = rows_kind result.2; body = rows_body result.2 } }
+        ensures layout { rows_layout result.2 ≡ result.1.layout }
+        ensures stands { event_at (drop result.1.event.pos (index_bytes self.now)) ≡ Some (event_of result.1.event) }
         ensures size { result.0.header.size ≡ event_size (event_of result.0) }
     {
-        let (event, map) = self.rows_and_map(t, s, r);
+        let entry = self.entries[n];
+        let event = self.event_at(entry.at);
+        let map = self.map_at(entry.map, read);
         let EventKind::Rows(kind) = event_kind(&event) else {
             unreachable!();
         };
-        let layout = Layout::known(map.body);
-        let rows = RowsEvent::known(kind, event.body, &layout);
-        (event, map, TableMap::known(map.body), rows)
+        (event, map, RowsEvent::known(kind, event.body, &map.layout))
     }
 
     /// The rows event `r` of statement `s` of transaction `t`, with the map that it goes by. No row is read.
@@ -351,8 +310,8 @@ impl<'a, 's, A: Allocator> Index<'a, 's, A> {
         ensures layout { IfSome (rows_at (index_groups self.now) t s r) (λ x. layout_of x.map.event.body ≡ Ok (layout_columns (rows_layout result.2))) }
         ensures size { result.0.header.size ≡ event_size (event_of result.0) }
     {
-        let (event, _, table, rows) = self.group_rows(t, s, r);
-        (event, table, rows)
+        let (event, map, rows) = self.group_rows(self.first_rows(t, s) + r, None);
+        (event, map.table, rows)
     }
 
     /// An entry for each event of the groups, in the order in which the log in normal form has them. No event has two
@@ -370,8 +329,8 @@ impl<'a, 's, A: Allocator> Index<'a, 's, A> {
         ensures { result ≡ largest least (shown (index_bytes self.now) (index_selection self.now)) }
     {
         let mut most = least;
-        for entry in &self.entries {
-            most = most.max(self.event_at(entry.at).header.size as usize);
+        for n in 0..self.entries.len() {
+            most = most.max(self.event(n).header.size as usize);
         }
         most
     }

@@ -5,8 +5,8 @@ ghost use Rattle.std.specs.Prelude.{◌≡◌, ◌+◌, ◌<◌, ◌≤◌, ◌^
 ghost use Rattle.indexmap.specs.IndexMap.{index_map_len, values};
 ghost use Rattle.blog_event.specs.declared.fault.Fault.TheVariants.{OutOfMemory};
 ghost use Rattle.blog_event.specs.File.{Placed};
-ghost use Rattle.blog_trans.specs.Groups.{PlacedRows};
-ghost use Rattle.blog_trans.specs.Progress.{Open, Progress, ended, with_rows};
+ghost use Rattle.blog_trans.specs.Groups.{PlacedRows, PlacedStatement, PlacedTransaction};
+ghost use Rattle.blog_trans.specs.Progress.{Open, ended, with_rows};
 ghost use Rattle.blog_trans.specs.StatementMaps.{used_maps};
 ghost use Rattle.blog_trans.specs.Entries.{map_entries};
 
@@ -67,11 +67,11 @@ impl Entry {
 }
 
 impl<A: Allocator + Copy> IndexLists<A> {
-    ghost use Rattle.blog_trans.specs.ListsView.{HasKept, closed_by};
+    ghost use Rattle.blog_trans.specs.ListsView.{HasKept, all_ended};
 
     /// Nothing is kept yet.
     pub(crate) fn new(alloc: A) -> Self
-        ensures { HasKept result (record { done = []; current = None }) }
+        ensures { HasKept result (all_ended []) }
     {
         IndexLists {
             entries: Vec::new(alloc),
@@ -85,13 +85,13 @@ impl<A: Allocator + Copy> IndexLists<A> {
 }
 
 impl<A: Allocator> IndexLists<A> {
-    ghost use Rattle.blog_trans.specs.ListsView.{HasKept, closed_by};
+    ghost use Rattle.blog_trans.specs.ListsView.{HasKept, all_ended, between_statements, closed_by, open_behind};
 
     /// A transaction begins.
     pub(crate) fn begin(&mut self, at: u32) -> Result<(), Fault>
         requires { vec_len self.old.entries + 1 < 2 ^ 32 }
-        ensures kept { (k : Progress) (p : Placed) → p.pos ≡ at → k.current ≡ None → HasKept self.old k
-            → OnOk result (HasKept self.new (record { done = k.done; current = Some (record { begin = p; statements = []; rows = [] }) })) }
+        ensures kept { (done : List PlacedTransaction) (p : Placed) → p.pos ≡ at → HasKept self.old (all_ended done)
+            → OnOk result (HasKept self.new (open_behind done (between_statements p []))) }
         ensures refused { IfErr result (λ fault. fault ≡ OutOfMemory) }
         ensures few { vec_len self.new.entries ≤ vec_len self.old.entries + 1 }
         ensures room { vec_len self.old.entries < vec_capacity self.old.entries → IsOk result }
@@ -106,8 +106,8 @@ impl<A: Allocator> IndexLists<A> {
 
     /// A rows event of the open statement, whose table map begins at `map`.
     pub(crate) fn rows(&mut self, at: u32, map: u32) -> Result<(), Fault>
-        ensures kept { (k : Progress) (o : Open) (r : PlacedRows) → r.event.pos ≡ at → r.map.pos ≡ map → k.current ≡ Some o → HasKept self.old k
-            → OnOk result (HasKept self.new (record { done = k.done; current = Some (with_rows (Some r) o) })) }
+        ensures kept { (done : List PlacedTransaction) (o : Open) (r : PlacedRows) → r.event.pos ≡ at → r.map.pos ≡ map → HasKept self.old (open_behind done o)
+            → OnOk result (HasKept self.new (open_behind done (with_rows (Some r) o))) }
         ensures refused { IfErr result (λ fault. fault ≡ OutOfMemory) }
         ensures few { vec_len self.new.entries ≤ vec_len self.old.entries + 1 }
         ensures room { vec_len self.old.entries < vec_capacity self.old.entries → IsOk result }
@@ -120,8 +120,8 @@ impl<A: Allocator> IndexLists<A> {
     /// The open statement ends: the maps that its rows events use come in front of these.
     pub(crate) fn close<'a>(&mut self, maps: &Maps<'a, A>) -> Result<(), Fault>
         requires { vec_len self.old.entries + index_map_len maps.now < 2 ^ 32 }
-        ensures kept { (k : Progress) (o : Open) (ms : List Placed) → map (λ m. m.at) (used_maps (values maps.now)) ≡ map (λ m. m.pos) ms
-            → k.current ≡ Some o → HasKept self.old k → OnOk result (HasKept self.new (record { done = k.done; current = Some (closed_by ms o) })) }
+        ensures kept { (done : List PlacedTransaction) (o : Open) (ms : List Placed) → map (λ m. m.at) (used_maps (values maps.now)) ≡ map (λ m. m.pos) ms
+            → HasKept self.old (open_behind done o) → OnOk result (HasKept self.new (open_behind done (closed_by ms o))) }
         ensures refused { IfErr result (λ fault. fault ≡ OutOfMemory) }
         ensures few { vec_len self.new.entries ≤ vec_len self.old.entries + index_map_len maps.now }
         ensures room { vec_len self.old.entries + index_map_len maps.now ≤ vec_capacity self.old.entries → vec_len self.old.statements < vec_capacity self.old.statements → IsOk result }
@@ -141,8 +141,8 @@ impl<A: Allocator> IndexLists<A> {
     /// The open transaction ends: it is left out if no statement of it is kept.
     pub(crate) fn end(&mut self, at: u32) -> Result<(), Fault>
         requires { vec_len self.old.entries + 1 < 2 ^ 32 }
-        ensures kept { (k : Progress) (o : Open) (p : Placed) → p.pos ≡ at → k.current ≡ Some o → o.rows ≡ [] → HasKept self.old k
-            → OnOk result (HasKept self.new (ended p k.done o)) }
+        ensures kept { (done : List PlacedTransaction) (begin : Placed) (statements : List PlacedStatement) (p : Placed) → p.pos ≡ at
+            → HasKept self.old (open_behind done (between_statements begin statements)) → OnOk result (HasKept self.new (ended p done (between_statements begin statements))) }
         ensures refused { IfErr result (λ fault. fault ≡ OutOfMemory) }
         ensures few { vec_len self.new.entries ≤ vec_len self.old.entries + 1 }
         ensures room { vec_len self.old.entries < vec_capacity self.old.entries → vec_len self.old.transactions < vec_capacity self.old.transactions → IsOk result }

@@ -4,7 +4,7 @@ use Rattle.blog_event.specs.File.{Placed, is_below}
 use Rattle.blog_event.specs.LogView.{log_bytes}
 use Rattle.blog_event.proofs.Opened.{log-reads}
 use Rattle.blog_trans.specs.Selection.{selection_of}
-use Rattle.blog_trans.specs.Acceptance.{is_start_inside, range, read_fault, IsRefusal}
+use Rattle.blog_trans.specs.Acceptance.{range, read_fault, IsRefusal}
 use Rattle.blog_trans.specs.BuilderView.{HasTaken, placed}
 use Rattle.blog_trans.proofs.WalkCode.{within-more, below-the-end, at-the-end, none-at-end, left-reached, reached-inside, left-on, left-refused, left-cut, left-over}
 use Rattle.blog_trans.proofs.builder.walk.Goals as goal

@@ -1,18 +1,25 @@
-use Rattle.std.proofs.Common.{◌≡◌, ◌<◌, length, Some, option_map, refl, sym, ap, ◌∙◌, arith}
-use Rattle.blog_row.specs.Column.{Layout}
+use Rattle.std.proofs.Common.{◌<◌, length, Some, sym, ap, ◌∙◌, arith}
+use Rattle.blog_event.specs.Event.{event_of}
+use Rattle.blog_event.specs.Fault.{fault_at}
+use Rattle.blog_event.specs.File.{Placed}
 use Rattle.blog_row.specs.LayoutView.{layout_columns}
-use Rattle.blog_row.specs.RowsEvent.{rows_of}
 use Rattle.blog_row.specs.RowsEventView.{rows_body}
 use Rattle.blog_row.proofs.RowsCode.{some_columns}
-use Rattle.blog_trans.specs.declared.layouts.SelectedTable.{SelectedTable}
-use Rattle.blog_trans.proofs.CheckingRows.{images-fit}
+use Rattle.blog_trans.proofs.CheckingRows.{images-fit, rows-unselected, rows-kept, rows-refused}
 use Rattle.blog_trans.proofs.checker.kept_rows.Goals as goal
 
+pub returns-in_default-clause-read : goal.returns-in_default-clause-read
+returns-in_default-clause-read c = λ tables sel statement m numbered held. rows-unselected tables sel statement _ c.args.kind c.args.map.now m held c.in_default.is
+
+pub returns-in-Err-clause-read : goal.returns-in-Err-clause-read
+returns-in-Err-clause-read c = λ tables sel statement m numbered held.
+    let p : Placed = record { pos = c.args.event.now.pos; event = event_of c.args.event.now } in
+    ap (fault_at p.pos) (rows-refused sel statement p c.args.kind c.args.map.now m c.in-Some.table c.in-Err.fault held c.in-Some.is (sym c.in-Err.ensures.exact)) ∙ ap Some (sym c.body_fault.ensures)
+
 pub returns-clause-read : goal.returns-clause-read
-returns-clause-read c = λ layout is.
-    let known : Some (layout_columns c.in-Some.table.layout) ≡ Some layout = ap (option_map (λ (t : SelectedTable). layout_columns t.layout)) (sym c.in-Some.is) ∙ is in
-    let own : layout_columns c.in-Some.table.layout ≡ layout = cc in
-    (_, rows_body c.in-Ok.read.0, refl, ap (λ (l : Layout). rows_of c.args.kind l c.args.event.now.body.now) (sym own) ∙ sym c.in-Ok.ensures.exact, refl, ap (option_map (λ (t : SelectedTable). t.number)) c.in-Some.is, refl, c.in-Ok.ensures.counted)
+returns-clause-read c = λ tables sel statement m numbered held.
+    let p : Placed = record { pos = c.args.event.now.pos; event = event_of c.args.event.now } in
+    rows-kept tables sel statement p c.args.kind c.args.map.now m c.in-Some.table (rows_body c.in-Ok.read.0) c.in-Ok.read.1 c.requires numbered held c.in-Some.is (sym c.in-Ok.ensures.exact) c.in-Ok.ensures.counted
 
 pub returns-clause-images : goal.returns-clause-images
 returns-clause-images c =

@@ -9,7 +9,7 @@ returns-clause-walks g c = λ sel. record {
   passed = tt;
   checker = c.new.ensures.known sel;
   keeps = record {
-    lists = record { shows = c.new-2.ensures.shows; marked = c.new-2.ensures.marked };
+    lists = c.new-2.ensures;
     counts = subst (λ (tables : List Table). AreCounts tables [] [] c.new-3.result) (sym (ap (λ entries. map table_named (map (λ e. e.0) entries)) c.new.ensures.layouts)) c.new-3.ensures.counts;
   };
 }
@@ -18,5 +18,5 @@ pub returns-clause-within : goal.returns-clause-within
 returns-clause-within g c = record {
   entries = omega (arith, c.new.ensures.empty, ap length c.new-2.ensures.shows.entries_are);
   tables = omega (arith, ap length c.new.ensures.layouts);
-  numbers = c.new-3.ensures.few;
+  images = omega arith;
 }

@@ -1,37 +1,35 @@
-use Rattle.std.proofs.Common.{◌∙◌, ◌∷◌, ap, sym, subst, refl, reverse, filter, Some}
-use Rattle.blog_event.specs.File.{Placed}
+use Rattle.std.proofs.Common.{◌∷◌, ◌∙◌, ap, sym, subst, inl, reverse}
 use Rattle.blog_trans.specs.Places.{since}
 use Rattle.blog_trans.specs.Groups.{kept_rows}
-use Rattle.blog_trans.specs.Progress.{with_rows, progress}
-use Rattle.blog_trans.specs.StatementMaps.{first_of_ids, is_used}
+use Rattle.blog_trans.specs.Progress.{progress}
+use Rattle.blog_trans.specs.TablesView.{tables_known}
 use Rattle.blog_trans.specs.CheckerView.{HasChecked}
-use Rattle.blog_trans.proofs.KeptRows.{kept-facts}
-use Rattle.blog_trans.proofs.BuilderSteps.{open-rows-event, used-ats, used-tables, no-used, walks-rows, walks-last}
+use Rattle.blog_trans.specs.BuilderView.{placed}
+use Rattle.blog_trans.proofs.BuilderSteps.{keeps-grown, open-rows-event, as-open, no-used, taken, walks-rows, walks-last}
 use Rattle.blog_trans.proofs.builder.IndexBuilder.take_rows.Goals as goal
 
 pub returns-in_ok-close-clause-walks : goal.returns-in_ok-close-clause-walks
-returns-in_ok-close-clause-walks g c = λ sel earlier p k at is flag taken passed knows keeps.
-    let there = open-rows-event sel earlier p k is passed in
-    let o = there.0 in
-    let kept = kept_rows sel (reverse (since earlier)) p in
-    let now = with_rows kept o in
-    let ms = filter (is_used sel (p ∷ since earlier)) (first_of_ids (p ∷ since earlier)) in
-    let keeps1 = c.in_ok-keep_if.ensures.kept (progress sel earlier) o kept (λ r is. ap (λ (e : Placed). e.pos) (kept-facts sel (reverse (since earlier)) p r is).event_is ∙ at) taken there.1 keeps in
-    let knows1 = subst (HasChecked sel (p ∷ since earlier) (p ∷ earlier)) (sym c.in_ok-keep_if.ensures.checker) knows in
-    walks-last c.close.new.self sel earlier p passed k o is there.1 (flag ∙ c.if-last.true)
-    (c.in_ok-close.ensures.checker sel (p ∷ since earlier) (p ∷ earlier) knows1)
-    (c.in_ok-close.ensures.kept (record { done = (progress sel earlier).done; current = Some now }) now ms
-    (used-ats c.keep_if.new.self.checker sel (p ∷ since earlier) (p ∷ earlier) knows1)
-    (used-tables c.keep_if.new.self.checker sel (p ∷ since earlier) (p ∷ earlier) knows1)
-    (no-used sel earlier p o passed there.1) refl keeps1)
-
-pub returns-in_ok-close-clause-numbers : goal.returns-in_ok-close-clause-numbers
-returns-in_ok-close-clause-numbers g c = λ n few. c.in_ok-close.ensures.numbers _ (c.in_ok-keep_if.ensures.numbers n few)
+returns-in_ok-close-clause-walks g c = λ sel earlier w.
+    let p = placed c.args.event.now in
+    let before = progress sel earlier in
+    let j = c.in_ok-kept.ensures.checked sel earlier w.checker in
+    let there = open-rows-event sel earlier p c.args.kind c.requires.kind (j.0, w.passed) in
+    let keeps = as-open before there.0 _ there.1 (keeps-grown before c.args.self.now c.take_rows.new.self (inl (ap tables_known c.in_ok-kept.ensures.layouts)) w.keeps) in
+    let kept = c.in_ok-keep.ensures.kept before.done there.0 (kept_rows sel (reverse (since earlier)) p) j.3 keeps in
+    let now = taken c.args.self.now sel earlier p (j.0, w.passed) c.args.kind there.0 c.requires.kind there.1 in
+    let closed = c.in_ok-close.ensures.kept sel (p ∷ since earlier) (p ∷ earlier) before.done now
+    (subst (HasChecked sel (p ∷ since earlier) (p ∷ earlier)) (sym c.in_ok-keep.ensures.checker) j.1) (no-used sel earlier p there.0 (j.0, w.passed) there.1) kept in
+    (j.0, walks-last c.close.new.self sel earlier p (j.0, w.passed) c.args.kind there.0 c.requires.kind there.1 (j.2 ∙ c.if-last.true) closed.0 closed.1)
 
 pub returns-else-last-clause-walks : goal.returns-else-last-clause-walks
-returns-else-last-clause-walks g c = λ sel earlier p k at is flag taken passed knows keeps.
-    let there = open-rows-event sel earlier p k is passed in
-    let kept = kept_rows sel (reverse (since earlier)) p in
-    walks-rows c.keep_if.new.self sel earlier p passed k there.0 is there.1 (flag ∙ c.if-last.false)
-    (subst (HasChecked sel (p ∷ since earlier) (p ∷ earlier)) (sym c.in_ok-keep_if.ensures.checker) knows)
-    (c.in_ok-keep_if.ensures.kept (progress sel earlier) there.0 kept (λ r is. ap (λ (e : Placed). e.pos) (kept-facts sel (reverse (since earlier)) p r is).event_is ∙ at) taken there.1 keeps)
+returns-else-last-clause-walks g c = λ sel earlier w.
+    let p = placed c.args.event.now in
+    let before = progress sel earlier in
+    let j = c.in_ok-kept.ensures.checked sel earlier w.checker in
+    let there = open-rows-event sel earlier p c.args.kind c.requires.kind (j.0, w.passed) in
+    let keeps = as-open before there.0 _ there.1 (keeps-grown before c.args.self.now c.take_rows.new.self (inl (ap tables_known c.in_ok-kept.ensures.layouts)) w.keeps) in (
+      j.0,
+      walks-rows c.keep.new.self sel earlier p (j.0, w.passed) c.args.kind there.0 c.requires.kind there.1 (j.2 ∙ c.if-last.false)
+          (subst (HasChecked sel (p ∷ since earlier) (p ∷ earlier)) (sym c.in_ok-keep.ensures.checker) j.1)
+          (c.in_ok-keep.ensures.kept before.done there.0 (kept_rows sel (reverse (since earlier)) p) j.3 keeps),
+    )

@@ -1,5 +1,5 @@
 use Rattle.std.proofs.Common.{◌≡◌, Bool, true, Some, None, rules, refl, sym, ap, ◌∙◌, inr}
-use Rattle.std.specs.Prelude.{nat_eq, is_some, reverse}
+use Rattle.std.specs.Prelude.{nat_eq, is_some}
 use Rattle.std.proofs.lemmas.Result.{err_from_is_err_and}
 use Rattle.indexmap.specs.IndexMap.{get}
 use Rattle.blog_event.specs.declared.fault.Fault.TheVariants.{NoMap}
@@ -9,10 +9,10 @@ use Rattle.blog_event.specs.File.{Placed}
 use Rattle.blog_row.specs.RowsEvent.{table_id}
 use Rattle.blog_trans.specs.declared.checker.MapSeen.{MapSeen}
 use Rattle.blog_trans.specs.TablesView.{tables_known, IsNumbered}
-use Rattle.blog_trans.specs.Acceptance.{rows_check, event_fault}
-use Rattle.blog_trans.specs.Places.{is_inside, map_in, place, since}
+use Rattle.blog_trans.specs.Acceptance.{event_fault}
+use Rattle.blog_trans.specs.Places.{is_inside, place, since}
 use Rattle.blog_trans.proofs.CheckingMaps.{body-id, held-none}
-use Rattle.blog_trans.proofs.CheckingRows.{value-all, long-id, map-held, alone, rows-passed, rows-failed, head-long, rows-fault, knows-rows}
+use Rattle.blog_trans.proofs.CheckingRows.{value-all, long-id, map-held, head-long, rows-fault, knows-rows}
 use Rattle.blog_trans.proofs.checker.Checker.take_rows.Goals as goal
 
 pub returns-in_default-clause-checked : goal.returns-in_default-clause-checked
@@ -40,8 +40,10 @@ returns-in_err-kept-clause-checked g c = λ sel earlier h.
     let number = c.table_id.ensures.body c.args.kind.version e.body (sym c.in-Ok.ensures) in
     let found : get nat_eq c.args.self.now.maps c.table_id.result ≡ Some c.in-Some.map.now = sym c.in-Some.ensures.value in
     let held = map-held sel (since earlier) (table_id e.body) c.table_id.result c.in-Some.map.now c.args.self.now.maps.entries id number h.passed h.maps_are found in
-    let failed = rows-failed sel (since earlier) p c.args.kind c.in-Some.map.now held.0 c.in_err-kept.field-0.0 held.1 c.in_err-kept.ensures.unselected c.in_err-kept.ensures.read in
-    let check = rows-fault sel p earlier c.args.kind c.requires inside long ∙ alone (rows_check sel c.args.kind e.body (map_in (reverse (since earlier)) (table_id e.body))) in
+    let tables = tables_known c.args.self.now.layouts in
+    let numbered = value-all (IsNumbered tables) (nat_eq c.table_id.result) c.args.self.now.maps.entries c.in-Some.map.now h.numbered found in
+    let failed = c.in_err-kept.ensures.read tables sel (since earlier) held.0 numbered held.1 in
+    let check = rows-fault sel p earlier c.args.kind c.requires inside long in
     let exit = err_from_is_err_and c.from_residual.result c.from_residual.ensures.1 in
     rw (exit.1, exit.2) (inr (ap (fault_at c.args.event.now.pos) check ∙ failed))
 
@@ -59,8 +61,8 @@ returns-clause-checked g c = λ sel earlier h.
     let held = map-held sel (since earlier) (table_id e.body) c.table_id.result v c.args.self.now.maps.entries id number h.passed h.maps_are found in
     let tables = tables_known c.args.self.now.layouts in
     let numbered = value-all (IsNumbered tables) (nat_eq c.table_id.result) c.args.self.now.maps.entries v h.numbered found in
-    let passed = rows-passed tables sel (since earlier) p c.args.kind v held.0 c.in_ok-kept.kept c.requires numbered held.1 c.in_ok-kept.ensures.unselected c.in_ok-kept.ensures.read in
-    let check = rows-fault sel p earlier c.args.kind c.requires inside long ∙ alone (rows_check sel c.args.kind e.body (map_in (reverse (since earlier)) (table_id e.body))) in
+    let passed = c.in_ok-kept.ensures.read tables sel (since earlier) held.0 numbered held.1 in
+    let check = rows-fault sel p earlier c.args.kind c.requires inside long in
     let w : MapSeen = record v { used = c.is_some-map.result } in
     let w_is : w ≡ record v { used = is_some v.table } = ap (λ (u : Bool). record v { used = u }) (c.is_some-map.ensures ∙ c.in_ok-kept.ensures.selected) in (
       check ∙ passed.0,

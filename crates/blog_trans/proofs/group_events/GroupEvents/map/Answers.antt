@@ -1,13 +1,14 @@
-use Rattle.std.proofs.Common.{slice_get}
-use Rattle.blog_trans.specs.IndexView.{index_groups, placed}
-use Rattle.blog_trans.specs.InTurn.{Maps}
-use Rattle.blog_trans.proofs.Turns.{map-given, opened-first}
+use Rattle.std.proofs.Common.{refl, sym, ◌∙◌}
+use Rattle.blog_row.specs.declared.order.Order.TheVariants.{Forward}
+use Rattle.blog_trans.specs.IndexView.{index_groups, maps_in, placed, statement_at}
+use Rattle.blog_trans.proofs.EntriesFound.{inner}
+use Rattle.blog_trans.proofs.Turns.{first-taken}
 use Rattle.blog_trans.proofs.group_events.GroupEvents.map.Goals as goal
 
 pub returns : goal.returns
 returns g c =
     let before = c.args.self.now in
-    let event = placed c.map.result.0 in
-    let given = map-given before.order (slice_get (index_groups before.index.now) before.transaction) before.statements before.statement before.maps c.take-m.result c.take-m.new.self before.rows event
-    c.map.ensures.event c.take-m.ensures c.requires.some in
-    record { first = opened-first before.is_open (Maps event) _ _ _ c.requires.open given; whole = c.map.ensures.size }
+    let ts = index_groups before.index.now in
+    let here = sym (inner (λ x. x.maps) (statement_at ts before.transaction before.statement) c.take-m.result) ∙ c.map.ensures.event in
+    let taken = first-taken Forward (maps_in ts before.transaction before.statement) before.maps c.take-m.result c.take-m.new.self (placed c.map.result.0) c.take-m.ensures c.requires.some here in
+    record { first = rw (c.requires.open, taken) refl; whole = c.map.ensures.size }

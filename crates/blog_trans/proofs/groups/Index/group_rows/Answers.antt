@@ -1,53 +1,61 @@
--- The rows event is one of the groups, so its body is read by its map's layout.
-use Rattle.std.proofs.Common.{◌≡◌, Option, IfSome, sym, ap, subst, ◌∙◌}
-use Rattle.std.specs.Result.{is_ok}
+-- The entry is that of a rows event of the groups, so its body is read by its map's layout.
+use Rattle.std.proofs.Common.{IsSome, is_some, sym, ap, ◌∙◌, arith}
+use Rattle.std.specs.Result.{IsOk, is_ok}
+use Rattle.std.proofs.lemmas.Option.{slice_get_within}
+use Rattle.blog_row.specs.TableMap.{names_of, layout_of}
 use Rattle.blog_row.specs.LayoutView.{layout_columns}
-use Rattle.blog_row.specs.RowsEventView.{rows_body}
-use Rattle.blog_trans.specs.Groups.{PlacedRows}
-use Rattle.blog_trans.specs.IndexView.{index_bytes, index_groups, index_selection, rows_at}
-use Rattle.blog_trans.proofs.IndexFacts.{Stands}
-use Rattle.blog_trans.proofs.IndexStatements.{has_rows}
-use Rattle.blog_trans.proofs.IndexRows.{same_event, kind_found, kind_same, layout_ok, body_read, body_same, names_some}
+use Rattle.blog_row.specs.RowsEventView.{rows_kind, rows_body}
+use Rattle.blog_trans.specs.declared.lists.Entry.{Entry}
+use Rattle.blog_trans.specs.Places.{kind_at}
+use Rattle.blog_trans.specs.Entries.{rows_entry}
+use Rattle.blog_trans.specs.IndexView.{index_bytes}
+use Rattle.blog_trans.proofs.IndexFacts.{some_at}
+use Rattle.blog_trans.proofs.IndexRows.{own_entry, own_event, own_map, map_told, kind_same, body_read, same_body, rows_is}
 use Rattle.blog_trans.proofs.groups.Index.group_rows.Goals as goal
+
+pub index-entry-requires : goal.index-entry-requires
+index-entry-requires g c = let (r, of) = c.requires.rows in omega (arith, slice_get_within c.args.self.now.entries.items c.args.n (rows_entry r) of.here)
+
+pub event_at-event-requires : goal.event_at-event-requires
+event_at-event-requires g c =
+    let (r, of) = c.requires.rows in
+    some_at (index_bytes c.args.self.now) r.event c.index-entry.result.now.at (ap (λ (e : Entry). e.at) (own_entry c.args.self.now c.args.n c.index-entry.result.now r of c.index-entry.ensures)) of.known.member
+
+pub map_at-map-requires-clause-some : goal.map_at-map-requires-clause-some
+map_at-map-requires-clause-some g c =
+    let (r, of) = c.requires.rows in
+    some_at (index_bytes c.args.self.now) r.map c.index-entry.result.now.map (ap (λ (e : Entry). e.map) (own_entry c.args.self.now c.args.n c.index-entry.result.now r of c.index-entry.ensures)) of.known.map.member
+
+pub map_at-map-requires-clause-named : goal.map_at-map-requires-clause-named
+map_at-map-requires-clause-named g c =
+    let (r, of) = c.requires.rows in
+    map_told (λ e. IsSome (names_of e.body)) c.args.self.now c.args.n c.index-entry.result.now r of c.index-entry.ensures (ap is_some of.known.map.names_are)
+
+pub map_at-map-requires-clause-laid_out : goal.map_at-map-requires-clause-laid_out
+map_at-map-requires-clause-laid_out g c =
+    let (r, of) = c.requires.rows in
+    map_told (λ e. IsOk (layout_of e.body)) c.args.self.now c.args.n c.index-entry.result.now r of c.index-entry.ensures (ap is_ok of.known.map.layout_is)
 
 pub unreachable-requires : goal.unreachable-requires
 unreachable-requires g c =
-    let has = has_rows c.args.self.now c.args.t c.args.s c.args.r c.requires in
-    let event_same = same_event (λ x. x.event) (rows_at (index_groups c.args.self.now) c.args.t c.args.s c.args.r) has.p c.rows_and_map.result.0 has.is c.rows_and_map.ensures.event in
-    c.in_default.not-Rows has.p.kind (kind_found (Stands (index_bytes c.args.self.now)) (index_selection c.args.self.now) has.has.y.maps has.p c.rows_and_map.result.0 c.event_kind.result has.placed event_same c.event_kind.ensures)
-
-pub known-layout-requires : goal.known-layout-requires
-known-layout-requires g c =
-    let has = has_rows c.args.self.now c.args.t c.args.s c.args.r c.requires in
-    let map_same = same_event (λ x. x.map) (rows_at (index_groups c.args.self.now) c.args.t c.args.s c.args.r) has.p c.rows_and_map.result.1 has.is c.rows_and_map.ensures.map in
-    layout_ok (Stands (index_bytes c.args.self.now)) (index_selection c.args.self.now) has.has.y.maps has.p c.rows_and_map.result.1 has.placed map_same
-
-pub known-rows-requires : goal.known-rows-requires
-known-rows-requires g c =
-    let has = has_rows c.args.self.now c.args.t c.args.s c.args.r c.requires in
-    let event_same = same_event (λ x. x.event) (rows_at (index_groups c.args.self.now) c.args.t c.args.s c.args.r) has.p c.rows_and_map.result.0 has.is c.rows_and_map.ensures.event in
-    let map_same = same_event (λ x. x.map) (rows_at (index_groups c.args.self.now) c.args.t c.args.s c.args.r) has.p c.rows_and_map.result.1 has.is c.rows_and_map.ensures.map in
-    let kind_is = kind_same (Stands (index_bytes c.args.self.now)) (index_selection c.args.self.now) has.has.y.maps has.p c.rows_and_map.result.0 c.in-Rows.kind has.placed event_same c.in-Rows.ensures in
-    ap is_ok (body_read (Stands (index_bytes c.args.self.now)) (index_selection c.args.self.now) has.has.y.maps has.p c.rows_and_map.result.0 c.rows_and_map.result.1 c.in-Rows.kind (layout_columns c.known-layout.result) has.placed event_same map_same kind_is c.known-layout.ensures)
+    let (r, of) = c.requires.rows in
+    let event = own_event c.args.self.now c.args.n c.index-entry.result.now c.event_at-event.result r of c.index-entry.ensures c.event_at-event.ensures.event c.event_at-event.ensures.pos in
+    c.in_default.not-Rows r.kind (c.event_kind.ensures ∙ ap kind_at event ∙ of.known.kind_is)
 
 pub known-requires : goal.known-requires
 known-requires g c =
-    let has = has_rows c.args.self.now c.args.t c.args.s c.args.r c.requires in
-    let map_same = same_event (λ x. x.map) (rows_at (index_groups c.args.self.now) c.args.t c.args.s c.args.r) has.p c.rows_and_map.result.1 has.is c.rows_and_map.ensures.map in
-    names_some (Stands (index_bytes c.args.self.now)) (index_selection c.args.self.now) has.has.y.maps has.p c.rows_and_map.result.1 has.placed map_same
+    let (r, of) = c.requires.rows in
+    let entry = c.index-entry.result.now in
+    let event = own_event c.args.self.now c.args.n entry c.event_at-event.result r of c.index-entry.ensures c.event_at-event.ensures.event c.event_at-event.ensures.pos in
+    let map = own_map c.args.self.now c.args.n entry c.map_at-map.result.event r of c.index-entry.ensures c.map_at-map.ensures.event c.map_at-map.ensures.pos in
+    let kind = kind_same r c.event_at-event.result c.in-Rows.kind of.known.kind_is event c.in-Rows.ensures in
+    ap is_ok (body_read r c.event_at-event.result c.map_at-map.result.event c.in-Rows.kind (layout_columns c.map_at-map.result.layout) of.known.read event map kind c.map_at-map.result.laid_out)
 
-pub returns-clause-kind : goal.returns-clause-kind
-returns-clause-kind g c =
-    let has = has_rows c.args.self.now c.args.t c.args.s c.args.r c.requires in
-    let event_same = same_event (λ x. x.event) (rows_at (index_groups c.args.self.now) c.args.t c.args.s c.args.r) has.p c.rows_and_map.result.0 has.is c.rows_and_map.ensures.event in
-    let kind_is = kind_same (Stands (index_bytes c.args.self.now)) (index_selection c.args.self.now) has.has.y.maps has.p c.rows_and_map.result.0 c.in-Rows.kind has.placed event_same c.in-Rows.ensures in
-    subst (λ (o : Option PlacedRows). IfSome o (λ x. x.kind ≡ c.known-rows.result.kind)) (sym has.is) (sym kind_is ∙ sym c.known-rows.ensures.of_kind)
-
-pub returns-clause-read : goal.returns-clause-read
-returns-clause-read g c =
-    let has = has_rows c.args.self.now c.args.t c.args.s c.args.r c.requires in
-    let event_same = same_event (λ x. x.event) (rows_at (index_groups c.args.self.now) c.args.t c.args.s c.args.r) has.p c.rows_and_map.result.0 has.is c.rows_and_map.ensures.event in
-    let map_same = same_event (λ x. x.map) (rows_at (index_groups c.args.self.now) c.args.t c.args.s c.args.r) has.p c.rows_and_map.result.1 has.is c.rows_and_map.ensures.map in
-    let kind_is = kind_same (Stands (index_bytes c.args.self.now)) (index_selection c.args.self.now) has.has.y.maps has.p c.rows_and_map.result.0 c.in-Rows.kind has.placed event_same c.in-Rows.ensures in
-    subst (λ (o : Option PlacedRows). IfSome o (λ x. x.body ≡ rows_body c.known-rows.result)) (sym has.is)
-    (body_same (Stands (index_bytes c.args.self.now)) (index_selection c.args.self.now) has.has.y.maps has.p c.rows_and_map.result.0 c.rows_and_map.result.1 c.in-Rows.kind (layout_columns c.known-layout.result) (rows_body c.known-rows.result) has.placed event_same map_same kind_is c.known-layout.ensures c.known-rows.ensures.body)
+pub returns-clause-rows : goal.returns-clause-rows
+returns-clause-rows g c = λ r of.
+    let entry = c.index-entry.result.now in
+    let event = own_event c.args.self.now c.args.n entry c.event_at-event.result r of c.index-entry.ensures c.event_at-event.ensures.event c.event_at-event.ensures.pos in
+    let map = own_map c.args.self.now c.args.n entry c.map_at-map.result.event r of c.index-entry.ensures c.map_at-map.ensures.event c.map_at-map.ensures.pos in
+    let kind = kind_same r c.event_at-event.result c.in-Rows.kind of.known.kind_is event c.in-Rows.ensures in
+    let body = body_read r c.event_at-event.result c.map_at-map.result.event c.in-Rows.kind (layout_columns c.map_at-map.result.layout) of.known.read event map kind c.map_at-map.result.laid_out in
+    rows_is r c.event_at-event.result c.map_at-map.result.event (rows_kind c.known.result) (rows_body c.known.result) event map (c.known.ensures.of_kind ∙ kind) (same_body (rows_body c.known.result) r.body (sym c.known.ensures.body ∙ body))

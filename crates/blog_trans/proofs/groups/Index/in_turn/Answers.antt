@@ -1,4 +1,4 @@
-use Rattle.std.proofs.Common.{ap, ◌∙◌}
+use Rattle.std.proofs.Common.{sym, ap}
 use Rattle.std.specs.List.{flat_map}
 use Rattle.blog_trans.specs.IndexView.{index_groups}
 use Rattle.blog_trans.specs.InTurn.{in_order, in_turn, transaction_in_turn}
@@ -8,5 +8,4 @@ use Rattle.blog_trans.proofs.groups.Index.in_turn.Goals as goal
 pub returns : goal.returns
 unfolding in_turn
 returns g c =
-    ap (λ ts. flat_map (transaction_in_turn c.args.order) (in_order c.args.order ts))
-    (all-among (index_groups c.args.self.now) c.new.result (c.new.ensures.0, c.new.ensures.1 ∙ c.transactions.ensures))
+    ap (λ ts. flat_map (transaction_in_turn c.args.order) (in_order c.args.order ts)) (all-among (index_groups c.args.self.now) c.transactions.result c.new.result (sym c.transactions.ensures) c.new.ensures)

@@ -1,32 +1,25 @@
-use Rattle.std.proofs.Common.{◌≡◌, ◌+◌, max, drop, ap, sym, ◌∙◌, arith}
+use Rattle.std.proofs.Common.{◌+◌, max, drop, ap, sym, ◌∙◌, arith}
 use Rattle.std.proofs.lemmas.List.{drop_all}
 use Rattle.blog_event.specs.Event.{event_size}
 use Rattle.blog_event.specs.File.{Placed}
 use Rattle.blog_trans.specs.IndexView.{index_bytes, index_selection}
 use Rattle.blog_trans.specs.Shown.{largest, shown}
-use Rattle.blog_trans.proofs.IndexFacts.{placed_is}
-use Rattle.blog_trans.proofs.Largest.{entry-shown, entry-stands, entry-some, largest-next, shown-many}
+use Rattle.blog_trans.proofs.Largest.{entry-shown, shown-many}
+use Rattle.blog_trans.proofs.Turns.{drop-at}
 use Rattle.blog_trans.proofs.groups.Index.largest.Goals as goal
 
-pub event_at-requires : goal.event_at-requires
-event_at-requires g c =
-    entry-some c.args.self.now c.deref-entry-items.result.now c.loop-entry.entry-index (record { at = 0; map = 0 }) c.deref-entry-items.ensures.value (omega (arith, c.loop-entry-test.true, c.loop-entry.auto.entry-index-end))
+pub event-requires : goal.event-requires
+event-requires g c = let (p, at, of) = entry-shown c.args.self.now c.loop-n.n (omega arith) in (p, of)
 
-pub loop-entry-preserved : goal.loop-entry-preserved
-loop-entry-preserved g c =
-    let index = c.args.self.now in
-    let bytes = index_bytes index in
-    let (p, here, pos) = entry-shown index c.deref-entry-items.result.now c.loop-entry.entry-index (record { at = 0; map = 0 }) c.deref-entry-items.ensures.value (omega (arith, c.loop-entry-test.true, c.loop-entry.auto.entry-index-end)) in
-    let is = placed_is bytes p _ c.event_at.result pos (entry-stands index c.loop-entry.entry-index _ p here pos) c.event_at.ensures.event c.event_at.ensures.pos in
-    let size : c.event_at.result.header.size ≡ event_size p.event = c.event_at.ensures.size ∙ ap (λ (q : Placed). event_size q.event) is in
-    let all = shown bytes (index_selection index) in
-    ap (λ n. largest n (drop (c.loop-entry.entry-index + 1) all)) (c.max-most.ensures ∙ ap (max c.loop-entry.most) size)
-    ∙ largest-next c.loop-entry.most all c.loop-entry.entry-index p here ∙ c.loop-entry.invariant
+pub loop-n-preserved : goal.loop-n-preserved
+loop-n-preserved g c =
+    let (p, at, of) = entry-shown c.args.self.now c.loop-n.n (omega arith) in
+    let all = shown (index_bytes c.args.self.now) (index_selection c.args.self.now) in
+    let size = c.event.ensures.size ∙ ap (λ (q : Placed). event_size q.event) (c.event.ensures.event p of) in
+    ap (λ m. largest m (drop (c.loop-n.n + 1) all)) (c.max-most.ensures ∙ ap (max c.loop-n.most) size)
+    ∙ sym (ap (largest c.loop-n.most) (drop-at all c.loop-n.n p at)) ∙ c.loop-n.invariant
 
 pub returns : goal.returns
 returns g c =
-    let index = c.args.self.now in
-    let all = shown (index_bytes index) (index_selection index) in
-    let many = shown-many index c.deref-entry-items.result.now c.deref-entry-items.ensures.value in
-    let none = drop_all c.loop-entry.entry-index all (omega (arith, many, c.loop-entry-test.false, c.loop-entry.auto.entry-index-end)) in
-    ap (largest c.loop-entry.most) (sym none) ∙ c.loop-entry.invariant
+    let all = shown (index_bytes c.args.self.now) (index_selection c.args.self.now) in
+    ap (largest c.loop-n.most) (sym (drop_all c.loop-n.n all (omega (arith, shown-many c.args.self.now)))) ∙ c.loop-n.invariant

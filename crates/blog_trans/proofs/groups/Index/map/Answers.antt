@@ -1,39 +1,31 @@
 use Rattle.std.proofs.Common.{◌+◌, Some, is_some, sym, ap, ◌∙◌, arith}
+use Rattle.std.proofs.lemmas.Option.{slice_get_within}
 use Rattle.blog_event.specs.File.{Placed}
 use Rattle.blog_row.specs.TableMap.{names_of}
-use Rattle.blog_trans.proofs.IndexFacts.{reads_some, reads_is}
-use Rattle.blog_trans.proofs.IndexStatements.{has_map, map_read}
+use Rattle.blog_trans.proofs.EntriesFound.{list_some}
+use Rattle.blog_trans.proofs.IndexFacts.{map_known, map_read}
+use Rattle.blog_trans.specs.IndexView.{index_groups, statement_at}
 use Rattle.blog_trans.proofs.groups.Index.map.Goals as goal
 
 pub statement-requires : goal.statement-requires
-statement-requires g c = ap is_some (has_map c.args.self.now c.args.t c.args.s c.args.m c.requires).has.is
+statement-requires g c = list_some (λ x. x.maps) (statement_at (index_groups c.args.self.now) c.args.t c.args.s) c.args.m c.requires
 
-pub overflow_add-n : goal.overflow_add-n
-overflow_add-n g c =
-    let has = has_map c.args.self.now c.args.t c.args.s c.args.m c.requires in
-    omega (arith, (map_read c.args.self.now c.args.t c.args.s c.args.m (c.statement.result.entry + c.args.m) has (ap (λ n. n + c.args.m) (c.statement.ensures.entry has.has.x has.has.at))).entry.within)
+pub overflow_add-statement : goal.overflow_add-statement
+overflow_add-statement g c =
+    let (p, is, of) = map_read c.args.self.now c.args.t c.args.s c.args.m (c.statement.result.entry + c.args.m) c.requires (ap (λ n. n + c.args.m) c.statement.ensures.entry) in
+    omega (arith, slice_get_within c.args.self.now.entries.items (c.statement.result.entry + c.args.m) of.entry of.here)
 
-pub index-requires : goal.index-requires
-index-requires g c =
-    let has = has_map c.args.self.now c.args.t c.args.s c.args.m c.requires in
-    omega (arith, (map_read c.args.self.now c.args.t c.args.s c.args.m (c.statement.result.entry + c.args.m) has (ap (λ n. n + c.args.m) (c.statement.ensures.entry has.has.x has.has.at))).entry.within)
-
-pub event_at-event-requires : goal.event_at-event-requires
-event_at-event-requires g c =
-    let has = has_map c.args.self.now c.args.t c.args.s c.args.m c.requires in
-    let read = map_read c.args.self.now c.args.t c.args.s c.args.m (c.statement.result.entry + c.args.m) has (ap (λ n. n + c.args.m) (c.statement.ensures.entry has.has.x has.has.at)) in
-    reads_some c.args.self.now (c.statement.result.entry + c.args.m) has.p c.index.result.now read c.index.ensures
+pub event-event-requires : goal.event-event-requires
+event-event-requires g c =
+    let (p, is, of) = map_read c.args.self.now c.args.t c.args.s c.args.m (c.statement.result.entry + c.args.m) c.requires (ap (λ n. n + c.args.m) c.statement.ensures.entry) in
+    (p, of)
 
 pub known-requires : goal.known-requires
 known-requires g c =
-    let has = has_map c.args.self.now c.args.t c.args.s c.args.m c.requires in
-    let read = map_read c.args.self.now c.args.t c.args.s c.args.m (c.statement.result.entry + c.args.m) has (ap (λ n. n + c.args.m) (c.statement.ensures.entry has.has.x has.has.at)) in
-    let is = reads_is c.args.self.now (c.statement.result.entry + c.args.m) has.p c.index.result.now c.event_at-event.result read c.index.ensures c.event_at-event.ensures.event c.event_at-event.ensures.pos in
-    ap (λ (p : Placed). is_some (names_of p.event.body)) is ∙ ap is_some has.placed.names_are
+    let (p, is, of) = map_read c.args.self.now c.args.t c.args.s c.args.m (c.statement.result.entry + c.args.m) c.requires (ap (λ n. n + c.args.m) c.statement.ensures.entry) in
+    ap (λ (q : Placed). is_some (names_of q.event.body)) (c.event-event.ensures.event p of) ∙ ap is_some (map_known c.args.self.now c.args.t c.args.s c.args.m p is).names_are
 
 pub returns-clause-event : goal.returns-clause-event
 returns-clause-event g c =
-    let has = has_map c.args.self.now c.args.t c.args.s c.args.m c.requires in
-    let read = map_read c.args.self.now c.args.t c.args.s c.args.m (c.statement.result.entry + c.args.m) has (ap (λ n. n + c.args.m) (c.statement.ensures.entry has.has.x has.has.at)) in
-    has.is
-    ∙ ap Some (sym (reads_is c.args.self.now (c.statement.result.entry + c.args.m) has.p c.index.result.now c.event_at-event.result read c.index.ensures c.event_at-event.ensures.event c.event_at-event.ensures.pos))
+    let (p, is, of) = map_read c.args.self.now c.args.t c.args.s c.args.m (c.statement.result.entry + c.args.m) c.requires (ap (λ n. n + c.args.m) c.statement.ensures.entry) in
+    is ∙ ap Some (sym (c.event-event.ensures.event p of))

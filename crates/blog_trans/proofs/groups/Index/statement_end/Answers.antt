@@ -1,12 +1,21 @@
-use Rattle.std.proofs.Common.{◌≡◌, ◌+◌, ◌-◌, ap, ◌∙◌, arith}
-use Rattle.blog_trans.specs.Entries.{statement_place}
+use Rattle.std.proofs.Common.{◌≡◌, ◌+◌, length, option_map, sym, ap, ◌∙◌, arith}
+use Rattle.std.proofs.lemmas.Option.{same_Some}
 use Rattle.blog_trans.specs.IndexView.{index_groups}
-use Rattle.blog_trans.proofs.IndexStatements.{has_statement, same_transaction, last_found}
+use Rattle.blog_trans.proofs.EntriesFound.{last_statement}
+use Rattle.blog_trans.proofs.IndexFacts.{below, found, many_transactions}
 use Rattle.blog_trans.proofs.groups.Index.statement_end.Goals as goal
 
+pub statements-requires : goal.statements-requires
+statements-requires g c = below c.args.self.now c.args.t c.args.s c.requires
+
+pub overflow_add-t : goal.overflow_add-t
+overflow_add-t g c = omega (arith, many_transactions c.args.self.now, below c.args.self.now c.args.t c.args.s c.requires)
+
+pub transaction-requires : goal.transaction-requires
+transaction-requires g c = omega (arith, below c.args.self.now c.args.t c.args.s c.requires)
+
 pub returns-else-statements-s : goal.returns-else-statements-s
-returns-else-statements-s g c = λ x at.
-    let has = has_statement c.args.self.now c.args.t c.args.s c.requires in
-    let last = last_found c.args.self.now c.args.t c.args.s c.statements.result c.transaction_end.result has c.statements.ensures (omega arith) c.transaction_end.ensures in
-    let here : c.transaction_end.result - 1 ≡ statement_place (index_groups c.args.self.now) c.args.t has.x (c.args.s + 1) = omega (arith, last) in
-    here ∙ ap (λ z. statement_place (index_groups c.args.self.now) c.args.t z (c.args.s + 1)) (same_transaction c.args.self.now c.args.t c.args.s has x at)
+returns-else-statements-s g c =
+    let (x, at) = found (index_groups c.args.self.now) c.args.t (below c.args.self.now c.args.t c.args.s c.requires) in
+    let all : length x.statements ≡ c.statements.result = same_Some (length x.statements) c.statements.result (sym (ap (option_map (λ z. length z.statements)) at) ∙ c.statements.ensures) in
+    omega (arith, last_statement (index_groups c.args.self.now) c.args.t (c.args.s + 1) x at (omega arith))
