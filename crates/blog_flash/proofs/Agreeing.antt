@@ -1,11 +1,11 @@
 -- The kept maps of an accepted log agree on layouts: of two maps of a table the later one was checked against the earlier.
-use Rattle.std.proofs.Common.{◌≡◌, ℕ, zero, suc, arith, Bool, true, false, not, if◌then◌else◌, List, [], ◌∷◌, Option, Some, None, is_some, Ok, bytes_eq, ◌⊎◌, inl, inr, refl, sym, subst, ap, ◌∙◌}
+use Rattle.std.proofs.Common.{◌≡◌, ℕ, zero, suc, arith, Bool, true, false, not, List, [], ◌∷◌, Option, Some, None, is_some, Ok, bytes_eq, ◌⊎◌, inl, inr, refl, sym, subst, ap, ◌∙◌}
 use Rattle.std.specs.List.{Contains, list_any}
 use Rattle.std.proofs.lemmas.List.Folds.{list_any_at}
 use Rattle.std.proofs.lemmas.Bool.{and_parts, and_from, not-true, not-false, false≢true, false_from_ne_true}
 use Rattle.std.proofs.lemmas.Slice.Eq.{bytes_eq-Decides}
 use Rattle.blog_event.specs.declared.fault.Fault.TheVariants.{OutOfPlace, MapClash, BadBody}
-use Rattle.blog_event.specs.Fault.{Cause, needs, first_failing}
+use Rattle.blog_event.specs.Fault.{Cause, needs}
 use Rattle.blog_event.specs.Event.{Event}
 use Rattle.blog_event.specs.File.{Placed, placed_from, read}
 use Rattle.blog_row.specs.Column.{Layout, types_of, metadata_of}
@@ -15,7 +15,7 @@ use Rattle.blog_trans.specs.declared.kind.EventKind.TheVariants as kind
 use Rattle.blog_trans.specs.Selection.{Selection}
 use Rattle.blog_trans.specs.Kinds.{is_map_kind}
 use Rattle.blog_trans.specs.Places.{kind_at, is_map, place, is_inside, since}
-use Rattle.blog_trans.specs.Acceptance.{is_selected, is_same_table, clashes_by_id, clashes_by_layout, selected_map_checks, checks, event_fault, range, IsAccepted, Passes}
+use Rattle.blog_trans.specs.Acceptance.{is_selected, is_same_table, clashes_by_id, clashes_by_layout, selected_map_checks, event_fault, range, IsAccepted, Passes}
 use Rattle.blog_trans.specs.Groups.{event_value}
 use Rattle.blog_trans.proofs.CheckingLayouts.{same-itself}
 use Rattle.blog_trans.proofs.ProgressAccepted.{none-failing, needed, accepted-passes}
@@ -51,12 +51,9 @@ map-kind _ e = absurd (false≢true e)
 map-checked : (sel : Selection) (earlier : List Placed) (p : Placed) → is_map p ≡ true → is_selected sel p.event.body ≡ true → event_fault sel earlier p ≡ None
     → list_any (clashes_by_layout p) earlier ≡ false
 map-checked sel earlier p is chosen e =
-    let by_kind : first_failing (checks sel earlier p kind.TableMap) ≡ None = subst (λ (k : EventKind). first_failing (checks sel earlier p k) ≡ None) (map-kind (kind_at p) is) e in
-    let front : List (Option Cause) → List (Option Cause) =
-    λ others. needs (is_inside (place earlier)) OutOfPlace ∷ needs (is_some (names_of p.event.body)) BadBody ∷ needs (not (list_any (clashes_by_id p) (since earlier))) MapClash ∷ others in
-    let by_table : first_failing (front (selected_map_checks earlier p)) ≡ None =
-    subst (λ (b : Bool). first_failing (front (if b then selected_map_checks earlier p else [])) ≡ None) chosen by_kind in
-    let each = none-failing (front (selected_map_checks earlier p)) by_table in
+    let all : List (Option Cause) =
+    needs (is_inside (place earlier)) OutOfPlace ∷ needs (is_some (names_of p.event.body)) BadBody ∷ needs (not (list_any (clashes_by_id p) (since earlier))) MapClash ∷ selected_map_checks earlier p in
+    let each = none-failing all (rw (map-kind (kind_at p) is, chosen) at e) in
     not-true (list_any (clashes_by_layout p) earlier) (needed _ MapClash each.1.1.1.1.0)
 
 -- a map of a selected table doesn't clash with an earlier one

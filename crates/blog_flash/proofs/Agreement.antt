@@ -48,10 +48,6 @@ maps-formed Known ts h =
     all-joined (IsTransaction Known) (IsMapEvent Known) (λ (t : Transaction). flat_map (λ (s : Statement). s.maps) t.statements) (λ t formed.
     all-joined (IsStatement Known) (IsMapEvent Known) (λ (s : Statement). s.maps) (λ s formed_s. formed_s.maps_formed) t.statements formed.statements_formed) ts h
 
--- what holds of all elements holds of one that is contained
-contained : {A : Type 0} (P : A → Type 0) (xs : List A) (x : A) → AllByRecursion P xs → Contains xs x → P x
-contained P xs x all among = All-contains P xs x (All-from_recursion P xs all) among
-
 -- two maps of a table
 two-agree : (bytes : List ℕ) (sel : Selection) → IsAccepted bytes sel → (a b : Event) → IsMapEvent (Chosen bytes sel) a → IsMapEvent (Chosen bytes sel) b
     → table_of a.body ≡ table_of b.body → layout_of a.body ≡ layout_of b.body
@@ -70,9 +66,6 @@ two-agree bytes sel accepted a b a_formed b_formed table =
 pub maps-agree : (bytes : List ℕ) (sel : Selection) → AreBytes bytes → IsAccepted bytes sel → MapsAgree bytes sel
 maps-agree bytes sel are accepted =
     let maps : List Event = maps_of (groups bytes sel) in
-    let formed = maps-formed (Chosen bytes sel) (groups bytes sel) (source-groups bytes sel are accepted) in
-    record {
-      names = λ m among. (contained (IsMapEvent (Chosen bytes sel)) maps m formed among).names;
-      layouts = λ m among. (contained (IsMapEvent (Chosen bytes sel)) maps m formed among).layout;
-      agree = λ a b first second. two-agree bytes sel accepted a b (contained (IsMapEvent (Chosen bytes sel)) maps a formed first) (contained (IsMapEvent (Chosen bytes sel)) maps b formed second);
-    }
+    let formed = All-from_recursion (IsMapEvent (Chosen bytes sel)) maps (maps-formed (Chosen bytes sel) (groups bytes sel) (source-groups bytes sel are accepted)) in
+    let each : (m : Event) → Contains maps m → IsMapEvent (Chosen bytes sel) m = λ m among. All-contains (IsMapEvent (Chosen bytes sel)) maps m formed among in
+    record { names = λ m among. (each m among).names; layouts = λ m among. (each m among).layout; agree = λ a b first second. two-agree bytes sel accepted a b (each a first) (each b second) }

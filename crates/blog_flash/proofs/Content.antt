@@ -1,9 +1,9 @@
 -- The content of a rows event: the body that is written is read again.
-use Rattle.std.proofs.Common.{◌≡◌, ℕ, ◌+◌, ◌%◌, ◌<◌, ◌^◌, Bool, true, false, eqb, List, [], ◌++◌, length, Ok, refl, sym, ap, ◌∙◌, arith, length-append, append-nil, take_at, drop_at, le-leb, eq-eqb}
+use Rattle.std.proofs.Common.{◌≡◌, ℕ, ◌+◌, ◌%◌, ◌<◌, ◌^◌, Bool, true, false, eqb, List, [], ◌++◌, length, Ok, refl, sym, ap, ◌∙◌, arith, append-nil, take_at, drop_at, le-leb, eq-eqb}
 use Rattle.std.specs.Prelude.{nat_le}
 use Rattle.std.specs.List.{concat}
 use Rattle.byteorder.specs.Endian.{little_bytes, little_number}
-use Rattle.byteorder.specs.Numbers.{length-bytes_low_first, little_number-reads_back}
+use Rattle.byteorder.specs.Numbers.{little_number-reads_back}
 use Rattle.blog_row.specs.declared.kind.RowsVersion.{RowsVersion}
 use Rattle.blog_row.specs.declared.kind.RowsVersion.TheVariants.{One, Two}
 use Rattle.blog_row.specs.Column.{Layout}
@@ -11,7 +11,9 @@ use Rattle.blog_row.specs.RowsEvent.{rows_of, fixed_len, table_id, flags_of, has
 use Rattle.blog_row.specs.RowsWriting.{RowsContent, content_of, kept_flags, no_extra, written_flags, written_fields, written_body}
 use Rattle.blog_row.proofs.Images.{images_found, images_again}
 use Rattle.blog_row.proofs.Bodies.{rows_again}
+use Rattle.blog_row.specs.declared.order.Order.TheVariants.{Forward}
 use Rattle.blog_row.proofs.ReversedRows.{IsContent, written-is}
+use Rattle.blog_row.proofs.WrittenBody.{body-len}
 
 -- ---- the body that is written
 
@@ -59,13 +61,7 @@ content-again last c fits even =
 
 -- it has the fixed part
 pub body-long : (last : Bool) (c : RowsContent) → length c.id ≡ 6 → nat_le (fixed_len c.kind.version) (length (written_body last c)) ≡ true
-unfolding written_body
-body-long last c id =
-    let flags : List ℕ = little_bytes 2 (written_flags last c.flags) in
-    let two : length flags ≡ 2 = length-bytes_low_first 0 2 (written_flags last c.flags) in
-    let behind = c.count ++ (concat c.bitmaps ++ concat c.images) in
-    le-leb (fixed_len c.kind.version) (length (written_body last c))
-    (omega (arith, length-append c.id (flags ++ behind-flags c), length-append flags (behind-flags c), two, length-append (no_extra c.kind.version) behind, fixed c.kind.version))
+body-long last c id = le-leb (fixed_len c.kind.version) (length (written_body last c)) (omega (arith, id, body-len Forward last c, fixed c.kind.version))
   where
     fixed : (version : RowsVersion) → fixed_len version ≡ 8 + length (no_extra version)
     fixed One = refl

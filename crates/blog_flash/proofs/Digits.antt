@@ -1,27 +1,12 @@
 -- Hexadecimal digits in upper case.
-use Rattle.std.proofs.Common.{◌≡◌, ℕ, zero, suc, ◌/◌, ◌%◌, ◌<◌, ◌==◌, Bool, true, ◌&&◌, inl, inr, List, [], ◌∷◌, map, slice_index, refl, ap₂, arith}
+use Rattle.std.proofs.Common.{◌≡◌, ℕ, suc, ◌/◌, ◌%◌, ◌<◌, List, [], ◌∷◌, map, slice_index, refl, sym, ap₂, arith}
 use Rattle.std.specs.Char.{to_ascii_uppercase}
-use Rattle.std.proofs.lemmas.Bool.{and_parts, cases_lt, eqb-true}
+use Rattle.std.proofs.lemmas.List.{get_or-map}
 use Rattle.hex.specs.Hex.{encode_with, encode_lower, encode_upper, lower_digits, upper_digits}
 
--- the test of the first n digits: raised to upper case, each is the upper-case one
-abbrev all_raised : ℕ → Bool
-all_raised zero = true
-all_raised (suc n) = (to_ascii_uppercase (slice_index lower_digits n) == slice_index upper_digits n) && all_raised n
-
-raised-below : (n d : ℕ) → all_raised n ≡ true → d < n → to_ascii_uppercase (slice_index lower_digits d) ≡ slice_index upper_digits d
-raised-below zero d all below = absurd (omega arith)
-raised-below (suc n) d all below =
-    let parts = and_parts (to_ascii_uppercase (slice_index lower_digits n) == slice_index upper_digits n) (all_raised n) all in
-    elim (cases_lt d n) [
-      | inl lower ↦ raised-below n d parts.1 lower
-      | inr top ↦
-          let last : d ≡ n = omega arith in
-          rw last (eqb-true (to_ascii_uppercase (slice_index lower_digits n)) (slice_index upper_digits n) parts.0)
-    ]
-
+-- each digit, by its place among them
 raised : (d : ℕ) → d < 16 → to_ascii_uppercase (slice_index lower_digits d) ≡ slice_index upper_digits d
-raised d within = raised-below 16 d refl within
+raised d within = sym (get_or-map to_ascii_uppercase lower_digits d 0 0 within)
 
 -- digits in lower case, raised
 pub raised-digits : (bytes : List ℕ) → ((k : ℕ) → slice_index bytes k < 256) → map to_ascii_uppercase (encode_lower bytes) ≡ encode_upper bytes

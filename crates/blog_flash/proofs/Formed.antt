@@ -1,6 +1,6 @@
 -- Groups that can be laid out: what holds of the groups of every accepted log, and of the reversed ones.
-use Rattle.std.proofs.Common.{◌≡◌, ℕ, ◌+◌, ◌%◌, ◌<◌, ◌^◌, List, [], ◌∷◌, length, find, Bool, true, false, ◌&&◌, bytes_eq, Option, Some, Ok, ◌⊎◌}
-use Rattle.std.specs.List.{AllByRecursion, list_any}
+use Rattle.std.proofs.Common.{◌≡◌, ℕ, ◌+◌, ◌%◌, ◌<◌, ◌^◌, List, ◌∷◌, length, find, map, Bool, true, ◌&&◌, bytes_eq, Option, Some, Ok, ◌⊎◌}
+use Rattle.std.specs.List.{AllByRecursion, IsDistinct, list_any}
 use Rattle.blog_event.specs.Event.{Event, unplaced}
 use Rattle.blog_row.specs.Column.{Layout}
 use Rattle.blog_row.specs.TableMap.{Names, names_of, layout_of, is_same_layout}
@@ -56,8 +56,7 @@ pub record IsRowsEvent (maps : List Event) (r : RowsEvent) : Type 0 where
 
 -- no two maps have one table id
 abbrev pub AreDistinct : List Event → Type 0
-AreDistinct [] = Unit {0}
-AreDistinct (m ∷ ms) = AllByRecursion (λ o. bytes_eq (table_id o.body) (table_id m.body) ≡ false) ms × AreDistinct ms
+AreDistinct ms = IsDistinct bytes_eq (map (λ m. table_id m.body) ms)
 
 -- some rows event goes by the map
 abbrev pub IsUsed : List RowsEvent → Event → Type 0

@@ -1,17 +1,16 @@
 -- Well-formed groups: they stay so in reverse order, and their events are as their kinds and bodies say.
-use Rattle.std.proofs.Common.{◌≡◌, ℕ, ◌<◌, ◌^◌, Bool, true, false, ◌||◌, List, [], ◌∷◌, ◌++◌, map, reverse, Result, Ok, refl, ap, ◌∙◌, arith}
+use Rattle.std.proofs.Common.{◌≡◌, ℕ, suc, length, ◌<◌, ◌^◌, Bool, true, false, ◌||◌, List, [], ◌∷◌, map, reverse, Result, Ok, refl, ap, ◌∙◌, arith}
 use Rattle.std.specs.List.{AllByRecursion, list_any, flat_map}
-use Rattle.std.proofs.lemmas.List.{reverse-append}
+use Rattle.std.proofs.lemmas.List.{length-map, length-reverse}
 use Rattle.std.proofs.lemmas.List.Folds.{list_any-append}
-use Rattle.std.proofs.Math.Bool.{or_comm}
+use Rattle.std.proofs.Math.Bool.{or_comm, or-false}
 use Rattle.blog_event.specs.Event.{Event}
-use Rattle.blog_row.specs.declared.kind.RowsKind.{RowsKind}
 use Rattle.blog_row.specs.declared.kind.RowsVersion.{RowsVersion}
 use Rattle.blog_row.specs.declared.kind.RowsVersion.TheVariants.{One, Two}
 use Rattle.blog_row.specs.declared.kind.RowsAction.{RowsAction}
 use Rattle.blog_row.specs.declared.kind.RowsAction.TheVariants.{Write, Update, Delete}
 use Rattle.blog_row.specs.declared.fault.RowFault.{RowFault}
-use Rattle.blog_row.specs.RowsKind.{number_by, number_of_kind}
+use Rattle.blog_row.specs.RowsKind.{number_by}
 use Rattle.blog_row.specs.RowsWriting.{written_fields, written_body}
 use Rattle.blog_row.specs.Column.{Layout}
 use Rattle.blog_row.proofs.Layouts.{layout_some}
@@ -24,6 +23,7 @@ use Rattle.blog_flash.specs.Reversal.{reversed_rows, reversed_statement, reverse
 use Rattle.blog_flash.specs.Texts.{rows_event, rows_events, statement_events, transaction_events, group_events}
 use Rattle.blog_flash.proofs.Formed.{Fits, IsMapEvent, IsRowsEvent, IsUsed, IsStatement, IsTransaction, AreGroups}
 use Rattle.blog_trans.proofs.PlacedParts.{all-by, all-map, all-joined}
+use Rattle.blog_trans.proofs.ProgressSteps.{reverse-latest}
 use Rattle.blog_flash.proofs.Content.{body-again}
 
 -- ---- the events of groups
@@ -33,44 +33,25 @@ pub kind-placed : (e : Event) (n : ℕ) → kind_of (record e { log_pos = n }) �
 unfolding kind_of
 kind-placed e n = refl
 
--- the event type of a kind of rows event is of this kind, whatever the other fields
-pub kind-numbered : (k : RowsKind) (timestamp server_id flags : ℕ) (body : List ℕ)
-    → kind_of (record { timestamp = timestamp; kind = number_of_kind k; server_id = server_id; log_pos = 0; flags = flags; body = body }) ≡ kind.Rows k
+-- the event type of a kind of rows event is of this kind, and one byte
+numbered : (e : Event) (version : RowsVersion) (action : RowsAction)
+    → (kind_of (record e { kind = number_by version action }) ≡ kind.Rows (record { version = version; action = action })) × (number_by version action < 2 ^ 8)
 unfolding kind_of
-kind-numbered k timestamp server_id flags body = by_parts k.version k.action
-  where
-    by_parts : (version : RowsVersion) (action : RowsAction)
-        → kind_of (record { timestamp = timestamp; kind = number_by version action; server_id = server_id; log_pos = 0; flags = flags; body = body }) ≡ kind.Rows (record { version = version; action = action })
-    by_parts One Write = refl
-    by_parts One Update = refl
-    by_parts One Delete = refl
-    by_parts Two Write = refl
-    by_parts Two Update = refl
-    by_parts Two Delete = refl
+numbered e One Write = (refl, omega arith)
+numbered e One Update = (refl, omega arith)
+numbered e One Delete = (refl, omega arith)
+numbered e Two Write = (refl, omega arith)
+numbered e Two Update = (refl, omega arith)
+numbered e Two Delete = (refl, omega arith)
 
 -- the event of a rows event has its kind
 pub rows_event-kind : (last : Bool) (r : RowsEvent) → kind_of (rows_event last r) ≡ kind.Rows r.content.kind
-unfolding rows_event
-rows_event-kind last r = kind-numbered r.content.kind r.timestamp r.server_id r.header_flags (written_body last r.content)
-
--- and its body
-pub rows_event-body : (last : Bool) (r : RowsEvent) → (rows_event last r).body ≡ written_body last r.content
-unfolding rows_event
-rows_event-body last r = refl
-
--- an event type is one byte
-number-fits : (version : RowsVersion) (action : RowsAction) → number_by version action < 2 ^ 8
-number-fits One Write = omega arith
-number-fits One Update = omega arith
-number-fits One Delete = omega arith
-number-fits Two Write = omega arith
-number-fits Two Update = omega arith
-number-fits Two Delete = omega arith
+rows_event-kind last r = (numbered (rows_event last r) r.content.kind.version r.content.kind.action).0
 
 -- its header fits
-pub rows_event-fits : (maps : List Event) (last : Bool) (r : RowsEvent) → IsRowsEvent maps r → Fits (rows_event last r)
-unfolding rows_event
-rows_event-fits maps last r h = record { timestamp = h.timestamp_fits; kind = number-fits r.content.kind.version r.content.kind.action; server_id = h.server_id_fits; flags = h.header_flags_fit }
+rows_event-fits : (maps : List Event) (last : Bool) (r : RowsEvent) → IsRowsEvent maps r → Fits (rows_event last r)
+rows_event-fits maps last r h =
+    record { timestamp = h.timestamp_fits; kind = (numbered (rows_event last r) r.content.kind.version r.content.kind.action).1; server_id = h.server_id_fits; flags = h.header_flags_fit }
 
 -- its body is read again
 pub reads : (maps : List Event) (last : Bool) (r : RowsEvent) → IsRowsEvent maps r → rows_by_map r.content.kind r.map (written_body last r.content) ≡ Ok (written_fields last r.content)
@@ -87,17 +68,14 @@ all-turned P f by xs all = all-reverse P (map f xs) (all-map P P f by xs all)
 abbrev HasFirst : {A : Type 0} → List A → Type 0
 HasFirst {A = A} xs = (x : A) × (rest : List A) × (xs ≡ x ∷ rest)
 
--- one more at the end
-first-append : {A : Type 0} (xs : List A) (y : A) → HasFirst (xs ++ y ∷ [])
-first-append [] y = (y, [], refl)
-first-append (x ∷ xs) y = (x, xs ++ y ∷ [], refl)
+-- as there is in a list as long
+first-of : {A : Type 0} (n : ℕ) (xs : List A) → length xs ≡ suc n → HasFirst xs
+first-of n [] long = absurd (omega (arith, long))
+first-of n (x ∷ xs) long = (x, xs, refl)
 
 -- also of the elements, each changed and in reverse order
 first-turned : {A : Type 0} (f : A → A) (xs : List A) → HasFirst xs → HasFirst (reverse (map f xs))
-first-turned f xs h =
-    let behind : List _ = reverse (map f h.1) in
-    let some = first-append behind (f h.0) in
-    (some.0, some.1, ap (λ ys. reverse (map f ys)) h.2 ∙ reverse-append (f h.0 ∷ []) (map f h.1) ∙ some.2)
+first-turned f xs (x, rest, is) = first-of (length rest) (reverse (map f xs)) (length-reverse (map f xs) ∙ length-map xs f ∙ ap length is)
 
 -- ---- reversed groups
 
@@ -105,15 +83,8 @@ first-turned f xs h =
 any-turned : {A : Type 0} (p : A → Bool) (f : A → A) → ((x : A) → p (f x) ≡ p x) → (xs : List A) → list_any p (reverse (map f xs)) ≡ list_any p xs
 any-turned p f alike [] = refl
 any-turned p f alike (x ∷ xs) =
-    ap (list_any p) (reverse-append (f x ∷ []) (map f xs))
-    ∙ list_any-append p (reverse (map f xs)) (f x ∷ [])
-    ∙ or_comm (list_any p (reverse (map f xs))) (list_any p (f x ∷ []))
-    ∙ ap (λ (b : Bool). list_any p (f x ∷ []) || b) (any-turned p f alike xs)
-    ∙ first (p (f x)) (p x) (alike x)
-  where
-    first : (a b : Bool) → a ≡ b → ((a || false) || list_any p xs) ≡ (b || list_any p xs)
-    first a true e = rw e refl
-    first a false e = rw e refl
+    rw (reverse-latest (f x) (map f xs), list_any-append p (reverse (map f xs)) (f x ∷ []), any-turned p f alike xs, alike x)
+    (or_comm (list_any p xs) (p x || false) ∙ ap (λ (b : Bool). b || list_any p xs) (or-false (p x)))
 
 -- a reversed rows event
 pub rows-reversed : (maps : List Event) (r : RowsEvent) → IsRowsEvent maps r → IsRowsEvent maps (reversed_rows r)
@@ -155,25 +126,25 @@ transaction-reversed Known t h = record {
 pub groups-reversed : (Known : Event → Type 0) (ts : List Transaction) → AreGroups Known ts → AreGroups Known (reversed ts)
 groups-reversed Known ts h = all-turned (IsTransaction Known) reversed_transaction (transaction-reversed Known) ts h
 
--- ---- headers
+-- ---- events of groups
 
--- those of a statement's rows events
-rows_events-fit : (maps : List Event) (rows : List RowsEvent) → AllByRecursion (IsRowsEvent maps) rows → AllByRecursion Fits (rows_events rows)
-rows_events-fit maps [] h = tt
-rows_events-fit maps (r ∷ []) h = (rows_event-fits maps true r h.0, tt)
-rows_events-fit maps (r ∷ s ∷ rows) h = (rows_event-fits maps false r h.0, rows_events-fit maps (s ∷ rows) h.1)
+-- what holds of the events of rows events
+all-rows : (P : Event → Type 0) (Q : RowsEvent → Type 0) → ((last : Bool) (r : RowsEvent) → Q r → P (rows_event last r)) → (rows : List RowsEvent) → AllByRecursion Q rows → AllByRecursion P (rows_events rows)
+all-rows P Q by [] all = tt
+all-rows P Q by (r ∷ []) all = (by true r all.0, tt)
+all-rows P Q by (r ∷ s ∷ rows) all = (by false r all.0, all-rows P Q by (s ∷ rows) all.1)
 
--- those of a statement
-statement-fits : (Known : Event → Type 0) (s : Statement) → IsStatement Known s → AllByRecursion Fits (statement_events s)
-statement-fits Known s h =
-    all-append Fits s.maps (rows_events s.rows) (all-by (IsMapEvent Known) Fits (λ m is. is.fits) s.maps h.maps_formed) (rows_events-fit s.maps s.rows h.rows_formed)
+-- and of maps holds of the events of a statement
+pub all-events : (P Known : Event → Type 0) → ((m : Event) → IsMapEvent Known m → P m) → ((maps : List Event) (last : Bool) (r : RowsEvent) → IsRowsEvent maps r → P (rows_event last r)) → (s : Statement)
+    → IsStatement Known s → AllByRecursion P (statement_events s)
+all-events P Known by_map by_rows s h = all-append P s.maps (rows_events s.rows) (all-by (IsMapEvent Known) P by_map s.maps h.maps_formed) (all-rows P (IsRowsEvent s.maps) (by_rows s.maps) s.rows h.rows_formed)
 
--- those of a transaction
+-- headers fit: those of a transaction
 transaction-fits : (Known : Event → Type 0) (t : Transaction) → IsTransaction Known t → AllByRecursion Fits (transaction_events t)
 transaction-fits Known t h =
-    let inside = all-joined (IsStatement Known) Fits statement_events (statement-fits Known) t.statements h.statements_formed in
+    let inside = all-joined (IsStatement Known) Fits statement_events (all-events Fits Known (λ m is. is.fits) rows_event-fits) t.statements h.statements_formed in
     (h.begin_fits, all-append Fits (flat_map statement_events t.statements) (t.end ∷ []) inside (h.end_fits, tt))
 
--- the headers of the events of groups fit
+-- and those of groups
 pub events-fit : (Known : Event → Type 0) (ts : List Transaction) → AreGroups Known ts → AllByRecursion Fits (group_events ts)
 events-fit Known ts h = all-joined (IsTransaction Known) Fits transaction_events (transaction-fits Known) ts h

@@ -1,62 +1,43 @@
 -- The written log undoes the selection, and the normal form keeps it.
-use Rattle.std.proofs.Common.{◌≡◌, ℕ, ◌<◌, ◌^◌, List, ◌∷◌, length, refl, sym, ap, subst, ◌∙◌, arith}
+use Rattle.std.proofs.Common.{◌≡◌, ℕ, ◌<◌, ◌^◌, List, ◌∷◌, length, refl, sym, ap, ap₂, subst, ◌∙◌, arith}
 use Rattle.std.proofs.lemmas.Bool.{ltb-true}
-use Rattle.std.specs.List.{AllByRecursion}
 use Rattle.blog_event.specs.declared.fault.Fault.TheVariants.{TooLong}
 use Rattle.blog_event.specs.Event.{Event}
 use Rattle.blog_event.specs.File.{AreBytes, read}
 use Rattle.blog_trans.specs.Selection.{Selection, all}
 use Rattle.blog_trans.specs.Acceptance.{IsAccepted}
-use Rattle.blog_trans.specs.Groups.{RowsEvent, Statement, Transaction, groups}
+use Rattle.blog_trans.specs.Groups.{Transaction, groups}
 use Rattle.blog_trans.specs.Changes.{changes, changes_of}
 use Rattle.blog_flash.specs.States.{apply_all, inverse_all}
+use Rattle.blog_flash.specs.LaidOut.{groups_in}
 use Rattle.blog_flash.specs.Reversal.{reversed}
+use Rattle.blog_flash.proofs.Formed.{AreGroups}
+use Rattle.blog_row.specs.declared.order.Order.{Order}
+use Rattle.blog_row.specs.declared.order.Order.TheVariants.{Forward, Backward}
 use Rattle.blog_flash.specs.Texts.{laid_out, laid_out_after, normal_text, flashback_text}
 use Rattle.blog_flash.specs.Theorems.{Undoes, IsNormal}
-use Rattle.blog_flash.proofs.Formed.{IsRowsEvent, IsStatement, IsTransaction, AreGroups}
 use Rattle.blog_flash.proofs.Undoing.{undo_all}
-use Rattle.blog_flash.proofs.Reversing.{reversed-twice, IsPairedRows, IsPairedStatement, IsPairedTransaction, paired-from-mod, reversed-changes}
+use Rattle.blog_flash.proofs.Reversing.{reversed-twice, reversed-changes}
 use Rattle.blog_flash.proofs.Forming.{groups-reversed}
-use Rattle.blog_trans.proofs.PlacedParts.{all-by}
 use Rattle.blog_trans.proofs.ProgressAccepted.{no-fault-at, needed, accepted-lines}
 use Rattle.blog_flash.proofs.Agreeing.{Chosen, source-agree}
 use Rattle.blog_flash.proofs.Source.{source-groups, source-format, format-event}
 use Rattle.blog_flash.proofs.Totals.{no-longer}
 use Rattle.blog_flash.proofs.Written.{IsWritable, written-read, written-accepted, written-groups}
 
--- ---- groups whose updates have both images of each row
-
--- a rows event
-rows-paired : (maps : List Event) (r : RowsEvent) → IsRowsEvent maps r → IsPairedRows r
-rows-paired maps r h = paired-from-mod r.content.kind.action r.content.images h.content.2.rows_whole
-
--- a statement
-statement-paired : (Known : Event → Type 0) (s : Statement) → IsStatement Known s → IsPairedStatement s
-statement-paired Known s h = all-by (IsRowsEvent s.maps) IsPairedRows (rows-paired s.maps) s.rows h.rows_formed
-
--- a transaction
-transaction-paired : (Known : Event → Type 0) (t : Transaction) → IsTransaction Known t → IsPairedTransaction t
-transaction-paired Known t h = all-by (IsStatement Known) IsPairedStatement (statement-paired Known) t.statements h.statements_formed
-
--- the updates of well-formed groups have both images of each row
-pub groups-paired : (Known : Event → Type 0) (ts : List Transaction) → AreGroups Known ts → AllByRecursion IsPairedTransaction ts
-groups-paired Known ts h = all-by (IsTransaction Known) IsPairedTransaction (transaction-paired Known) ts h
-
 -- ---- texts of a log that was laid out
 
 -- its normal form is itself
 pub laid-again : (Known : Event → Type 0) (format : Event) (ts : List Transaction) → IsWritable Known format ts → normal_text (laid_out format ts) all ≡ laid_out format ts
 unfolding normal_text
-laid-again Known format ts h =
-    ap (λ es. laid_out_after es (groups (laid_out format ts) all)) (written-read Known format ts h) ∙ ap (laid_out format) (written-groups Known format ts h)
+laid-again Known format ts h = ap₂ laid_out_after (written-read Known format ts h) (written-groups Known format ts h)
 
 -- what undoes it
 pub laid-undone : (Known : Event → Type 0) (format : Event) (ts : List Transaction) → IsWritable Known format ts
     → flashback_text (laid_out format ts) all ≡ laid_out format (reversed ts)
 unfolding flashback_text
 laid-undone Known format ts h =
-    ap (λ es. laid_out_after es (reversed (groups (laid_out format ts) all))) (written-read Known format ts h)
-    ∙ ap (λ us. laid_out format (reversed us)) (written-groups Known format ts h)
+    ap₂ (λ es us. laid_out_after es (reversed us)) (written-read Known format ts h) (written-groups Known format ts h)
 
 -- ---- an accepted log
 
@@ -81,16 +62,16 @@ is-source bytes sel are accepted =
     let rest : List Event = first.1 in
     let event = format-event bytes sel format rest are first.2 in
     let formed = source-groups bytes sel are accepted in
-    let agree = source-agree bytes sel accepted in
-    let lengths = no-longer bytes sel format rest accepted first.2 in
     let short = accepted-short bytes sel accepted in
+    let writable : (order : Order) → AreGroups (Chosen bytes sel) (groups_in order (groups bytes sel)) → IsWritable (Chosen bytes sel) format (groups_in order (groups bytes sel)) =
+    λ order formed. record { are_groups = formed; agree = source-agree bytes sel accepted; served = first.3; event = event; short = omega (arith, no-longer order bytes sel format rest accepted first.2) } in
     record {
       accepted = accepted;
       format = format;
       rest = rest;
       read_is = first.2;
-      forward = record { are_groups = formed; agree = agree; served = first.3; event = event; short = omega arith };
-      backward = record { are_groups = groups-reversed (Chosen bytes sel) (groups bytes sel) formed; agree = agree; served = first.3; event = event; short = omega arith };
+      forward = writable Forward formed;
+      backward = writable Backward (groups-reversed (Chosen bytes sel) (groups bytes sel) formed);
     }
 
 -- its normal form
@@ -124,26 +105,31 @@ normal-groups Known bytes sel h = ap (λ normal. groups normal all) (normal-is K
 -- the changes of the log that undoes are the inverse
 pub flashback-changes : (Known : Event → Type 0) (bytes : List ℕ) (sel : Selection) → IsSource Known bytes sel → changes (flashback_text bytes sel) all ≡ inverse_all (changes bytes sel)
 flashback-changes Known bytes sel h =
-    ap changes_of (flashback-groups Known bytes sel h) ∙ reversed-changes (groups bytes sel) (groups-paired Known (groups bytes sel) h.forward.are_groups)
+    ap changes_of (flashback-groups Known bytes sel h) ∙ reversed-changes Known (groups bytes sel) h.forward.are_groups
 
 -- ---- the theorems
 
--- the written log undoes the selection
-undoes : (Known : Event → Type 0) (bytes : List ℕ) (sel : Selection) → IsSource Known bytes sel → Undoes bytes sel (flashback_text bytes sel)
-undoes Known bytes sel h = record {
-  source = h.accepted;
-  text = refl;
-  state = λ before after made. ap (λ cs. apply_all cs after) (flashback-changes Known bytes sel h) ∙ undo_all (changes bytes sel) before after made;
-  accepted = subst (λ written. IsAccepted written all) (sym (flashback-is Known bytes sel h)) (written-accepted Known h.format (reversed (groups bytes sel)) h.backward);
-  again = ap (λ normal. changes normal all) (flashback-twice Known bytes sel h) ∙ ap changes_of (normal-groups Known bytes sel h);
-}
+-- of each accepted log the written log undoes the selection
+pub flashback-undoes : (bytes : List ℕ) (sel : Selection) → AreBytes bytes → IsAccepted bytes sel → Undoes bytes sel (flashback_text bytes sel)
+flashback-undoes bytes sel are accepted =
+    let Known : Event → Type 0 = Chosen bytes sel in
+    let h = is-source bytes sel are accepted in
+    record {
+      source = accepted;
+      text = refl;
+      state = λ before after made. ap (λ cs. apply_all cs after) (flashback-changes Known bytes sel h) ∙ undo_all (changes bytes sel) before after made;
+      accepted = subst (λ written. IsAccepted written all) (sym (flashback-is Known bytes sel h)) (written-accepted Known h.format (reversed (groups bytes sel)) h.backward);
+      again = ap (λ normal. changes normal all) (flashback-twice Known bytes sel h) ∙ ap changes_of (normal-groups Known bytes sel h);
+    }
 
--- the normal form keeps the selection
-normal : (Known : Event → Type 0) (bytes : List ℕ) (sel : Selection) → IsSource Known bytes sel → IsNormal bytes sel (normal_text bytes sel)
-normal Known bytes sel h =
+-- of each accepted log the normal form keeps the selection
+pub forward-normal : (bytes : List ℕ) (sel : Selection) → AreBytes bytes → IsAccepted bytes sel → IsNormal bytes sel (normal_text bytes sel)
+forward-normal bytes sel are accepted =
+    let Known : Event → Type 0 = Chosen bytes sel in
+    let h = is-source bytes sel are accepted in
     let is = normal-is Known bytes sel h in
     record {
-      source = h.accepted;
+      source = accepted;
       text = refl;
       accepted = subst (λ normal. IsAccepted normal all) (sym is) (written-accepted Known h.format (groups bytes sel) h.forward);
       changes_kept = ap changes_of (normal-groups Known bytes sel h);
@@ -151,11 +137,3 @@ normal Known bytes sel h =
       undone = ap (λ normal. flashback_text normal all) is ∙ laid-undone Known h.format (groups bytes sel) h.forward ∙ sym (flashback-is Known bytes sel h);
       undone_twice = flashback-twice Known bytes sel h;
     }
-
--- of each accepted log the written log undoes the selection
-pub flashback-undoes : (bytes : List ℕ) (sel : Selection) → AreBytes bytes → IsAccepted bytes sel → Undoes bytes sel (flashback_text bytes sel)
-flashback-undoes bytes sel are accepted = undoes (Chosen bytes sel) bytes sel (is-source bytes sel are accepted)
-
--- of each accepted log the normal form keeps the selection
-pub forward-normal : (bytes : List ℕ) (sel : Selection) → AreBytes bytes → IsAccepted bytes sel → IsNormal bytes sel (normal_text bytes sel)
-forward-normal bytes sel are accepted = normal (Chosen bytes sel) bytes sel (is-source bytes sel are accepted)

@@ -27,5 +27,4 @@ pub mod Digits
 pub mod PrintedParts
 pub mod Answering
 pub mod InTurn
-pub mod Room
 pub mod PrintedInTurn

@@ -1,5 +1,5 @@
 -- What is printed for rows, by their images, and for the summary.
-use Rattle.std.proofs.Common.{◌≡◌, ℕ, List, [], ◌∷◌, ◌++◌, length, map, Option, Some, Ok, refl, sym, ap, ap₂, ◌∙◌, append_assoc, length-append, arith}
+use Rattle.std.proofs.Common.{◌≡◌, ℕ, List, [], ◌∷◌, ◌++◌, length, map, Option, refl, sym, ap, ap₂, ◌∙◌, length-append, arith}
 use Rattle.std.proofs.lemmas.List.{length-map}
 use Rattle.std.specs.Fmt.{decimal}
 use Rattle.std.specs.Prelude.{codes}
@@ -7,32 +7,21 @@ use Rattle.std.specs.Option.{option_map_or}
 use Rattle.std.specs.List.{flat_map}
 use Rattle.blog_row.specs.declared.kind.RowsAction.{RowsAction}
 use Rattle.blog_row.specs.declared.kind.RowsAction.TheVariants.{Write, Update, Delete}
-use Rattle.blog_row.specs.declared.kind.RowsKind.{RowsKind}
-use Rattle.blog_row.specs.declared.rows_event.RowsEvent as seen
-use Rattle.blog_row.specs.declared.table_map.TableMap.{TableMap}
 use Rattle.blog_row.specs.Column.{Layout}
 use Rattle.blog_row.specs.Image.{row_of}
 use Rattle.blog_row.specs.LayoutView.{layout_columns}
-use Rattle.blog_row.specs.RowsEvent.{RowsBody, updated_rows, rows_by}
+use Rattle.blog_row.specs.RowsEvent.{updated_rows, rows_by}
 use Rattle.blog_row.specs.RowsEventView.{rows_body}
-use Rattle.blog_row.specs.TableMap.{Table, Names, names_of, layout_of, map_names}
-use Rattle.blog_trans.specs.Changes.{counts_of, Inserted, Deleted, Updated, updates, row_by, table_of, changes_by_action, changes_of_rows}
-use Rattle.blog_trans.specs.Groups.{PlacedRows, PlacedTransaction, Transaction, rows_value, statement_value, transaction_value, placed_groups, groups}
+use Rattle.blog_row.specs.TableMap.{Table, Names, layout_of, map_names}
+use Rattle.blog_trans.specs.declared.group_events.GroupRows.{GroupRows}
+use Rattle.blog_trans.specs.declared.group_events.GroupEvent.TheVariants as given
+use Rattle.blog_trans.specs.Changes.{counts_of, Inserted, Deleted, Updated, updates, row_by, changes_by_action}
+use Rattle.blog_trans.specs.Groups.{PlacedTransaction, Transaction, statement_value, transaction_value, placed_groups, groups}
+use Rattle.blog_trans.specs.GroupEventsView.{event_seen, IsByMap}
 use Rattle.blog_trans.specs.Selection.{Selection}
 use Rattle.blog_trans.specs.Entries.{statements_in}
 use Rattle.blog_flash.specs.Printed.{line, change_lines, count_line, summary_text}
-use Rattle.blog_flash.specs.PrintedRows.{images_lines}
-
--- ---- lists of lists
-
-pub flat-append : {A B : Type 0} (f : A → List B) (xs ys : List A) → flat_map f (xs ++ ys) ≡ flat_map f xs ++ flat_map f ys
-flat-append f [] ys = refl
-flat-append f (x ∷ xs) ys = ap (λ zs. f x ++ zs) (flat-append f xs ys) ∙ sym (append_assoc (f x) (flat_map f xs) (flat_map f ys))
-
--- one after the other
-pub flat-flat : {A B C : Type 0} (f : B → List C) (g : A → List B) (xs : List A) → flat_map f (flat_map g xs) ≡ flat_map (λ x. flat_map f (g x)) xs
-flat-flat f g [] = refl
-flat-flat f g (x ∷ xs) = flat-append f (g x) (flat_map g xs) ∙ ap (λ zs. flat_map f (g x) ++ zs) (flat-flat f g xs)
+use Rattle.blog_flash.specs.PrintedRows.{event_lines, images_lines}
 
 -- ---- a rows event
 
@@ -54,15 +43,15 @@ images-lines Delete t layout (image ∷ images) = ap (λ (text : List ℕ). chan
 abbrev lines_by : RowsAction → Table → List (List (Option (List ℕ))) → List ℕ
 lines_by kind t rows = flat_map change_lines (changes_by_action kind t rows)
 
-pub seen-lines : (x : PlacedRows) (m : TableMap) (r : seen.RowsEvent) → x.kind ≡ r.kind → x.body ≡ rows_body r → names_of x.map.event.body ≡ Some (map_names m) → layout_of x.map.event.body ≡ Ok (layout_columns r.layout)
-    → flat_map change_lines (changes_of_rows (rows_value x)) ≡ images_lines (map_names m).table (layout_columns r.layout) (rows_by r.kind.action (rows_body r).images)
-seen-lines x m r kind body names layout =
-    let map_body : List ℕ = x.map.event.body in
-    ap (λ (k : RowsKind). lines_by k.action (table_of map_body) (map (row_by (layout_of map_body)) x.body.images)) kind
-    ∙ ap (λ (b : RowsBody). lines_by r.kind.action (table_of map_body) (map (row_by (layout_of map_body)) b.images)) body
-    ∙ ap (λ (n : Option Names). lines_by r.kind.action (option_map_or (λ names. names.table) n (record { schema = []; name = [] })) (map (row_by (layout_of map_body)) (rows_body r).images)) names
-    ∙ ap (λ l. lines_by r.kind.action (map_names m).table (map (row_by l) (rows_body r).images)) layout
-    ∙ sym (images-lines r.kind.action (map_names m).table (layout_columns r.layout) (rows_body r).images)
+pub seen-lines : (group : GroupRows) → IsByMap group
+    → event_lines (event_seen (given.Rows group)) ≡ images_lines (map_names group.table).table (layout_columns group.rows.layout) (rows_by group.rows.kind.action (rows_body group.rows).images)
+seen-lines group h =
+    let action = group.rows.kind.action in
+    let images = (rows_body group.rows).images in
+    let body = group.map.body.now in
+    ap (λ (n : Option Names). lines_by action (option_map_or (λ names. names.table) n (record { schema = []; name = [] })) (map (row_by (layout_of body)) images)) h.names
+    ∙ ap (λ l. lines_by action (map_names group.table).table (map (row_by l) images)) h.layout
+    ∙ sym (images-lines action (map_names group.table).table (layout_columns group.rows.layout) images)
 
 -- ---- the summary
 
@@ -72,9 +61,7 @@ statements-count [] = refl
 statements-count (x ∷ ts) =
     let one = length-append (map statement_value x.statements) (flat_map (λ (t : Transaction). t.statements) (map transaction_value ts)) in
     let other = length-append x.statements (flat_map (λ (t : PlacedTransaction). t.statements) ts) in
-    let own = length-map x.statements statement_value in
-    let rest = statements-count ts in
-    omega (arith, one, other, own, rest)
+    omega (arith, one, other, length-map x.statements statement_value, statements-count ts)
 
 -- its lines
 pub summary-parts : (bytes : List ℕ) (sel : Selection) (t s : ℕ) → t ≡ length (placed_groups bytes sel) → s ≡ statements_in (placed_groups bytes sel)

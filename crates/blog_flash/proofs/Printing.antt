@@ -10,10 +10,6 @@ next-part items left all part rest more so_far splits grown =
 pub no-part : (items left all : List ℕ) → items ++ left ≡ all → left ≡ [] → items ≡ all
 no-part items left all so_far none = sym (append-nil items) ∙ ap (λ (bytes : List ℕ). items ++ bytes) (sym none) ∙ so_far
 
--- one part after the other
-pub both-parts : (old items more one two : List ℕ) → items ≡ old ++ one → more ≡ items ++ two → more ≡ old ++ (one ++ two)
-both-parts old items more one two first second = second ∙ ap (λ (bytes : List ℕ). bytes ++ two) first ∙ append_assoc old one two
-
 -- ---- room
 
 -- a part of a text has room where the text has

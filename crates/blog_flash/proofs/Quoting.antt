@@ -1,10 +1,11 @@
 -- A name between backticks, by the parts that its own backticks leave.
-use Rattle.std.proofs.Common.{◌≡◌, ℕ, zero, suc, ◌+◌, ◌-◌, ◌≤◌, ◌==◌, Bool, true, false, ◌&&◌, List, [], ◌∷◌, ◌++◌, length, take, drop, refl, sym, ap, ◌∙◌, append_assoc, append-nil, arith}
+use Rattle.std.proofs.Common.{◌≡◌, ℕ, suc, ◌+◌, ◌-◌, ◌≤◌, ◌==◌, Bool, true, false, List, [], ◌∷◌, ◌++◌, length, take, drop, refl, sym, ap, ap₂, ◌∙◌, append_assoc, append-nil, arith}
 use Rattle.std.specs.Prelude.{if◌then◌else◌, nat_le}
 use Rattle.std.specs.List.{flat_map}
-use Rattle.std.specs.Str.{bytes_eq}
 use Rattle.std.proofs.lemmas.Bool.{eqb-true, le-leb}
-use Rattle.std.proofs.lemmas.List.{drop-drop, length-drop, take_all}
+use Rattle.std.proofs.lemmas.List.{drop-drop, drop-take, length-drop, take-append-drop, take-take, take_all}
+use mathlib.Core.Bool.{and-true}
+use Rattle.blog_trans.proofs.ProgressFirsts.{and-false}
 use Rattle.bstr.specs.Find.{matches, matches_from, occurs_at}
 use Rattle.bstr.specs.Text.{split_at, part}
 use Rattle.blog_flash.specs.Printed.{between_backticks, quoted}
@@ -15,42 +16,21 @@ doubled name = flat_map (λ byte. if byte == 96 then 96 ∷ 96 ∷ [] else byte 
 
 -- ---- one byte more
 
-take-next : (n : ℕ) (xs : List ℕ) (b : ℕ) (rest : List ℕ) → drop n xs ≡ b ∷ rest → take (suc n) xs ≡ take n xs ++ b ∷ []
-take-next zero [] b rest is = cc
-take-next (suc n) [] b rest is = cc
-take-next zero (x ∷ xs) b rest is = cc
-take-next (suc n) (x ∷ xs) b rest is = ap (λ (ys : List ℕ). x ∷ ys) (take-next n xs b rest is)
-
-drop-next : (n : ℕ) (xs : List ℕ) (b : ℕ) (rest : List ℕ) → drop n xs ≡ b ∷ rest → drop (suc n) xs ≡ rest
-drop-next zero [] b rest is = cc
-drop-next (suc n) [] b rest is = cc
-drop-next zero (x ∷ xs) b rest is = cc
-drop-next (suc n) (x ∷ xs) b rest is = drop-next n xs b rest is
+take-next : (n : ℕ) (xs : List ℕ) (b : ℕ) (rest : List ℕ) → drop n xs ≡ b ∷ rest → take (n + 1) xs ≡ take n xs ++ b ∷ []
+take-next n xs b rest is = sym (take-append-drop n (take (n + 1) xs)) ∙ ap₂ ◌++◌ (take-take n (n + 1) xs (omega arith)) (drop-take n 1 xs ∙ ap (take 1) is)
 
 -- ---- backticks found
 
 abbrev tick : List ℕ
 tick = 96 ∷ []
 
--- the test for a backtick, of the bytes from there on
-abbrev tick_at : Bool → List ℕ → Bool
-tick_at within left = within && bytes_eq (take 1 left) tick
-
-one-tick : (b : ℕ) (test : Bool) → (b == 96) ≡ test → bytes_eq (b ∷ []) tick ≡ test
-one-tick b true is = ap (λ (t : Bool). t && true) is
-one-tick b false is = ap (λ (t : Bool). t && true) is
-
 -- at a byte
 tick-at : (hay : List ℕ) (i b : ℕ) (rest : List ℕ) (test : Bool) → drop i hay ≡ b ∷ rest → i + 1 ≤ length hay → (b == 96) ≡ test → occurs_at hay tick i ≡ test
-tick-at hay i b rest test is within test_is = ap (λ (left : List ℕ). tick_at (nat_le (i + 1) (length hay)) left) is ∙ ap (λ (w : Bool). tick_at w (b ∷ [])) (le-leb (i + 1) (length hay) within) ∙ one-tick b test test_is
-
-none-at : (within : Bool) → tick_at within [] ≡ false
-none-at true = refl
-none-at false = refl
+tick-at hay i b rest test is within test_is = rw (le-leb (i + 1) (length hay) within, is, test_is) (and-true test)
 
 -- behind the last byte
 no-tick-at : (hay : List ℕ) (i : ℕ) → drop i hay ≡ [] → occurs_at hay tick i ≡ false
-no-tick-at hay i is = ap (λ (left : List ℕ). tick_at (nat_le (i + 1) (length hay)) left) is ∙ none-at (nat_le (i + 1) (length hay))
+no-tick-at hay i is = rw is (and-false (nat_le (i + 1) (length hay)))
 
 next-match : (hay : List ℕ) (i n : ℕ) (b : Bool) → occurs_at hay tick i ≡ b
     → matches_from hay tick 0 i (suc n) ≡ (if b then i ∷ matches_from hay tick 0 (i + 1) n else matches_from hay tick 0 (i + 1) n)
@@ -102,7 +82,7 @@ at-byte hay last i b rest true test is before within begun kept =
 at-byte hay last i b rest false test is before within begun kept =
     let place : last + (i - last) ≡ i = omega arith in
     let there : drop (i - last) (drop last hay) ≡ b ∷ rest = drop-drop (i - last) last hay ∙ ap (λ (n : ℕ). drop n hay) place ∙ is in
-    let more : i + 1 - last ≡ suc (i - last) = omega arith in
+    let more : i + 1 - last ≡ i - last + 1 = omega arith in
     let one : part last (i + 1) hay ≡ part last i hay ++ b ∷ [] = ap (λ (n : ℕ). take n (drop last hay)) more ∙ take-next (i - last) (drop last hay) b rest there in
     ap (parts_quoted hay last) (next-match hay i (suc (length rest)) false (tick-at hay i b rest false is within test))
     ∙ at-other hay last i b (matches_from hay tick 0 (i + 1) (suc (length rest))) rest test one kept
@@ -113,8 +93,7 @@ parts-from : (hay : List ℕ) (last i : ℕ) (rest : List ℕ) → drop i hay �
 unfolding matches_from
 parts-from hay last i [] is before count = ap (parts_quoted hay last) (next-match hay i 0 false (no-tick-at hay i is)) ∙ at-end hay last i before (omega arith)
 parts-from hay last i (b ∷ rest) is before count =
-    let more : i + 1 ≡ suc i = omega arith in
-    let next : drop (i + 1) hay ≡ rest = ap (λ (n : ℕ). drop n hay) more ∙ drop-next i hay b rest is in
+    let next : drop (i + 1) hay ≡ rest = sym (drop-drop 1 i hay) ∙ ap (drop 1) is in
     at-byte hay last i b rest (b == 96) refl is before (omega arith) (parts-from hay (i + 1) (i + 1) rest next (omega arith) (omega arith)) (parts-from hay last (i + 1) rest next (omega arith) (omega arith))
 
 -- each part stands between backticks

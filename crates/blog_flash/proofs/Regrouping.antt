@@ -1,25 +1,24 @@
 -- Grouping the events of groups gives the groups back, wherever the events stand.
-use Rattle.std.proofs.Common.{◌≡◌, ℕ, ◌+◌, List, [], ◌∷◌, ◌++◌, map, if◌then◌else◌, Bool, true, false, ◌&&◌, not, bytes_eq, Option, Some, None, Ok, option_and_then, refl, ap, ◌∙◌}
-use Rattle.std.specs.List.{AllByRecursion, flat_map, filter_map}
+use Rattle.std.proofs.Common.{◌≡◌, ℕ, ◌+◌, List, [], ◌∷◌, ◌++◌, map, Bool, true, false, ◌&&◌, not, bytes_eq, Option, Some, is_some, refl, ap, ap₂, ◌∙◌}
+use Rattle.std.specs.List.{AllByRecursion, IsDistinct, flat_map, filter_map}
 use Rattle.blog_event.specs.Event.{Event, event_size}
 use Rattle.blog_event.specs.File.{Placed, end_of}
-use Rattle.blog_row.specs.TableMap.{Names, names_of}
 use Rattle.blog_row.specs.RowsEvent.{table_id}
-use Rattle.blog_row.specs.RowsWriting.{content_of, written_fields, written_body}
+use Rattle.blog_row.specs.RowsWriting.{written_fields}
 use Rattle.blog_trans.specs.declared.kind.EventKind.TheVariants as kind
 use Rattle.blog_trans.specs.Selection.{all}
-use Rattle.blog_trans.specs.Kinds.{is_map_kind}
-use Rattle.blog_trans.specs.Places.{kind_at, map_in}
-use Rattle.blog_trans.specs.Acceptance.{is_selected, rows_by_map}
-use Rattle.blog_trans.specs.Groups.{PlacedRows, PlacedStatement, PlacedTransaction, Span, spans, statements_of, rows_by_kind, rows_if, kept_rows, first_maps, statement_if, kept_statement, transaction_if, kept_transaction, placed_groups_in}
+use Rattle.blog_trans.specs.Kinds.{is_map_kind, rows_of_kind}
+use Rattle.blog_trans.specs.Places.{map_in}
+use Rattle.blog_trans.specs.Groups.{PlacedRows, PlacedStatement, Span, spans, statements_of, kept_rows, first_maps, statement_if, kept_statement, transaction_if, kept_transaction, placed_groups_in}
 use Rattle.blog_trans.specs.Groups.{RowsEvent, Statement, Transaction, rows_value, event_value, statement_value, transaction_value}
 use Rattle.blog_trans.proofs.PlacedParts.{all-by, any-map}
-use Rattle.blog_trans.proofs.ProgressFirsts.{is_id_among, without_id, bytes-differ, among-without}
+use Rattle.blog_trans.proofs.ProgressFirsts.{is_id_among, without_id, among-without}
+use Rattle.blog_trans.proofs.ProgressRows.{no-rows-kept}
 use Rattle.blog_flash.specs.Texts.{rows_event, rows_events, statement_events, transaction_events, group_events}
 use Rattle.blog_flash.proofs.Formed.{IsMapEvent, IsRowsEvent, AreDistinct, IsUsed, IsStatement, IsTransaction, AreGroups}
 use Rattle.blog_flash.proofs.Standing.{stood, stood-append}
 use Rattle.blog_flash.proofs.Content.{body-id, content-again}
-use Rattle.blog_flash.proofs.Forming.{rows_event-kind, rows_event-body, reads}
+use Rattle.blog_flash.proofs.Forming.{rows_event-kind, reads}
 use Rattle.blog_flash.proofs.Spans.{stands_at, by-kind, HasValue, HasMaps, maps-stand, span_at, span-first, cut-first}
 
 -- ---- what is kept
@@ -30,28 +29,11 @@ kept-more f value x xs y ys front others = rw front.1 (ap (λ z. z ∷ map value
 
 -- ---- the rows events of a statement are kept, its maps are not
 
-map-not-kept : (events : List Placed) (p : Placed) → kind_at p ≡ kind.TableMap → kept_rows all events p ≡ None
-map-not-kept events p h =
-    ap (λ k. option_and_then (λ map. if is_selected all map.event.body then rows_by_kind p map k else None) (map_in events (table_id p.event.body))) h
-    ∙ by_map (map_in events (table_id p.event.body))
-  where
-    by_test : (b : Bool) → ◌≡◌ {A = Option PlacedRows} (if b then None else None) None
-    by_test true = refl
-    by_test false = refl
-
-    by_map : (o : Option Placed) → option_and_then (λ map. if is_selected all map.event.body then rows_by_kind p map kind.TableMap else None) o ≡ None
-    by_map None = refl
-    by_map (Some map) = by_test (is_selected all map.event.body)
-
 maps-not-kept : (Known : Event → Type 0) (events : List Placed) (pos : ℕ) (maps : List Event) (ps : List Placed) → AllByRecursion (IsMapEvent Known) maps
     → filter_map (kept_rows all events) (stood pos maps ++ ps) ≡ filter_map (kept_rows all events) ps
 maps-not-kept Known events pos [] ps h = refl
 maps-not-kept Known events pos (m ∷ maps) ps h =
-    rw (map-not-kept events (stands_at pos m) (by-kind (λ k. k) pos m kind.TableMap h.0.kind)) (maps-not-kept Known events (pos + event_size m) maps ps h.1)
-
--- every table that has names is selected
-pub names-selected : (body : List ℕ) (n : Names) → names_of body ≡ Some n → is_selected all body ≡ true
-names-selected body n h = rw h refl
+    rw (no-rows-kept all events (stands_at pos m) (by-kind (λ k. is_some (rows_of_kind k)) pos m kind.TableMap h.0.kind)) (maps-not-kept Known events (pos + event_size m) maps ps h.1)
 
 -- a rows event where it stands, with its map and what its body says
 abbrev kept_at : ℕ → Bool → RowsEvent → Placed → PlacedRows
@@ -60,29 +42,10 @@ kept_at pos last r map = record { event = stands_at pos (rows_event last r); map
 rows-kept : (maps : List Event) (events : List Placed) (pos : ℕ) (last : Bool) (r : RowsEvent) (map : Placed) → IsRowsEvent maps r → map_in events r.content.id ≡ Some map
     → map.event.body ≡ r.map → kept_rows all events (stands_at pos (rows_event last r)) ≡ Some (kept_at pos last r map)
 rows-kept maps events pos last r map h found same =
-    ap (option_and_then (λ m. if is_selected all m.event.body then rows_by_kind p m (kind_at p) else None)) by_id
-    ∙ rw (names-selected map.event.body h.names.0 names) (by_kind ∙ ap (rows_if p map r.content.kind) by_body)
-  where
-    p : Placed
-    p = stands_at pos (rows_event last r)
-
-    by_id : map_in events (table_id p.event.body) ≡ Some map
-    by_id = ap (λ body. map_in events (table_id body)) (rows_event-body last r) ∙ (ap (map_in events) (body-id last r.content h.content.2.id_len) ∙ found)
-
-    names : names_of map.event.body ≡ Some h.names.0
-    names = ap names_of same ∙ h.names.1
-
-    by_kind : rows_by_kind p map (kind_at p) ≡ rows_by_kind p map (kind.Rows r.content.kind)
-    by_kind = by-kind (rows_by_kind p map) pos (rows_event last r) (kind.Rows r.content.kind) (rows_event-kind last r)
-
-    by_body : rows_by_map r.content.kind map.event.body p.event.body ≡ Ok (written_fields last r.content)
-    by_body = ap (rows_by_map r.content.kind map.event.body) (rows_event-body last r) ∙ (ap (λ body. rows_by_map r.content.kind body (written_body last r.content)) same ∙ reads maps last r h)
+    rw (body-id last r.content h.content.2.id_len, found, by-kind (λ k. k) pos (rows_event last r) (kind.Rows r.content.kind) (rows_event-kind last r), same, h.names.1, reads maps last r h) refl
 
 rows-value : (maps : List Event) (pos : ℕ) (last : Bool) (r : RowsEvent) (map : Placed) → IsRowsEvent maps r → map.event.body ≡ r.map → rows_value (kept_at pos last r map) ≡ r
-unfolding rows_event
-rows-value maps pos last r map h same =
-    ap (λ body. record r { map = body; content = content_of r.content.kind (written_fields last r.content) }) same
-    ∙ ap (λ c. record r { content = c }) (content-again last r.content h.flags h.even)
+rows-value maps pos last r map h same = ap₂ (λ body c. record r { map = body; content = c }) same (content-again last r.content h.flags h.even)
 
 -- what is kept gives the rows events back, and their table ids
 record IsKept (rows : List RowsEvent) (kept : List PlacedRows) : Type 0 where
@@ -91,25 +54,15 @@ record IsKept (rows : List RowsEvent) (kept : List PlacedRows) : Type 0 where
 
 kept-front : (maps : List Event) (events ps : List Placed) (pos : ℕ) (last : Bool) (r : RowsEvent) (rows : List RowsEvent) → IsRowsEvent maps r → HasMaps events maps
     → IsKept rows (filter_map (kept_rows all events) ps) → IsKept (r ∷ rows) (filter_map (kept_rows all events) (stands_at pos (rows_event last r) ∷ ps))
-kept-front maps events ps pos last r rows h found others = record {
-  values = kept-more (kept_rows all events) rows_value p ps r rows (kept_at pos last r found_map.0, kept, rows-value maps pos last r found_map.0 h same) others.values;
-  ids = kept-more (kept_rows all events) (λ x. table_id x.event.event.body) p ps r.content.id (map (λ s. s.content.id) rows) (kept_at pos last r found_map.0, kept, id) others.ids;
-}
-  where
-    p : Placed
-    p = stands_at pos (rows_event last r)
-
-    found_map : HasValue (map_in events r.content.id) (λ x. x.event.body) h.found.0.body
-    found_map = found r.content.id h.found.0 h.found.1
-
-    same : found_map.0.event.body ≡ r.map
-    same = found_map.2 ∙ h.found.2
-
-    kept : kept_rows all events p ≡ Some (kept_at pos last r found_map.0)
-    kept = rows-kept maps events pos last r found_map.0 h found_map.1 same
-
-    id : table_id p.event.body ≡ r.content.id
-    id = ap table_id (rows_event-body last r) ∙ body-id last r.content h.content.2.id_len
+kept-front maps events ps pos last r rows h found others =
+    let (at, is, own) = found r.content.id h.found.0 h.found.1 in
+    let same : at.event.body ≡ r.map = own ∙ h.found.2 in
+    let kept = rows-kept maps events pos last r at h is same in
+    let p : Placed = stands_at pos (rows_event last r) in
+    record {
+      values = kept-more (kept_rows all events) rows_value p ps r rows (kept_at pos last r at, kept, rows-value maps pos last r at h same) others.values;
+      ids = kept-more (kept_rows all events) (λ x. table_id x.event.event.body) p ps r.content.id (map (λ s. s.content.id) rows) (kept_at pos last r at, kept, body-id last r.content h.content.2.id_len) others.ids;
+    }
 
 all-kept : (maps : List Event) (events : List Placed) (pos : ℕ) (rows : List RowsEvent) → AllByRecursion (IsRowsEvent maps) rows → HasMaps events maps
     → IsKept rows (filter_map (kept_rows all events) (stood pos (rows_events rows)))
@@ -126,12 +79,11 @@ abbrev HasIdOf : List (List ℕ) → Event → Type 0
 HasIdOf ids m = is_id_among ids (table_id m.body) ≡ true
 
 -- another one of the ids stays among them
-ids-left : (id : List ℕ) (ids : List (List ℕ)) (maps : List Event) → AllByRecursion (HasIdOf ids) maps → AllByRecursion (λ m. bytes_eq (table_id m.body) id ≡ false) maps
+ids-left : (id : List ℕ) (ids : List (List ℕ)) (maps : List Event) → AllByRecursion (HasIdOf ids) maps → AllByRecursion (λ other. bytes_eq id other ≡ false) (map (λ m. table_id m.body) maps)
     → AllByRecursion (HasIdOf (without_id id ids)) maps
 ids-left id ids [] has differ = tt
 ids-left id ids (m ∷ maps) has differ =
-    let own : List ℕ = table_id m.body in
-    (among-without id own ids ∙ ap (λ t. not t && is_id_among ids own) (bytes-differ own id differ.0) ∙ has.0, ids-left id ids maps has.1 differ.1)
+    (among-without id (table_id m.body) ids ∙ ap (λ t. not t && is_id_among ids (table_id m.body)) differ.0 ∙ has.0, ids-left id ids maps has.1 differ.1)
 
 no-maps : (ids : List (List ℕ)) (pos : ℕ) (rows : List RowsEvent) → first_maps ids (stood pos (rows_events rows)) ≡ []
 no-maps ids pos [] = refl
@@ -141,6 +93,7 @@ no-maps ids pos (r ∷ s ∷ rows) =
 
 maps-first : (Known : Event → Type 0) (ids : List (List ℕ)) (pos : ℕ) (maps : List Event) (ps : List Placed) → AllByRecursion (IsMapEvent Known) maps → AreDistinct maps
     → AllByRecursion (HasIdOf ids) maps → ((others : List (List ℕ)) → first_maps others ps ≡ []) → first_maps ids (stood pos maps ++ ps) ≡ stood pos maps
+unfolding IsDistinct
 maps-first Known ids pos [] ps h distinct has none = none ids
 maps-first Known ids pos (m ∷ maps) ps h distinct has none =
     let id = table_id m.body in
@@ -150,52 +103,32 @@ maps-first Known ids pos (m ∷ maps) ps h distinct has none =
 
 maps-value : (Known : Event → Type 0) (pos : ℕ) (maps : List Event) → AllByRecursion (IsMapEvent Known) maps → map event_value (stood pos maps) ≡ maps
 maps-value Known pos [] h = refl
-maps-value Known pos (m ∷ maps) h =
-    let behind = pos + event_size m in
-    ap (λ e. e ∷ map event_value (stood behind maps)) h.0.unplaced ∙ ap (λ l. m ∷ l) (maps-value Known behind maps h.1)
+maps-value Known pos (m ∷ maps) h = ap₂ ◌∷◌ h.0.unplaced (maps-value Known (pos + event_size m) maps h.1)
 
 -- ---- statements
 
 kept-value : (events : List Placed) (kept : List PlacedRows) (s : Statement) (r : RowsEvent) (rows : List RowsEvent) → s.rows ≡ r ∷ rows → map rows_value kept ≡ s.rows
     → map event_value (first_maps (map (λ x. table_id x.event.event.body) kept) events) ≡ s.maps → HasValue (statement_if events kept) statement_value s
 kept-value events [] s r rows some values maps = cc
-kept-value events (x ∷ kept) s r rows some values maps = (
-  record { maps = first_maps (map (λ y. table_id y.event.event.body) (x ∷ kept)) events; rows = x ∷ kept },
-  refl,
-  ap (λ ms. record { maps = ms; rows = map rows_value (x ∷ kept) }) maps ∙ ap (λ rs. record { maps = s.maps; rows = rs }) values,
-)
+kept-value events (x ∷ kept) s r rows some values maps = (_, refl, ap₂ (λ ms rs. record { maps = ms; rows = rs }) maps values)
 
 -- what is kept of a statement's events is the statement
-pub statement-again : (Known : Event → Type 0) (pos : ℕ) (s : Statement) → IsStatement Known s
-    → (q : PlacedStatement) × (kept_statement all (stood pos (statement_events s)) ≡ Some q) × (statement_value q ≡ s)
+statement-again : (Known : Event → Type 0) (pos : ℕ) (s : Statement) → IsStatement Known s → HasValue (kept_statement all (stood pos (statement_events s))) statement_value s
 statement-again Known pos s h =
-    rw (stood-append pos s.maps (rows_events s.rows)) (rw (maps-not-kept Known events pos s.maps rows_stood h.maps_formed)
-    (kept-value events (filter_map (kept_rows all events) rows_stood) s h.some.0 h.some.1 h.some.2 kept.values (ap (λ ids. map event_value (first_maps ids events)) kept.ids ∙ maps)))
-  where
-    behind : ℕ
-    behind = end_of pos s.maps
-
-    rows_stood : List Placed
-    rows_stood = stood behind (rows_events s.rows)
-
-    events : List Placed
-    events = stood pos s.maps ++ rows_stood
-
-    kept : IsKept s.rows (filter_map (kept_rows all events) rows_stood)
-    kept = all-kept s.maps events behind s.rows h.rows_formed (maps-stand pos s.maps rows_stood)
-
-    ids : List (List ℕ)
-    ids = map (λ r. r.content.id) s.rows
-
-    has : AllByRecursion (HasIdOf ids) s.maps
-    has = all-by (IsUsed s.rows) (HasIdOf ids) (λ m used. any-map (λ r. r.content.id) (bytes_eq (table_id m.body)) s.rows ∙ used) s.maps h.used
-
-    maps : map event_value (first_maps ids events) ≡ s.maps
-    maps = ap (map event_value) (maps-first Known ids pos s.maps rows_stood h.maps_formed h.distinct has (λ others. no-maps others behind s.rows))
-        ∙ maps-value Known pos s.maps h.maps_formed
+    let behind : ℕ = end_of pos s.maps in
+    let rows : List Placed = stood behind (rows_events s.rows) in
+    let events : List Placed = stood pos s.maps ++ rows in
+    let ids : List (List ℕ) = map (λ r. r.content.id) s.rows in
+    let kept = all-kept s.maps events behind s.rows h.rows_formed (maps-stand pos s.maps rows) in
+    let has = all-by (IsUsed s.rows) (HasIdOf ids) (λ m used. any-map (λ r. r.content.id) (bytes_eq (table_id m.body)) s.rows ∙ used) s.maps h.used in
+    let first = maps-first Known ids pos s.maps rows h.maps_formed h.distinct has (λ others. no-maps others behind s.rows) in
+    let maps : map event_value (first_maps (map (λ x. table_id x.event.event.body) (filter_map (kept_rows all events) rows)) events) ≡ s.maps =
+    ap (λ ids. map event_value (first_maps ids events)) kept.ids ∙ ap (map event_value) first ∙ maps-value Known pos s.maps h.maps_formed in
+    rw (stood-append pos s.maps (rows_events s.rows), maps-not-kept Known events pos s.maps rows h.maps_formed)
+    (kept-value events (filter_map (kept_rows all events) rows) s h.some.0 h.some.1 h.some.2 kept.values maps)
 
 -- and of the events of statements, cut as they are, the statements
-pub statements-again : (Known : Event → Type 0) (pos : ℕ) (ss : List Statement) → AllByRecursion (IsStatement Known) ss
+statements-again : (Known : Event → Type 0) (pos : ℕ) (ss : List Statement) → AllByRecursion (IsStatement Known) ss
     → map statement_value (filter_map (kept_statement all) (statements_of (stood pos (flat_map statement_events ss)))) ≡ ss
 statements-again Known pos [] h = refl
 statements-again Known pos (s ∷ ss) h =
@@ -209,16 +142,10 @@ statements-again Known pos (s ∷ ss) h =
 kept-span : (span : Span) (kept : List PlacedStatement) (t : Transaction) (s : Statement) (ss : List Statement) → t.statements ≡ s ∷ ss → map statement_value kept ≡ t.statements
     → event_value span.begin ≡ t.begin → event_value span.end ≡ t.end → HasValue (transaction_if span kept) transaction_value t
 kept-span span [] t s ss some values begins ends = cc
-kept-span span (x ∷ kept) t s ss some values begins ends = (
-  record { begin = span.begin; statements = x ∷ kept; end = span.end },
-  refl,
-  ap (λ e. record { begin = e; statements = map statement_value (x ∷ kept); end = event_value span.end }) begins
-      ∙ (ap (λ l. record { begin = t.begin; statements = l; end = event_value span.end }) values ∙ ap (λ e. record { begin = t.begin; statements = t.statements; end = e }) ends),
-)
+kept-span span (x ∷ kept) t s ss some values begins ends = (_, refl, λ i. record { begin = begins i; statements = values i; end = ends i })
 
 -- what is kept of a transaction's span is the transaction
-pub transaction-again : (Known : Event → Type 0) (pos : ℕ) (t : Transaction) → IsTransaction Known t
-    → (q : PlacedTransaction) × (kept_transaction all (span_at pos t) ≡ Some q) × (transaction_value q ≡ t)
+transaction-again : (Known : Event → Type 0) (pos : ℕ) (t : Transaction) → IsTransaction Known t → HasValue (kept_transaction all (span_at pos t)) transaction_value t
 transaction-again Known pos t h =
     let span = span_at pos t in
     kept-span span (filter_map (kept_statement all) (statements_of span.inside)) t h.some.0 h.some.1 h.some.2

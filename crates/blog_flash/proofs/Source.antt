@@ -1,7 +1,8 @@
 -- The groups of an accepted log are well-formed.
-use Rattle.std.proofs.Common.{◌≡◌, ℕ, ◌+◌, ◌-◌, ◌%◌, ◌<◌, ◌^◌, Bool, true, false, ◌&&◌, if◌then◌else◌, List, [], ◌∷◌, map, Some, None, option_map, Result, bytes_eq, ◌⊎◌, inl, inr, refl, sym, subst, ap, ◌∙◌, arith, take_at, drop_at}
+use Rattle.std.proofs.Common.{◌≡◌, ℕ, ◌+◌, ◌-◌, ◌%◌, ◌<◌, ◌^◌, Bool, true, false, ◌&&◌, if◌then◌else◌, List, [], ◌∷◌, map, Some, None, option_map, Result, bytes_eq, inl, inr, refl, sym, subst, ap, ◌∙◌, arith, take_at, drop_at}
 use Rattle.std.specs.List.{AllByRecursion, Contains, IsDistinct, list_any}
 use Rattle.std.proofs.lemmas.Bool.{false≢true}
+use Rattle.std.proofs.lemmas.Simd.{map-map}
 use Rattle.byteorder.specs.Endian.{little_number}
 use Rattle.byteorder.specs.Numbers.{little_from-append}
 use Rattle.blog_event.specs.declared.fault.Fault.TheVariants.{CutEvent}
@@ -22,27 +23,21 @@ use Rattle.blog_trans.specs.declared.kind.EventKind.{EventKind}
 use Rattle.blog_trans.specs.declared.kind.EventKind.TheVariants as kind
 use Rattle.blog_trans.specs.Selection.{Selection}
 use Rattle.blog_trans.specs.Kinds.{is_end_kind, is_map_kind}
-use Rattle.blog_trans.specs.Places.{kind_at, is_end, is_map, map_in}
+use Rattle.blog_trans.specs.Places.{kind_at, is_map, map_in}
 use Rattle.blog_trans.specs.Acceptance.{rows_under, range, has_first, first_format_fault, IsAccepted}
 use Rattle.blog_trans.specs.Groups.{PlacedRows, PlacedStatement, PlacedTransaction, placed_groups_in, placed_groups, RowsEvent, rows_value, event_value, statement_value, transaction_value, groups}
 use Rattle.blog_trans.specs.PlacedFacts.{IsPlacedMap, IsPlacedRows, IsPlacedStatement, IsPlacedTransaction}
 use Rattle.blog_trans.proofs.PlacedFacts.{groups-placed}
 use Rattle.blog_trans.proofs.PlacedParts.{all-map}
 use Rattle.blog_trans.proofs.ProgressAccepted.{no-fault-at, accepted-lines}
-use Rattle.blog_trans.proofs.ProgressFirsts.{id_at, bytes-differ}
+use Rattle.blog_trans.proofs.ProgressFirsts.{id_at}
 use Rattle.blog_trans.proofs.ProgressSteps.{begin-kind}
-use Rattle.blog_flash.proofs.Formed.{Fits, map_among, IsMapEvent, IsRowsEvent, AreDistinct, IsUsed, IsStatement, IsEndEvent, IsTransaction, AreGroups}
+use Rattle.blog_flash.proofs.Formed.{Fits, map_among, IsMapEvent, IsRowsEvent, IsUsed, IsStatement, IsEndEvent, IsTransaction, AreGroups}
 use Rattle.blog_flash.proofs.Forming.{kind-placed}
 use Rattle.blog_flash.proofs.Agreeing.{IsChosen, Chosen, map-kind}
 use Rattle.blog_flash.proofs.Sound.{IsSound, range-sound}
 
 -- ---- events
-
--- the kinds of the ends
-end-kind : (k : EventKind) → is_end_kind k ≡ true → (k ≡ kind.Commit) ⊎ (k ≡ kind.Xid)
-end-kind kind.Commit e = inl refl
-end-kind kind.Xid e = inr refl
-end-kind _ e = absurd (false≢true e)
 
 -- the header of an event fits, without its place too
 value-fits : (p : Placed) → IsEvent p.event → Fits (event_value p)
@@ -123,35 +118,23 @@ map-formed all sel p h = record {
   fits = value-fits p h.member.event;
 }
 
--- maps have different ids as values too
-values-distinct : (ps : List Placed) → IsDistinct bytes_eq (map id_at ps) → AreDistinct (map event_value ps)
-unfolding IsDistinct
-values-distinct [] distinct = tt
-values-distinct (p ∷ ps) distinct = (differ ps distinct.0, values-distinct ps distinct.1)
-  where
-    differ : (qs : List Placed) → AllByRecursion (λ id. bytes_eq (id_at p) id ≡ false) (map id_at qs) → AllByRecursion (λ (o : Event). bytes_eq (table_id o.body) (id_at p) ≡ false) (map event_value qs)
-    differ [] apart = tt
-    differ (q ∷ qs) apart = (bytes-differ (id_at p) (id_at q) apart.0, differ qs apart.1)
-
 -- ---- statements and transactions
 
 -- a statement is well-formed
 statement-formed : (all : List Placed) (sel : Selection) (s : PlacedStatement) → IsPlacedStatement (IsSound (Contains all)) sel s → IsStatement (IsChosen all sel) (statement_value s)
 statement-formed all sel s h = record {
   maps_formed = all-map _ (IsMapEvent (IsChosen all sel)) event_value (map-formed all sel) s.maps h.maps;
-  distinct = values-distinct s.maps h.distinct;
+  distinct = subst (IsDistinct bytes_eq) (sym (map-map (λ (m : Event). table_id m.body) event_value s.maps)) h.distinct;
   used = all-map _ (IsUsed (map rows_value s.rows)) event_value (λ m used. ids-alike (IsSound (Contains all)) sel s.maps s.rows (id_at m) h.rows ∙ used) s.maps h.used;
   rows_formed = all-map _ (IsRowsEvent (map event_value s.maps)) rows_value (row-formed (Contains all) sel s.maps) s.rows h.rows;
   some = (rows_value h.some_rows.0, map rows_value h.some_rows.1, ap (map rows_value) h.some_rows.2);
 }
 
 -- a `COMMIT`, or an Xid with its eight bytes
-end-formed : (Member : Placed → Type 0) (p : Placed) → IsSound Member p → is_end p ≡ true → IsEndEvent (event_value p)
-end-formed Member p sound is = by_case (end-kind (kind_at p) is)
-  where
-    by_case : (kind_at p ≡ kind.Commit) ⊎ (kind_at p ≡ kind.Xid) → IsEndEvent (event_value p)
-    by_case (inl commit) = inl (kind-placed p.event 0 ∙ commit)
-    by_case (inr xid) = inr (kind-placed p.event 0 ∙ xid, sound.xid xid)
+end-formed : (Member : Placed → Type 0) (p : Placed) → IsSound Member p → (k : EventKind) → kind_at p ≡ k → is_end_kind k ≡ true → IsEndEvent (event_value p)
+end-formed Member p sound kind.Commit is e = inl (kind-placed p.event 0 ∙ is)
+end-formed Member p sound kind.Xid is e = inr (kind-placed p.event 0 ∙ is, sound.xid is)
+end-formed Member p sound _ is e = absurd (false≢true e)
 
 -- a transaction is well-formed
 transaction-formed : (all : List Placed) (sel : Selection) (t : PlacedTransaction) → IsPlacedTransaction (IsSound (Contains all)) sel t → IsTransaction (IsChosen all sel) (transaction_value t)
@@ -159,7 +142,7 @@ transaction-formed all sel t h = record {
   begin_kind = kind-placed t.begin.event 0 ∙ begin-kind (kind_at t.begin) h.begin_is;
   begin_unplaced = refl;
   begin_fits = value-fits t.begin h.begin_member.event;
-  end_is = end-formed (Contains all) t.end h.end_member h.end_is;
+  end_is = end-formed (Contains all) t.end h.end_member (kind_at t.end) refl h.end_is;
   end_unplaced = refl;
   end_fits = value-fits t.end h.end_member.event;
   statements_formed = all-map _ (IsStatement (IsChosen all sel)) statement_value (statement-formed all sel) t.statements h.statements;

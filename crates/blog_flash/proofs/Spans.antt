@@ -1,23 +1,22 @@
 -- Where the events of groups stand: each transaction is one span, and each statement is one cut of its inside.
-use Rattle.std.proofs.Common.{◌≡◌, ℕ, ◌+◌, List, [], ◌∷◌, ◌++◌, find, Bool, true, false, ◌&&◌, not, bytes_eq, Option, Some, is_some, refl, ap, ◌∙◌, inl, inr, append_assoc}
+use Rattle.std.proofs.Common.{◌≡◌, ℕ, ◌+◌, List, [], ◌∷◌, ◌++◌, find, Bool, true, false, ◌&&◌, not, bytes_eq, Option, Some, is_some, refl, sym, ap, subst, ◌∙◌, inl, inr, append_assoc}
 use Rattle.std.specs.List.{AllByRecursion, flat_map}
 use Rattle.blog_event.specs.Event.{Event, event_size}
 use Rattle.blog_event.specs.File.{Placed, end_of}
 use Rattle.blog_event.specs.Format.{front_while}
 use Rattle.blog_row.specs.RowsEvent.{has_end_flag}
-use Rattle.blog_row.proofs.ReversedRows.{all-append}
 use Rattle.blog_trans.specs.declared.kind.EventKind.{EventKind}
 use Rattle.blog_trans.specs.declared.kind.EventKind.TheVariants as kind
 use Rattle.blog_row.specs.RowsEvent.{table_id}
 use Rattle.blog_trans.specs.Kinds.{kind_of, is_begin_kind, is_end_kind, is_map_kind, rows_of_kind}
 use Rattle.blog_trans.specs.Places.{kind_at, is_begin, is_end, is_last_rows, is_map_of, map_in}
 use Rattle.blog_trans.specs.Groups.{Span, spans, onto_first, statements_of, RowsEvent, Statement, Transaction}
-use Rattle.blog_trans.proofs.PlacedParts.{all-by, all-joined}
+use Rattle.blog_trans.proofs.PlacedParts.{all-joined}
 use Rattle.blog_flash.specs.Texts.{rows_event, rows_events, statement_events, transaction_events}
 use Rattle.blog_flash.proofs.Formed.{map_among, is_map_of_id, IsMapEvent, IsRowsEvent, IsStatement, IsEndEvent, IsTransaction}
 use Rattle.blog_flash.proofs.Standing.{stood, stood-append}
 use Rattle.blog_flash.proofs.Content.{body-ends}
-use Rattle.blog_flash.proofs.Forming.{kind-placed, rows_event-kind, rows_event-body}
+use Rattle.blog_flash.proofs.Forming.{all-events, kind-placed, rows_event-kind}
 
 -- ---- kinds
 
@@ -58,38 +57,22 @@ maps-stand pos (x ∷ maps) more id m found = by_case (is_map_of_id id x) refl (
 -- ---- inside of a transaction
 
 -- neither a begin nor an end
-pub record IsInner (e : Event) : Type 0 where
-  pub begin : is_begin_kind (kind_of e) ≡ false
-  pub end : is_end_kind (kind_of e) ≡ false
+abbrev pub IsInnerKind : EventKind → Type 0
+IsInnerKind k = (is_begin_kind k ≡ false) × (is_end_kind k ≡ false)
 
-map-inner : (Known : Event → Type 0) (m : Event) → IsMapEvent Known m → IsInner m
-map-inner Known m h = record { begin = ap is_begin_kind h.kind; end = ap is_end_kind h.kind }
-
-rows-inner : (last : Bool) (r : RowsEvent) → IsInner (rows_event last r)
-rows-inner last r = record { begin = ap is_begin_kind (rows_event-kind last r); end = ap is_end_kind (rows_event-kind last r) }
-
-all-rows-inner : (rows : List RowsEvent) → AllByRecursion IsInner (rows_events rows)
-all-rows-inner [] = tt
-all-rows-inner (r ∷ []) = (rows-inner true r, tt)
-all-rows-inner (r ∷ s ∷ rows) = (rows-inner false r, all-rows-inner (s ∷ rows))
-
-statement-inner : (Known : Event → Type 0) (s : Statement) → IsStatement Known s → AllByRecursion IsInner (statement_events s)
-statement-inner Known s h = all-append IsInner s.maps (rows_events s.rows) (all-by (IsMapEvent Known) IsInner (map-inner Known) s.maps h.maps_formed) (all-rows-inner s.rows)
+abbrev pub IsInner : Event → Type 0
+IsInner e = IsInnerKind (kind_of e)
 
 -- the events of statements neither begin nor end a transaction
 pub statements-inner : (Known : Event → Type 0) (ss : List Statement) → AllByRecursion (IsStatement Known) ss → AllByRecursion IsInner (flat_map statement_events ss)
-statements-inner Known ss h = all-joined (IsStatement Known) IsInner statement_events (statement-inner Known) ss h
+statements-inner Known ss h =
+    all-joined (IsStatement Known) IsInner statement_events
+    (all-events IsInner Known (λ m is. subst IsInnerKind (sym is.kind) (refl, refl)) (λ maps last r is. subst IsInnerKind (sym (rows_event-kind last r)) (refl, refl))) ss h
 
 -- nor do events where they stand
-pub inner-stood : (pos : ℕ) (es : List Event) → AllByRecursion IsInner es → AllByRecursion (λ p. IsInner p.event) (stood pos es)
+inner-stood : (pos : ℕ) (es : List Event) → AllByRecursion IsInner es → AllByRecursion (λ p. IsInner p.event) (stood pos es)
 inner-stood pos [] h = tt
-inner-stood pos (e ∷ es) h = (
-  record {
-    begin = by-kind is_begin_kind pos e (kind_of e) refl ∙ h.0.begin;
-    end = by-kind is_end_kind pos e (kind_of e) refl ∙ h.0.end;
-  },
-  inner-stood (pos + event_size e) es h.1,
-)
+inner-stood pos (e ∷ es) h = (subst IsInnerKind (sym (kind-placed e (pos + event_size e))) h.0, inner-stood (pos + event_size e) es h.1)
 
 -- an end is one where it stands, and no begin
 pub end-stands : (pos : ℕ) (e : Event) → IsEndEvent e → (is_end (stands_at pos e) ≡ true) × (is_begin (stands_at pos e) ≡ false)
@@ -98,29 +81,20 @@ end-stands pos e (inr h) = (by-kind is_end_kind pos e kind.Xid h.0, by-kind is_b
 
 -- ---- a transaction is one span
 
+-- past events that neither begin nor end one, to the end
+past-inner : (xs rest : List Placed) (e : Placed) → AllByRecursion (λ p. IsInner p.event) xs → is_end e ≡ true
+    → (find is_end (xs ++ e ∷ rest) ≡ Some e) × (front_while (λ x. not (is_end x)) (xs ++ e ∷ rest) ≡ xs) × (spans (xs ++ e ∷ rest) ≡ spans (e ∷ rest))
+past-inner [] rest e inner ends = (rw ends refl, rw ends refl, refl)
+past-inner (x ∷ xs) rest e inner ends =
+    let (found, front, others) = past-inner xs rest e inner.1 ends in
+    (rw inner.0.1 found, rw inner.0.1 (ap (λ l. x ∷ l) front), rw inner.0.0 others)
+
 -- a begin, no further one, and the first end
-record IsSpan (s : Span) : Type 0 where
-  begins : is_begin s.begin ≡ true
-  inner : AllByRecursion (λ p. IsInner p.event) s.inside
-  ends : is_end s.end ≡ true
-  end_no_begin : is_begin s.end ≡ false
-
-front-inside : (xs rest : List Placed) (e : Placed) → AllByRecursion (λ p. IsInner p.event) xs → is_end e ≡ true → front_while (λ x. not (is_end x)) (xs ++ (e ∷ rest)) ≡ xs
-front-inside [] rest e inner ends = rw ends refl
-front-inside (x ∷ xs) rest e inner ends = rw inner.0.end (ap (λ l. x ∷ l) (front-inside xs rest e inner.1 ends))
-
-find-end : (xs rest : List Placed) (e : Placed) → AllByRecursion (λ p. IsInner p.event) xs → is_end e ≡ true → find is_end (xs ++ (e ∷ rest)) ≡ Some e
-find-end [] rest e inner ends = rw ends refl
-find-end (x ∷ xs) rest e inner ends = rw inner.0.end (find-end xs rest e inner.1 ends)
-
-spans-inside : (xs rest : List Placed) → AllByRecursion (λ p. IsInner p.event) xs → spans (xs ++ rest) ≡ spans rest
-spans-inside [] rest inner = refl
-spans-inside (x ∷ xs) rest inner = rw inner.0.begin (spans-inside xs rest inner.1)
-
-spans-first : (s : Span) (rest : List Placed) → IsSpan s → spans (s.begin ∷ (s.inside ++ (s.end ∷ rest))) ≡ s ∷ spans rest
-spans-first s rest h =
-    rw h.begins (rw (find-end s.inside rest s.end h.inner h.ends) (rw (front-inside s.inside rest s.end h.inner h.ends)
-    (ap (λ l. s ∷ l) (spans-inside s.inside (s.end ∷ rest) h.inner ∙ rw h.end_no_begin refl))))
+span-of : (b e : Placed) (xs rest : List Placed) → is_begin b ≡ true → AllByRecursion (λ p. IsInner p.event) xs → (is_end e ≡ true) × (is_begin e ≡ false)
+    → spans (b ∷ (xs ++ e ∷ rest)) ≡ record { begin = b; inside = xs; end = e } ∷ spans rest
+span-of b e xs rest begins inner ends =
+    let (found, front, others) = past-inner xs rest e inner ends.0 in
+    rw (begins, found, front) (ap (λ l. record { begin = b; inside = xs; end = e } ∷ l) (others ∙ rw ends.1 refl))
 
 -- where the events of a transaction stand
 abbrev pub span_at : ℕ → Transaction → Span
@@ -133,61 +107,39 @@ span_at pos t =
 pub span-first : (Known : Event → Type 0) (pos : ℕ) (t : Transaction) (rest : List Placed) → IsTransaction Known t
     → spans (stood pos (transaction_events t) ++ rest) ≡ span_at pos t ∷ spans rest
 span-first Known pos t rest h =
+    let from : ℕ = pos + event_size t.begin in
+    let inside : List Event = flat_map statement_events t.statements in
+    let span : Span = span_at pos t in
     ap (λ l. spans (span.begin ∷ (l ++ rest))) (stood-append from inside (t.end ∷ []))
-    ∙ (ap (λ l. spans (span.begin ∷ l)) (append_assoc span.inside (span.end ∷ []) rest) ∙ spans-first span rest is_span)
-  where
-    from : ℕ
-    from = pos + event_size t.begin
-
-    inside : List Event
-    inside = flat_map statement_events t.statements
-
-    span : Span
-    span = span_at pos t
-
-    is_span : IsSpan span
-    is_span = record {
-      begins = by-kind is_begin_kind pos t.begin kind.Begin h.begin_kind;
-      inner = inner-stood from inside (statements-inner Known t.statements h.statements_formed);
-      ends = (end-stands (end_of from inside) t.end h.end_is).0;
-      end_no_begin = (end-stands (end_of from inside) t.end h.end_is).1;
-    }
+    ∙ ap (λ l. spans (span.begin ∷ l)) (append_assoc span.inside (span.end ∷ []) rest)
+    ∙ span-of span.begin span.end span.inside rest (by-kind is_begin_kind pos t.begin kind.Begin h.begin_kind)
+    (inner-stood from inside (statements-inner Known t.statements h.statements_formed)) (end-stands (end_of from inside) t.end h.end_is)
 
 -- ---- a statement is one cut
 
-map-no-last : (Known : Event → Type 0) (pos : ℕ) (m : Event) → IsMapEvent Known m → is_last_rows (stands_at pos m) ≡ false
-map-no-last Known pos m h = by-kind (λ k. is_some (rows_of_kind k) && has_end_flag m.body) pos m kind.TableMap h.kind
-
 -- a rows event of a statement has the end flag if it was written as the last
-pub rows-last : (maps : List Event) (pos : ℕ) (last : Bool) (r : RowsEvent) → IsRowsEvent maps r → is_last_rows (stands_at pos (rows_event last r)) ≡ last
+rows-last : (maps : List Event) (pos : ℕ) (last : Bool) (r : RowsEvent) → IsRowsEvent maps r → is_last_rows (stands_at pos (rows_event last r)) ≡ last
 rows-last maps pos last r h =
     by-kind (λ k. is_some (rows_of_kind k) && has_end_flag (rows_event last r).body) pos (rows_event last r) (kind.Rows r.content.kind) (rows_event-kind last r)
-    ∙ (ap has_end_flag (rows_event-body last r) ∙ body-ends last r.content h.content.2.id_len h.flags h.even)
+    ∙ body-ends last r.content h.content.2.id_len h.flags h.even
 
-cut-rows : (maps : List Event) (pos : ℕ) (r : RowsEvent) (rows : List RowsEvent) (rest : List Placed) → AllByRecursion (IsRowsEvent maps) (r ∷ rows)
-    → statements_of (stood pos (rows_events (r ∷ rows)) ++ rest) ≡ stood pos (rows_events (r ∷ rows)) ∷ statements_of rest
-cut-rows maps pos r [] rest h = rw (rows-last maps pos true r h.0) refl
-cut-rows maps pos r (s ∷ rows) rest h =
-    let behind = pos + event_size (rows_event false r) in
-    rw (rows-last maps pos false r h.0) (ap (onto_first (stands_at pos (rows_event false r))) (cut-rows maps behind s rows rest h.1))
+cut-rows : (maps : List Event) (pos : ℕ) (rows : List RowsEvent) (rest : List Placed) (first : RowsEvent) (others : List RowsEvent) → rows ≡ first ∷ others → AllByRecursion (IsRowsEvent maps) rows
+    → statements_of (stood pos (rows_events rows) ++ rest) ≡ stood pos (rows_events rows) ∷ statements_of rest
+cut-rows maps pos [] rest first others some h = cc
+cut-rows maps pos (r ∷ []) rest first others some h = rw (rows-last maps pos true r h.0) refl
+cut-rows maps pos (r ∷ s ∷ rows) rest first others some h =
+    rw (rows-last maps pos false r h.0) (ap (onto_first (stands_at pos (rows_event false r))) (cut-rows maps (pos + event_size (rows_event false r)) (s ∷ rows) rest s rows refl h.1))
 
 cut-maps : (Known : Event → Type 0) (pos : ℕ) (ms : List Event) (rows rest : List Placed) (cuts : List (List Placed)) → AllByRecursion (IsMapEvent Known) ms
     → statements_of (rows ++ rest) ≡ rows ∷ cuts → statements_of ((stood pos ms ++ rows) ++ rest) ≡ (stood pos ms ++ rows) ∷ cuts
 cut-maps Known pos [] rows rest cuts h cut = cut
 cut-maps Known pos (m ∷ ms) rows rest cuts h cut =
-    rw (map-no-last Known pos m h.0) (ap (onto_first (stands_at pos m)) (cut-maps Known (pos + event_size m) ms rows rest cuts h.1 cut))
+    rw (by-kind (λ k. is_some (rows_of_kind k) && has_end_flag m.body) pos m kind.TableMap h.0.kind) (ap (onto_first (stands_at pos m)) (cut-maps Known (pos + event_size m) ms rows rest cuts h.1 cut))
 
 -- the first cut of events that begin with those of a statement
 pub cut-first : (Known : Event → Type 0) (pos : ℕ) (s : Statement) (rest : List Placed) → IsStatement Known s
     → statements_of (stood pos (statement_events s) ++ rest) ≡ stood pos (statement_events s) ∷ statements_of rest
 cut-first Known pos s rest h =
+    let behind : ℕ = end_of pos s.maps in
     rw (stood-append pos s.maps (rows_events s.rows))
-    (cut-maps Known pos s.maps (stood behind (rows_events s.rows)) rest (statements_of rest) h.maps_formed (by_rows s.rows h.some.2 h.rows_formed))
-  where
-    behind : ℕ
-    behind = end_of pos s.maps
-
-    by_rows : (rows : List RowsEvent) → rows ≡ h.some.0 ∷ h.some.1 → AllByRecursion (IsRowsEvent s.maps) rows
-        → statements_of (stood behind (rows_events rows) ++ rest) ≡ stood behind (rows_events rows) ∷ statements_of rest
-    by_rows [] some formed = cc
-    by_rows (r ∷ rows) some formed = cut-rows s.maps behind r rows rest formed
+    (cut-maps Known pos s.maps (stood behind (rows_events s.rows)) rest (statements_of rest) h.maps_formed (cut-rows s.maps behind s.rows rest h.some.0 h.some.1 h.some.2 h.rows_formed))

@@ -1,12 +1,12 @@
 -- Every front of the written log up to an end event is a log of its own, and leads to a state between.
-use Rattle.std.proofs.Common.{◌≡◌, ℕ, zero, suc, ◌+◌, ◌-◌, ◌≤◌, true, false, List, [], ◌∷◌, ◌++◌, length, take, drop, map, reverse, inl, inr, refl, sym, ap, subst, ◌∙◌, arith, append_assoc, length-append}
+use Rattle.std.proofs.Common.{◌≡◌, ℕ, zero, suc, ◌+◌, ◌-◌, ◌≤◌, List, [], ◌∷◌, ◌++◌, length, take, drop, map, refl, sym, ap, subst, ◌∙◌, arith, append_assoc, length-append}
 use Rattle.std.specs.List.{AllByRecursion, flat_map}
-use Rattle.std.proofs.lemmas.List.{map-append, reverse-append, length-reverse, length-map, length-take-le, length-drop, take-append-drop, take_at}
+use Rattle.std.proofs.lemmas.List.{length-reverse, length-map, length-take-le, length-drop, take-append-drop, take_at}
 use Rattle.std.proofs.lemmas.List.Concat.{flat_map-append}
 use Rattle.blog_event.specs.Event.{Event, event_size, event_text}
 use Rattle.blog_event.specs.File.{magic, BeginsWith, AreBytes, file_text, end_of}
 use Rattle.blog_trans.specs.Selection.{Selection, all}
-use Rattle.blog_trans.specs.Kinds.{kind_of, is_end_kind}
+use Rattle.blog_trans.specs.Kinds.{is_end_kind}
 use Rattle.blog_trans.specs.Acceptance.{IsAccepted}
 use Rattle.blog_trans.specs.Groups.{Transaction, groups}
 use Rattle.blog_trans.specs.Changes.{changes, changes_of, changes_of_transaction}
@@ -14,14 +14,14 @@ use Rattle.blog_flash.specs.States.{apply_all, inverse_all}
 use Rattle.blog_flash.specs.Reversal.{reversed_transaction, reversed}
 use Rattle.blog_flash.specs.Texts.{statement_events, transaction_events, group_events, with_log_pos, laid_out, flashback_text}
 use Rattle.blog_flash.specs.Theorems.{through_ends, front_through, but_last, StopsAt, StopsAnywhere}
-use Rattle.blog_flash.proofs.Formed.{IsEndEvent, IsTransaction, AreGroups}
+use Rattle.blog_flash.proofs.Formed.{IsTransaction, AreGroups}
 use Rattle.blog_flash.proofs.Undoing.{undo_last}
-use Rattle.blog_flash.proofs.Reversing.{reversed-changes}
+use Rattle.blog_flash.proofs.Reversing.{reversed-changes, turned-append}
 use Rattle.blog_flash.proofs.Forming.{kind-placed}
-use Rattle.blog_flash.proofs.Spans.{IsInner, statements-inner}
+use Rattle.blog_flash.proofs.Spans.{IsInner, end-stands, statements-inner}
 use Rattle.blog_flash.proofs.Agreeing.{Chosen}
 use Rattle.blog_flash.proofs.Written.{IsWritable, written-read, written-accepted, written-groups}
-use Rattle.blog_flash.proofs.Headline.{groups-paired, IsSource, is-source, flashback-is, flashback-groups}
+use Rattle.blog_flash.proofs.Headline.{IsSource, is-source, flashback-is, flashback-groups}
 
 -- ---- events up to an end event
 
@@ -30,44 +30,28 @@ placed-append : (pos : ℕ) (xs ys : List Event) → with_log_pos pos (xs ++ ys)
 placed-append pos [] ys = refl
 placed-append pos (x ∷ xs) ys = ap (λ es. record x { log_pos = pos + event_size x } ∷ es) (placed-append (pos + event_size x) xs ys)
 
--- none of them is an end event
-abbrev AreNoEnds : List Event → Type 0
-AreNoEnds es = AllByRecursion (λ (e : Event). is_end_kind (kind_of e) ≡ false) es
-
--- nor where they are laid out
-no-ends-placed : (pos : ℕ) (es : List Event) → AllByRecursion IsInner es → AreNoEnds (with_log_pos pos es)
-no-ends-placed pos [] inner = tt
-no-ends-placed pos (e ∷ es) inner = (ap is_end_kind (kind-placed e (pos + event_size e)) ∙ inner.0.end, no-ends-placed (pos + event_size e) es inner.1)
-
--- up to the next end event and further
-through-end : (k : ℕ) (es : List Event) (e : Event) (rest : List Event) → AreNoEnds es → is_end_kind (kind_of e) ≡ true
-    → through_ends (suc k) (es ++ e ∷ rest) ≡ es ++ e ∷ through_ends k rest
-through-end k [] e rest none ends = rw ends refl
-through-end k (x ∷ es) e rest none ends = rw none.0 (ap (λ l. x ∷ l) (through-end k es e rest none.1 ends))
-
--- an end event is one where it is laid out
-end-placed : (pos : ℕ) (e : Event) → IsEndEvent e → is_end_kind (kind_of (record e { log_pos = pos })) ≡ true
-end-placed pos e (inl commit) = ap is_end_kind (kind-placed e pos ∙ commit)
-end-placed pos e (inr xid) = ap is_end_kind (kind-placed e pos ∙ xid.0)
+-- past the inside of a transaction
+through-inside : (k pos : ℕ) (es rest : List Event) → AllByRecursion IsInner es → through_ends (suc k) (with_log_pos pos es ++ rest) ≡ with_log_pos pos es ++ through_ends (suc k) rest
+through-inside k pos [] rest inner = refl
+through-inside k pos (e ∷ es) rest inner =
+    rw (ap is_end_kind (kind-placed e (pos + event_size e)) ∙ inner.0.1)
+    (ap (λ l. record e { log_pos = pos + event_size e } ∷ l) (through-inside k (pos + event_size e) es rest inner.1))
 
 -- up to the end of a transaction and further
 through-transaction : (Known : Event → Type 0) (k pos : ℕ) (t : Transaction) (rest : List Event) → IsTransaction Known t
     → through_ends (suc k) (with_log_pos pos (transaction_events t) ++ rest) ≡ with_log_pos pos (transaction_events t) ++ through_ends k rest
 through-transaction Known k pos t rest h =
-    let begin : Event = record t.begin { log_pos = pos + event_size t.begin } in
     let from : ℕ = pos + event_size t.begin in
     let inside : List Event = flat_map statement_events t.statements in
-    let last : ℕ = end_of from inside in
-    let end : Event = record t.end { log_pos = last + event_size t.end } in
-    let events : List Event = begin ∷ with_log_pos from inside in
-    let begins : is_end_kind (kind_of begin) ≡ false = ap is_end_kind (kind-placed t.begin (pos + event_size t.begin) ∙ h.begin_kind) in
-    let none : AreNoEnds events = (begins, no-ends-placed from inside (statements-inner Known t.statements h.statements_formed)) in
-    let parts : with_log_pos pos (transaction_events t) ≡ events ++ end ∷ [] = ap (λ l. begin ∷ l) (placed-append from inside (t.end ∷ [])) in
-    ap (λ l. through_ends (suc k) (l ++ rest)) parts
-    ∙ ap (through_ends (suc k)) (append_assoc events (end ∷ []) rest)
-    ∙ through-end k events end rest none (end-placed (last + event_size t.end) t.end h.end_is)
-    ∙ sym (append_assoc events (end ∷ []) (through_ends k rest))
-    ∙ ap (λ l. l ++ through_ends k rest) (sym parts)
+    let events : List Event = with_log_pos from inside in
+    let at : ℕ = end_of from inside + event_size t.end in
+    let end : Event = record t.end { log_pos = at } in
+    let ends : through_ends (suc k) (end ∷ rest) ≡ end ∷ through_ends k rest = rw ((end-stands (end_of from inside) t.end h.end_is).0) refl in
+    let parts : (others : List Event) → with_log_pos from (inside ++ t.end ∷ []) ++ others ≡ events ++ end ∷ others =
+    λ others. ap (λ l. l ++ others) (placed-append from inside (t.end ∷ [])) ∙ append_assoc events (end ∷ []) others in
+    rw (ap is_end_kind (kind-placed t.begin from ∙ h.begin_kind)) (ap (λ l. record t.begin { log_pos = from } ∷ l)
+    (ap (through_ends (suc k)) (parts rest) ∙ through-inside k from inside (end ∷ rest) (statements-inner Known t.statements h.statements_formed)
+    ∙ ap (λ l. events ++ l) ends ∙ sym (parts (through_ends k rest))))
 
 -- the events up to the k-th end event are those of the first k transactions
 through-groups : (Known : Event → Type 0) (k pos : ℕ) (ts : List Transaction) → AreGroups Known ts
@@ -110,17 +94,11 @@ front-begins k format ts =
     let begins = laid-begins format (take k ts) (drop k ts) in
     (begins.0, ap (laid_out format) (sym (take-append-drop k ts)) ∙ begins.1)
 
--- of the elements, also of the first k
-all-take : {A : Type 0} (P : A → Type 0) (k : ℕ) (xs : List A) → AllByRecursion P xs → AllByRecursion P (take k xs)
-all-take P zero xs h = tt
-all-take P (suc k) [] h = tt
-all-take P (suc k) (x ∷ xs) h = (h.0, all-take P k xs h.1)
-
--- of the others
-all-drop : {A : Type 0} (P : A → Type 0) (k : ℕ) (xs : List A) → AllByRecursion P xs → AllByRecursion P (drop k xs)
-all-drop P zero xs h = h
-all-drop P (suc k) [] h = tt
-all-drop P (suc k) (x ∷ xs) h = all-drop P k xs h.1
+-- of the elements, also of the first k and of the others
+all-parted : {A : Type 0} (P : A → Type 0) (k : ℕ) (xs : List A) → AllByRecursion P xs → AllByRecursion P (take k xs) × AllByRecursion P (drop k xs)
+all-parted P zero xs h = (tt, h)
+all-parted P (suc k) [] h = (tt, tt)
+all-parted P (suc k) (x ∷ xs) h = let others = all-parted P k xs h.1 in ((h.0, others.0), others.1)
 
 -- the first k groups can be laid out where all of them can
 front-writable : (Known : Event → Type 0) (k : ℕ) (format : Event) (ts : List Transaction) → IsWritable Known format ts → IsWritable Known format (take k ts)
@@ -129,13 +107,9 @@ front-writable Known k format ts h =
     let whole : length (laid_out format ts) ≡ length (laid_out format (take k ts) ++ begins.0) = ap length begins.1 in
     let parts = length-append (laid_out format (take k ts)) begins.0 in
     let short = h.short in
-    record { are_groups = all-take (IsTransaction Known) k ts h.are_groups; agree = h.agree; served = h.served; event = h.event; short = omega arith }
+    record { are_groups = (all-parted (IsTransaction Known) k ts h.are_groups).0; agree = h.agree; served = h.served; event = h.event; short = omega arith }
 
 -- ---- the last groups
-
--- groups reversed, the last ones and those before them
-reversed-append : (xs ys : List Transaction) → reversed (xs ++ ys) ≡ reversed ys ++ reversed xs
-reversed-append xs ys = ap reverse (map-append reversed_transaction xs ys) ∙ reverse-append (map reversed_transaction xs) (map reversed_transaction ys)
 
 -- as many as before
 reversed-length : (ts : List Transaction) → length (reversed ts) ≡ length ts
@@ -147,7 +121,7 @@ last-reversed k ts fits =
     let first : List Transaction = take (length ts - k) ts in
     let last : List Transaction = drop (length ts - k) ts in
     let long : length (reversed last) ≡ k = reversed-length last ∙ length-drop (length ts - k) ts ∙ omega arith in
-    ap (λ us. take k (reversed us)) (sym (take-append-drop (length ts - k) ts)) ∙ ap (take k) (reversed-append first last) ∙ take_at (reversed last) (reversed first) k long
+    ap (λ us. take k (reversed us)) (sym (take-append-drop (length ts - k) ts)) ∙ ap (take k) (turned-append reversed_transaction first last) ∙ take_at (reversed last) (reversed first) k long
 
 -- the changes of all groups are those of all but the last k and then those of the last k
 changes-parted : (k : ℕ) (ts : List Transaction) → changes_of ts ≡ changes_of (but_last k ts) ++ changes_of (drop (length ts - k) ts)
@@ -167,9 +141,8 @@ stops-at Known bytes sel k h fits =
     let begins : BeginsWith (laid_out h.format (reversed gs)) front = front-begins k h.format (reversed gs) in
     let are : groups (front_through k (flashback_text bytes sel)) all ≡ take k (reversed gs) = ap (λ written. groups written all) is ∙ written-groups Known h.format (take k (reversed gs)) writable in
     let many = reversed-length gs in
-    let paired = groups-paired Known last (all-drop (IsTransaction Known) (length gs - k) gs h.forward.are_groups) in
     let made : changes (front_through k (flashback_text bytes sel)) all ≡ inverse_all (changes_of last) =
-    ap changes_of (are ∙ last-reversed k gs fits) ∙ reversed-changes last paired in
+    ap changes_of (are ∙ last-reversed k gs fits) ∙ reversed-changes Known last (all-parted (IsTransaction Known) (length gs - k) gs h.forward.are_groups).1 in
     record {
       front = (begins.0, flashback-is Known bytes sel h ∙ begins.1 ∙ ap (λ written. written ++ begins.0) (sym is));
       accepted = subst (λ written. IsAccepted written all) (sym is) (written-accepted Known h.format (take k (reversed gs)) writable);

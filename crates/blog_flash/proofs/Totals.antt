@@ -1,72 +1,155 @@
--- What is written is no longer than the log: groups have events of the range, none of them twice.
-use Rattle.std.proofs.Common.{◌≡◌, ℕ, ◌+◌, ◌≤◌, List, [], ◌∷◌, length, map, take, refl, ap, arith}
+-- Written events are no longer than the events that the groups show: in sum, and each of them. So what is written is no longer
+-- than the log: groups have events of the range, none of them twice.
+use Rattle.std.proofs.Common.{◌≡◌, ℕ, ◌+◌, ◌-◌, ◌≤◌, max, Bool, true, false, List, [], ◌∷◌, length, map, reverse, take, refl, ap, ◌∙◌, arith}
 use Rattle.std.specs.List.{AllByRecursion, Contains, flat_map}
 use Rattle.blog_event.specs.Event.{Event, event_size}
 use Rattle.blog_event.specs.File.{Placed, end_of, read}
-use Rattle.blog_row.proofs.WrittenBody.{written-fits}
+use Rattle.blog_row.specs.declared.order.Order.{Order}
+use Rattle.blog_row.specs.declared.order.Order.TheVariants.{Forward, Backward}
+use Rattle.blog_row.specs.RowsWriting.{RowsContent, content_of}
+use Rattle.blog_row.proofs.ReversedRows.{all-reverse}
+use Rattle.blog_row.proofs.WrittenBody.{body-len, written-fits}
 use Rattle.blog_trans.specs.Selection.{Selection}
 use Rattle.blog_trans.specs.Acceptance.{IsAccepted}
-use Rattle.blog_trans.specs.Groups.{PlacedRows, PlacedStatement, PlacedTransaction, placed_groups, event_value, rows_value, statement_value, transaction_value, groups}
+use Rattle.blog_trans.specs.Groups.{PlacedRows, PlacedStatement, PlacedTransaction, placed_groups, groups}
+use Rattle.blog_trans.specs.InTurn.{GroupEvent, Maps, Changes, Ends, in_order, in_turn, rows_in_turn, statement_in_turn, transaction_in_turn}
 use Rattle.blog_trans.specs.PlacedFacts.{IsPlacedRows, IsPlacedStatement, IsPlacedTransaction}
-use Rattle.blog_trans.specs.Shown.{statement_shown, transaction_shown, shown, events_in_range}
+use Rattle.blog_trans.specs.Shown.{largest, statement_shown, transaction_shown, shown, events_in_range}
 use Rattle.blog_trans.proofs.PlacedFacts.{groups-among}
+use Rattle.blog_trans.proofs.PlacedParts.{all-by}
+use Rattle.blog_trans.proofs.ProgressSteps.{reverse-latest}
 use Rattle.blog_trans.proofs.Shown.{own_size, shown-sizes}
 use Rattle.blog_trans.proofs.Sums.{sum_of, sum-append, sum-map, sum-joined}
-use Rattle.blog_flash.specs.Reversal.{reversed}
+use Rattle.blog_flash.specs.LaidOut.{groups_in, transactions_of, written_event}
 use Rattle.blog_flash.specs.Texts.{group_events, laid_out}
-use Rattle.blog_flash.proofs.Sizes.{total, rows_size, statement_size, transaction_size, group-total, groups-turned, laid-out-length}
+use Rattle.blog_flash.proofs.InTurn.{written-in-turn}
+use Rattle.blog_flash.proofs.Sizes.{laid-out-length}
 use Rattle.blog_flash.proofs.Source.{fields-found}
 
--- a sum of larger numbers is larger
+-- ---- sums
+
+-- of larger numbers
 sum-fits : {A : Type 0} (P : A → Type 0) (f g : A → ℕ) → ((x : A) → P x → f x ≤ g x) → (xs : List A) → AllByRecursion P xs → sum_of f xs ≤ sum_of g xs
 sum-fits P f g fits [] all = omega arith
 sum-fits P f g fits (x ∷ xs) all = let own = fits x all.0 in let others = sum-fits P f g fits xs all.1 in omega arith
 
--- the event that is written for a rows event is no longer than its source
-pub row-fits : (Member : Placed → Type 0) (sel : Selection) (maps : List Placed) (r : PlacedRows) → IsPlacedRows Member sel maps r → rows_size (rows_value r) ≤ own_size r.event
-row-fits Member sel maps r h = let fits = written-fits r.kind h.map.layout r.event.event.body r.body (fields-found Member sel maps r h) in omega arith
-
--- nor are those of a statement longer than the events that it shows
-statement-fits : (Member : Placed → Type 0) (sel : Selection) (s : PlacedStatement) → IsPlacedStatement Member sel s → statement_size (statement_value s) ≤ sum_of own_size (statement_shown s)
-statement-fits Member sel s h =
-    let maps = sum-map event_size event_value s.maps in
-    let rows = sum-map rows_size rows_value s.rows in
-    let fits = sum-fits (IsPlacedRows Member sel s.maps) (λ (r : PlacedRows). rows_size (rows_value r)) (λ (r : PlacedRows). own_size r.event) (row-fits Member sel s.maps) s.rows h.rows in
-    let joined = sum-append own_size s.maps (map (λ (r : PlacedRows). r.event) s.rows) in
-    let events = sum-map own_size (λ (r : PlacedRows). r.event) s.rows in
+-- of the elements in an order
+sum-in-order : {A : Type 0} (f : A → ℕ) (order : Order) (xs : List A) → sum_of f (in_order order xs) ≡ sum_of f xs
+sum-in-order f Forward xs = refl
+sum-in-order f Backward [] = refl
+sum-in-order f Backward (x ∷ xs) =
+    let joined = ap (sum_of f) (reverse-latest x xs) ∙ sum-append f (reverse xs) (x ∷ []) in
+    let others = sum-in-order f Backward xs in
     omega arith
 
--- nor those of a transaction
-transaction-fits : (Member : Placed → Type 0) (sel : Selection) (t : PlacedTransaction) → IsPlacedTransaction Member sel t → transaction_size (transaction_value t) ≤ sum_of own_size (transaction_shown t)
-transaction-fits Member sel t h =
-    let shown_size : PlacedStatement → ℕ = λ (s : PlacedStatement). sum_of own_size (statement_shown s) in
-    let statements = sum-map statement_size statement_value t.statements in
-    let fits = sum-fits (IsPlacedStatement Member sel) (λ (s : PlacedStatement). statement_size (statement_value s)) shown_size (statement-fits Member sel) t.statements h.statements in
-    let inside = sum-joined own_size statement_shown shown_size (λ s. refl) t.statements in
-    let joined = sum-append own_size (flat_map statement_shown t.statements) (t.end ∷ []) in
+all-in-order : {A : Type 0} (P : A → Type 0) (order : Order) (xs : List A) → AllByRecursion P xs → AllByRecursion P (in_order order xs)
+all-in-order P Forward xs all = all
+all-in-order P Backward xs all = all-reverse P xs all
+
+-- of parts in an order, each no larger than its source
+parts-fit : {A B C : Type 0} (P : A → Type 0) (f : B → ℕ) (g : C → ℕ) (written : A → List B) (source : A → List C) → ((x : A) → P x → sum_of f (written x) ≤ sum_of g (source x))
+    → (order : Order) (xs : List A) → AllByRecursion P xs → sum_of f (flat_map written (in_order order xs)) ≤ sum_of g (flat_map source xs)
+parts-fit P f g written source fits order xs all =
+    let parts = sum-joined f written (λ x. sum_of f (written x)) (λ x. refl) (in_order order xs) in
+    let same = sum-in-order (λ x. sum_of f (written x)) order xs in
+    let each = sum-fits P (λ x. sum_of f (written x)) (λ x. sum_of g (source x)) fits xs all in
+    let sources = sum-joined g source (λ x. sum_of g (source x)) (λ x. refl) xs in
     omega arith
 
--- nor those of groups
-groups-fit : (Member : Placed → Type 0) (sel : Selection) (ts : List PlacedTransaction) → AllByRecursion (IsPlacedTransaction Member sel) ts
-    → total (group_events (map transaction_value ts)) ≤ sum_of own_size (flat_map transaction_shown ts)
-groups-fit Member sel ts all =
-    let shown_size : PlacedTransaction → ℕ = λ (t : PlacedTransaction). sum_of own_size (transaction_shown t) in
-    let written = group-total (map transaction_value ts) in
-    let values = sum-map transaction_size transaction_value ts in
-    let fits = sum-fits (IsPlacedTransaction Member sel) (λ (t : PlacedTransaction). transaction_size (transaction_value t)) shown_size (transaction-fits Member sel) ts all in
-    let joined = sum-joined own_size transaction_shown shown_size (λ t. refl) ts in
+-- ---- a number that grows with the size of an event
+
+abbrev Grows : (ℕ → ℕ) → Type 0
+Grows w = (m n : ℕ) → m ≤ n → w m ≤ w n
+
+abbrev written_weight : (ℕ → ℕ) → Order → GroupEvent → ℕ
+written_weight w order e = w (event_size (written_event order e))
+
+abbrev own_weight : (ℕ → ℕ) → Placed → ℕ
+own_weight w p = w (own_size p)
+
+-- of a rows event, the last of its statement or not
+abbrev RowsFit : (ℕ → ℕ) → Order → PlacedRows → Type 0
+RowsFit w order r = (last : Bool) → written_weight w order (Changes r last) ≤ own_weight w r.event
+
+row-fits : (w : ℕ → ℕ) → Grows w → (Member : Placed → Type 0) (sel : Selection) (order : Order) (maps : List Placed) (r : PlacedRows) → IsPlacedRows Member sel maps r → RowsFit w order r
+row-fits w grows Member sel order maps r h last =
+    let content : RowsContent = content_of r.kind r.body in
+    let long = written-fits r.kind h.map.layout r.event.event.body r.body (fields-found Member sel maps r h) in
+    grows _ _ (omega (arith, long, body-len order last content, body-len Forward true content))
+
+rows-fit : (w : ℕ → ℕ) (order : Order) (rs : List PlacedRows) → AllByRecursion (RowsFit w order) rs → sum_of (written_weight w order) (rows_in_turn rs) ≤ sum_of (λ r. own_weight w r.event) rs
+rows-fit w order [] all = omega arith
+rows-fit w order (r ∷ []) all = omega (arith, all.0 true)
+rows-fit w order (r ∷ s ∷ rs) all = omega (arith, all.0 false, rows-fit w order (s ∷ rs) all.1)
+
+statement-fits : (w : ℕ → ℕ) → Grows w → (Member : Placed → Type 0) (sel : Selection) (order : Order) (s : PlacedStatement) → IsPlacedStatement Member sel s
+    → sum_of (written_weight w order) (statement_in_turn order s) ≤ sum_of (own_weight w) (statement_shown s)
+statement-fits w grows Member sel order s h =
+    let parts = sum-append (written_weight w order) (map Maps s.maps) (rows_in_turn (in_order order s.rows)) in
+    let maps = sum-map (written_weight w order) Maps s.maps in
+    let each = all-by _ (RowsFit w order) (row-fits w grows Member sel order s.maps) s.rows h.rows in
+    let rows = rows-fit w order (in_order order s.rows) (all-in-order (RowsFit w order) order s.rows each) in
+    let same = sum-in-order (λ (r : PlacedRows). own_weight w r.event) order s.rows in
+    let sources = sum-append (own_weight w) s.maps (map (λ (r : PlacedRows). r.event) s.rows) in
+    let events = sum-map (own_weight w) (λ (r : PlacedRows). r.event) s.rows in
     omega arith
 
--- both texts of an accepted log are no longer than the log
-pub no-longer : (bytes : List ℕ) (sel : Selection) (format : Event) (rest : List Event) → IsAccepted bytes sel → read bytes sel.stop ≡ format ∷ rest
-    → (length (laid_out format (groups bytes sel)) ≤ length bytes) × (length (laid_out format (reversed (groups bytes sel))) ≤ length bytes)
-unfolding groups placed_groups shown
-no-longer bytes sel format rest accepted is =
+transaction-fits : (w : ℕ → ℕ) → Grows w → (Member : Placed → Type 0) (sel : Selection) (order : Order) (t : PlacedTransaction) → IsPlacedTransaction Member sel t
+    → sum_of (written_weight w order) (transaction_in_turn order t) ≤ sum_of (own_weight w) (transaction_shown t)
+transaction-fits w grows Member sel order t h =
+    let parts = sum-append (written_weight w order) (flat_map (statement_in_turn order) (in_order order t.statements)) (Ends t.end ∷ []) in
+    let inside = parts-fit (IsPlacedStatement Member sel) (written_weight w order) (own_weight w) (statement_in_turn order) statement_shown (statement-fits w grows Member sel order) order t.statements h.statements in
+    let sources = sum-append (own_weight w) (flat_map statement_shown t.statements) (t.end ∷ []) in
+    omega arith
+
+-- of the groups of a log
+groups-fit : (w : ℕ → ℕ) → Grows w → (order : Order) (bytes : List ℕ) (sel : Selection)
+    → sum_of (λ e. w (event_size e)) (group_events (transactions_of order (placed_groups bytes sel))) ≤ sum_of (own_weight w) (shown bytes sel)
+unfolding shown placed_groups in_turn
+groups-fit w grows order bytes sel =
+    let Member : Placed → Type 0 = Contains (events_in_range bytes sel) in
+    let fits = parts-fit (IsPlacedTransaction Member sel) (written_weight w order) (own_weight w) (transaction_in_turn order) transaction_shown (transaction-fits w grows Member sel order) order
+    (placed_groups bytes sel) (groups-among sel (events_in_range bytes sel)) in
+    let events = sum-map (λ e. w (event_size e)) (written_event order) (in_turn order (placed_groups bytes sel)) in
+    let written = ap (sum_of (λ e. w (event_size e))) (written-in-turn order (placed_groups bytes sel)) in
+    omega arith
+
+-- ---- in sum
+
+-- the text of an accepted log's groups is no longer than the log
+pub no-longer : (order : Order) (bytes : List ℕ) (sel : Selection) (format : Event) (rest : List Event) → IsAccepted bytes sel → read bytes sel.stop ≡ format ∷ rest
+    → length (laid_out format (groups_in order (groups bytes sel))) ≤ length bytes
+unfolding groups
+no-longer order bytes sel format rest accepted is =
     let sizes = shown-sizes bytes sel accepted in
     let start : end_of 4 (take 1 (read bytes sel.stop)) ≡ 4 + event_size format = ap (λ (es : List Event). end_of 4 (take 1 es)) is in
-    let kept : total (group_events (groups bytes sel)) ≤ sum_of own_size (shown bytes sel) =
-    groups-fit (Contains (events_in_range bytes sel)) sel (placed_groups bytes sel) (groups-among sel (events_in_range bytes sel)) in
-    let turned = groups-turned (groups bytes sel) in
-    let forward = laid-out-length format (groups bytes sel) in
-    let backward = laid-out-length format (reversed (groups bytes sel)) in
-    (omega arith, omega arith)
+    let kept = groups-fit (λ n. n) (λ m n more. more) order bytes sel in
+    let long = laid-out-length format (groups_in order (groups bytes sel)) in
+    omega arith
+
+-- ---- each of them
+
+-- the largest is no less than the least
+pub largest-above : (least : ℕ) (ps : List Placed) → least ≤ largest least ps
+largest-above least [] = omega arith
+largest-above least (p ∷ ps) = let above = largest-above (max least (event_size p.event)) ps in omega arith
+
+-- no event passes a number that is no less than the largest
+none-above : (least n : ℕ) (ps : List Placed) → largest least ps ≤ n → sum_of (λ p. own_size p - n) ps ≡ 0
+none-above least n [] within = refl
+none-above least n (p ∷ ps) within =
+    let above = largest-above (max least (event_size p.event)) ps in
+    let others = none-above (max least (event_size p.event)) n ps within in
+    omega arith
+
+each-within : (n : ℕ) (es : List Event) → sum_of (λ e. event_size e - n) es ≡ 0 → AllByRecursion (λ e. event_size e ≤ n) es
+each-within n [] none = tt
+each-within n (e ∷ es) none = (omega (arith, none), each-within n es (omega (arith, none)))
+
+-- room for the largest event of the groups is room for each event that is written
+pub groups-fit-room : (bytes : List ℕ) (sel : Selection) (order : Order) (least n : ℕ) → largest least (shown bytes sel) ≤ n
+    → AllByRecursion (λ e. event_size e ≤ n) (group_events (transactions_of order (placed_groups bytes sel)))
+groups-fit-room bytes sel order least n within =
+    let fits = groups-fit (λ m. m - n) (λ m k more. omega arith) order bytes sel in
+    let none = none-above least n (shown bytes sel) within in
+    each-within n _ (omega arith)

@@ -2,13 +2,13 @@
 use Rattle.std.proofs.Common.{◌≡◌, ℕ, ◌+◌, ◌-◌, Bool, true, false, if◌then◌else◌, ◌==◌, List, [], ◌∷◌, ◌++◌, Option, Some, None, option_and_then, bytes_eq, refl, sym, ap, ◌∙◌, arith, Decides, map, ne_eqb}
 use Rattle.std.proofs.lemmas.Bool.{false≢true, cond-true, cond-false, eqb-false}
 use Rattle.std.proofs.lemmas.Bool.Decides.{Decides-and, Decides-like}
-use Rattle.std.proofs.lemmas.List.{reverse-append}
 use Rattle.std.proofs.lemmas.Option.{none-some, same_Some}
 use Rattle.std.proofs.lemmas.Slice.Eq.{bytes_eq-Decides, slice_eq-Decides}
 use Rattle.blog_row.specs.Image.{Row}
 use Rattle.blog_row.specs.TableMap.{Table}
 use Rattle.blog_row.proofs.Cutting.{and_then_found}
 use Rattle.blog_trans.specs.Changes.{Change, Inserted, Deleted, Updated}
+use Rattle.blog_trans.proofs.ProgressSteps.{reverse-latest}
 use Rattle.blog_trans.proofs.Tables.{is_same_table-Decides}
 use Rattle.blog_flash.specs.States.{State, is_same_value, is_row, with_copies, insert_row, delete_row, apply, apply_all, inverse, inverse_all}
 use mathlib.Core.Path.{fun_ext}
@@ -24,19 +24,11 @@ is_same_value-Decides (Some x) (Some y) = Decides-like (bytes_eq x y) (ap Some) 
 is_row-Decides : (t : Table) (r : Row) (u : Table) (s : Row) → Decides (is_row t r u s) ((t ≡ u) × (r ≡ s))
 is_row-Decides t r u s = Decides-and _ _ (is_same_table-Decides t u) (slice_eq-Decides is_same_value-Decides r s _ refl)
 
--- rows that are tested as one are one
-pub is_row-same : (t : Table) (r : Row) (u : Table) (s : Row) → is_row t r u s ≡ true → (t ≡ u) × (r ≡ s)
-is_row-same t r u s = (is_row-Decides t r u s).0
-
--- each row is tested as itself
-pub is_row-own : (t : Table) (r : Row) → is_row t r t r ≡ true
-is_row-own t r = (is_row-Decides t r t r).1 (refl, refl)
-
 -- ---- one row's copies
 
 -- the row itself has the number of copies that was put
 pub with_copies-own : (state : State) (t : Table) (r : Row) (n : ℕ) → with_copies state t r n t r ≡ n
-with_copies-own state t r n = cond-true (is_row t r t r) n (state t r) (is_row-own t r)
+with_copies-own state t r n = cond-true (is_row t r t r) n (state t r) ((is_row-Decides t r t r).1 (refl, refl))
 
 -- a number put over another leaves the later one
 pub with_copies-twice : (state : State) (t : Table) (r : Row) (m n : ℕ) → with_copies (with_copies state t r m) t r n ≡ with_copies state t r n
@@ -51,23 +43,16 @@ pub with_copies-kept : (state : State) (t : Table) (r : Row) (n : ℕ) → state
 with_copies-kept state t r n e = fun_ext λ u. fun_ext λ s. by_case u s (is_row t r u s) refl
   where
     by_case : (u : Table) (s : Row) (b : Bool) → is_row t r u s ≡ b → (if b then n else state u s) ≡ state u s
-    by_case u s true same = let p = is_row-same t r u s same in sym e ∙ (λ i. state (p.0 i) (p.1 i))
+    by_case u s true same = let p = (is_row-Decides t r u s).0 same in sym e ∙ (λ i. state (p.0 i) (p.1 i))
     by_case u s false other = refl
 
 -- taking the copy that was put there
 pub delete-insert : (t : Table) (r : Row) (state : State) → delete_row t r (insert_row t r state) ≡ Some state
 delete-insert t r state =
-    cond-false (copies == 0) None (Some (with_copies after t r (copies - 1))) (ne_eqb copies 0 (λ z. omega (arith, own)))
+    let own = with_copies-own state t r (state t r + 1) in
+    let copies : ℕ = insert_row t r state t r in
+    cond-false (copies == 0) None (Some (with_copies (insert_row t r state) t r (copies - 1))) (ne_eqb copies 0 (λ z. omega (arith, own)))
     ∙ ap Some (with_copies-twice state t r (state t r + 1) (copies - 1) ∙ with_copies-kept state t r (copies - 1) (omega (arith, own)))
-  where
-    after : State
-    after = insert_row t r state
-
-    copies : ℕ
-    copies = insert_row t r state t r
-
-    own : copies ≡ state t r + 1
-    own = with_copies-own state t r (state t r + 1)
 
 -- putting back the copy that was taken
 pub insert-delete : (t : Table) (r : Row) (state left : State) → delete_row t r state ≡ Some left → insert_row t r left ≡ state
@@ -76,10 +61,9 @@ insert-delete t r state left = by_case (state t r == 0) refl
     by_case : (b : Bool) → (state t r == 0) ≡ b → (if b then None else Some (with_copies state t r (state t r - 1))) ≡ Some left → insert_row t r left ≡ state
     by_case true none e = absurd (none-some left e)
     by_case false some e =
-        let taken = same_Some _ _ e in
         let own = with_copies-own state t r (state t r - 1) in
         let counted : with_copies state t r (state t r - 1) t r + 1 ≡ state t r = omega (arith, own, eqb-false (state t r) 0 some) in
-        ap (insert_row t r) (sym taken) ∙ with_copies-twice state t r (state t r - 1) _ ∙ with_copies-kept state t r _ (sym counted)
+        ap (insert_row t r) (sym (same_Some _ _ e)) ∙ with_copies-twice state t r (state t r - 1) _ ∙ with_copies-kept state t r _ (sym counted)
 
 -- ---- changes
 
@@ -102,15 +86,12 @@ apply_all-append (c ∷ cs) ds before = step (apply c before) (apply_all-append 
     step None same = refl
     step (Some s) same = same s
 
-inverse_all-cons : (c : Change) (cs : List Change) → inverse_all (c ∷ cs) ≡ inverse_all cs ++ inverse c ∷ []
-inverse_all-cons c cs = reverse-append (inverse c ∷ []) (map inverse cs)
-
 -- the inverse changes give the state back, and none of them faults
 pub undo_all : (cs : List Change) (before after : State) → apply_all cs before ≡ Some after → apply_all (inverse_all cs) after ≡ Some before
 undo_all [] before after e = sym e
 undo_all (c ∷ cs) before after e =
     let (between, first, others) = and_then_found (apply_all cs) (apply c before) after e in
-    ap (λ (ds : List Change). apply_all ds after) (inverse_all-cons c cs)
+    ap (λ (ds : List Change). apply_all ds after) (reverse-latest (inverse c) (map inverse cs))
     ∙ apply_all-append (inverse_all cs) (inverse c ∷ []) after
     ∙ ap (option_and_then (apply_all (inverse c ∷ []))) (undo_all cs between after others)
     ∙ ap (option_and_then (apply_all [])) (undo_one c before between first)

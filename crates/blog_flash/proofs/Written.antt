@@ -1,28 +1,24 @@
 -- A log that is laid out is read again, is accepted, and has the groups that were laid out.
-use Rattle.std.proofs.Common.{◌≡◌, ℕ, ◌+◌, ◌<◌, ◌^◌, true, not, List, [], ◌∷◌, length, take, map, reverse, Option, Some, None, bytes_eq, refl, sym, ap, ◌∙◌, arith, append-nil}
+use Rattle.std.proofs.Common.{◌≡◌, ℕ, ◌+◌, ◌≤◌, ◌<◌, ◌^◌, true, List, [], ◌∷◌, length, take, map, reverse, None, bytes_eq, refl, sym, ap, ◌∙◌, arith}
 use Rattle.std.specs.List.{AllByRecursion}
 use Rattle.std.proofs.lemmas.Bool.{lt-ltb, le-ltb, le-leb, eq-eqb}
-use Rattle.std.proofs.lemmas.Option.{none-some}
-use Rattle.std.proofs.lemmas.Slice.Eq.{bytes_eq-Decides}
-use Rattle.blog_event.specs.declared.fault.Fault.TheVariants.{NotABinlog, CutEvent, NoEventAt, Unended, TooLong}
-use Rattle.blog_event.specs.Fault.{needs, first_failing, fault_at}
+use Rattle.blog_event.specs.Fault.{first_failing}
 use Rattle.blog_event.specs.Event.{Event, event_size, IsEvent}
 use Rattle.blog_event.specs.File.{magic, Placed, placed_from, end_of, read}
 use Rattle.blog_event.specs.Format.{format_fault}
-use Rattle.blog_event.proofs.Framing.{texts-length, read-again}
-use Rattle.blog_trans.specs.declared.place.Place.{Place}
+use Rattle.blog_event.proofs.Framing.{read-again}
 use Rattle.blog_trans.specs.declared.place.Place.TheVariants.{Outside}
 use Rattle.blog_trans.specs.Selection.{all}
-use Rattle.blog_trans.specs.Places.{place, is_outside}
-use Rattle.blog_trans.specs.Acceptance.{event_fault, is_in_range, range, read_fault, first_read_fault, lines, fault, IsAccepted, Passes}
+use Rattle.blog_trans.specs.Places.{place}
+use Rattle.blog_trans.specs.Acceptance.{is_in_range, range, first_read_fault, lines, fault, IsAccepted, Passes}
 use Rattle.blog_trans.specs.Groups.{Transaction, transaction_value, placed_groups_in, placed_groups, groups}
 use Rattle.blog_flash.specs.Texts.{group_events, with_log_pos, laid_out}
 use Rattle.blog_flash.proofs.Formed.{Fits, Agree, AreGroups}
 use Rattle.blog_flash.proofs.Standing.{stood}
 use Rattle.blog_flash.proofs.Forming.{events-fit}
-use Rattle.blog_flash.proofs.Passing.{pushed-is, groups-pass}
+use Rattle.blog_flash.proofs.Passing.{groups-pass}
 use Rattle.blog_flash.proofs.Regrouping.{groups-again}
-use Rattle.blog_flash.proofs.Sizes.{end-total, total-placed}
+use Rattle.blog_flash.proofs.Sizes.{end-total, total-placed, laid-out-length}
 
 -- groups that can be laid out behind a format description
 pub record IsWritable (Known : Event → Type 0) (format : Event) (ts : List Transaction) : Type 0 where
@@ -54,26 +50,14 @@ placed-events pos (e ∷ es) short fits =
       placed-events (pos + event_size e) es short fits.1,
     )
 
--- the log ends where its events do
-events-end : (format : Event) (ts : List Transaction) → end_of 4 (written_events format ts) ≡ length (laid_out format ts)
-unfolding laid_out
-events-end format ts = let texts = texts-length 4 (written_events format ts) in omega arith
-
--- and so do the events of the groups
+-- the log ends where the events of the groups do
 groups-end : (format : Event) (ts : List Transaction) → end_of (4 + event_size format) (group_events ts) ≡ length (laid_out format ts)
-groups-end format ts =
-    let end = end-total (4 + event_size format) (group_events ts) in
-    let placed = end-total (4 + event_size format) (with_log_pos (4 + event_size format) (group_events ts)) in
-    let same = total-placed (4 + event_size format) (group_events ts) in
-    let whole = events-end format ts in
-    omega arith
+groups-end format ts = end-total (4 + event_size format) (group_events ts) ∙ sym (laid-out-length format ts)
 
 -- they are events
 written-are : (Known : Event → Type 0) (format : Event) (ts : List Transaction) → IsWritable Known format ts → AllByRecursion IsEvent (written_events format ts)
 written-are Known format ts h =
-    let end = groups-end format ts in
-    let short = h.short in
-    (h.event, placed-events (4 + event_size format) (group_events ts) (omega arith) (events-fit Known ts h.are_groups))
+    (h.event, placed-events (4 + event_size format) (group_events ts) (omega (arith, groups-end format ts, h.short)) (events-fit Known ts h.are_groups))
 
 -- what is laid out is read again
 pub written-read : (Known : Event → Type 0) (format : Event) (ts : List Transaction) → IsWritable Known format ts → read (laid_out format ts) None ≡ written_events format ts
@@ -98,65 +82,39 @@ written-range format ts = range-all (4 + event_size format) (with_log_pos (4 + e
 
 -- ---- acceptance
 
--- where no check has a failure, the first has none
-pub no-failure : {A : Type 0} (checks : List (Option A)) → AllByRecursion (λ c. c ≡ None) checks → first_failing checks ≡ None
-no-failure [] none = refl
-no-failure (None ∷ checks) none = no-failure checks none.1
-no-failure (Some failure ∷ checks) none = absurd (none-some failure (sym none.0))
+-- it begins with the magic number
+laid-mark : (format : Event) (ts : List Transaction) → bytes_eq (take 4 (laid_out format ts)) magic ≡ true
+unfolding laid_out
+laid-mark format ts = refl
 
--- an event behind the one at 4 that passes has no fault
-passes-read : (p : Placed) (earlier before : List Placed) → range all before ≡ earlier → 4 < p.pos → event_fault all earlier p ≡ None → read_fault all before p ≡ None
-passes-read p earlier before is behind passes = rw (in-range p behind, le-ltb p.pos 4 (omega arith), is, passes) refl
-
--- so have events that pass
-pub pass-read : (pos : ℕ) (es : List Event) (earlier before : List Placed) → range all before ≡ earlier → 4 < pos → Passes all earlier (placed_from pos es)
+-- events that pass have no fault, where they stand behind the one at 4
+pass-read : (pos : ℕ) (es : List Event) (earlier before : List Placed) → range all before ≡ earlier → 4 < pos → Passes all earlier (placed_from pos es)
     → first_read_fault all before (placed_from pos es) ≡ None
 pass-read pos [] earlier before is behind pass = refl
 pass-read pos (e ∷ es) earlier before is behind pass =
     let p : Placed = record { pos = pos; event = e } in
     let others = pass-read (pos + event_size e) es (p ∷ earlier) (p ∷ before) (rw (in-range p behind, is) refl) (omega arith) pass.1 in
-    no-failure (read_fault all before p ∷ first_read_fault all (p ∷ before) (placed_from (pos + event_size e) es) ∷ []) (passes-read p earlier before is behind pass.0, (others, tt))
+    rw (in-range p behind, le-ltb pos 4 (omega arith), is, pass.0, others) refl
+
+-- a log is accepted whose lines have no fault
+lines-pass : (bytes : List ℕ) (format : Event) (rest : List Event) → length bytes < 2 ^ 32 → bytes_eq (take 4 bytes) magic ≡ true → format_fault format ≡ None
+    → first_read_fault all (record { pos = 4; event = format } ∷ []) (placed_from (4 + event_size format) rest) ≡ None → end_of (4 + event_size format) rest ≡ length bytes → 4 ≤ length bytes
+    → place (reverse (range all (placed_from (4 + event_size format) rest))) ≡ Outside → first_failing (lines bytes all (format ∷ rest)) ≡ None
+lines-pass bytes format rest short mark served passes end long outside =
+    rw (lt-ltb (length bytes) (2 ^ 32) short, mark, served, passes, eq-eqb (end_of (4 + event_size format) rest) (length bytes) end, le-ltb (length bytes) 4 long, outside) refl
 
 -- what is laid out is accepted
 pub written-accepted : (Known : Event → Type 0) (format : Event) (ts : List Transaction) → IsWritable Known format ts → IsAccepted (laid_out format ts) all
-unfolding fault laid_out
+unfolding fault
 written-accepted Known format ts h =
-    let bytes : List ℕ = laid_out format ts in
-    let events : List Event = written_events format ts in
     let from : ℕ = 4 + event_size format in
-    let read_is : read bytes None ≡ events = written-read Known format ts h in
-    let groups_pass = groups-pass Known h.agree [] from ts (record { outside = refl; known = tt }) h.are_groups in
-    let end : end_of 4 events ≡ length bytes = events-end format ts in
-    let short : length bytes < 2 ^ 32 = h.short in
-    let first : Placed = record { pos = 4; event = format } in
-    let mark : bytes_eq (take 4 bytes) magic ≡ true = (bytes_eq-Decides (take 4 bytes) magic).1 refl in
-    let passes : first_read_fault all (first ∷ []) (stood from (group_events ts)) ≡ None =
-    pass-read from (with_log_pos from (group_events ts)) [] (first ∷ []) refl (omega arith) groups_pass.0 in
-    let reached : place (reverse (stood from (group_events ts))) ≡ Outside =
-    ap place (sym (append-nil (reverse (stood from (group_events ts)))) ∙ sym (pushed-is [] (stood from (group_events ts)))) ∙ groups_pass.1.outside in
-    let outside : place (reverse (range all (placed_from 4 events))) ≡ Outside = ap (λ ps. place (reverse ps)) (written-range format ts) ∙ reached in
-    ap (λ es. first_failing (lines bytes all es)) read_is ∙ no-failure (lines bytes all events) (
-      ap (λ b. fault_at 0 (needs b TooLong)) (lt-ltb (length bytes) (2 ^ 32) short),
-      (
-        ap (λ b. fault_at 0 (needs b NotABinlog)) mark,
-        (
-          refl,
-          (
-            ap (fault_at 4) h.served,
-            (
-              no-failure (read_fault all [] first ∷ first_read_fault all (first ∷ []) (stood from (group_events ts)) ∷ []) (refl, (passes, tt)),
-              (
-                ap (λ b. fault_at (end_of 4 events) (needs (not b) CutEvent)) (ap not (eq-eqb (end_of 4 events) (length bytes) end)),
-                (
-                  ap (λ b. fault_at 4 (needs (not b) NoEventAt)) (le-ltb (length bytes) 4 (omega arith)),
-                  (ap (λ (at : Place). fault_at (end_of 4 events) (needs (is_outside at) Unended)) outside, tt),
-                ),
-              ),
-            ),
-          ),
-        ),
-      ),
-    )
+    let rest : List Event = with_log_pos from (group_events ts) in
+    let pass = groups-pass Known h.agree [] from ts (record { outside = refl; known = tt }) h.are_groups in
+    let passes = pass-read from rest [] (record { pos = 4; event = format } ∷ []) refl (omega arith) pass.0 in
+    let end : end_of from rest ≡ length (laid_out format ts) = omega (arith, end-total from rest, total-placed from (group_events ts), laid-out-length format ts) in
+    ap (λ es. first_failing (lines (laid_out format ts) all es)) (written-read Known format ts h)
+    ∙ lines-pass (laid_out format ts) format rest h.short (laid-mark format ts) h.served passes end (omega (arith, laid-out-length format ts))
+    (ap (λ ps. place (reverse ps)) (written-range format ts) ∙ pass.1.outside)
 
 -- ---- groups
 

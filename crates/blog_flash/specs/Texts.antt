@@ -10,7 +10,7 @@ use Rattle.blog_trans.specs.Groups.{RowsEvent, Statement, Transaction, groups}
 use Rattle.blog_flash.specs.Reversal.{reversed}
 
 -- a rows event, the last of its statement or not; its header keeps timestamp, server id and flags
-unfoldable pub rows_event : Bool → RowsEvent → Event
+abbrev pub rows_event : Bool → RowsEvent → Event
 rows_event last r = record {
   timestamp = r.timestamp;
   kind = number_of_kind r.content.kind;

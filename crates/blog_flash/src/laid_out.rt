@@ -1,16 +1,16 @@
 //! Laying out the groups of an index as a log: in normal form, or as the log that undoes them.
 
-ghost use Rattle.std.specs.Prelude.{◌≡◌, ◌+◌, ◌≤◌, [], ◌∷◌, ◌++◌, length, take, IfOk, IfErr, vec_len, vec_capacity};
+ghost use Rattle.std.specs.Prelude.{◌≡◌, ◌+◌, ◌≤◌, List, [], ◌∷◌, ◌++◌, length, take, IfOk, IfErr, vec_len, vec_capacity};
 ghost use Rattle.blog_event.specs.Event.{event_of, event_size, unplaced};
 ghost use Rattle.blog_event.specs.File.{end_of, read};
 ghost use Rattle.blog_event.specs.declared.fault.Fault.TheVariants.{OutOfMemory};
 ghost use Rattle.blog_row.specs.RowsEventView.{rows_content};
 ghost use Rattle.blog_row.specs.RowsWriting.{content_in, written_body};
-ghost use Rattle.blog_trans.specs.Groups.{groups};
+ghost use Rattle.blog_trans.specs.Groups.{Transaction, groups};
 ghost use Rattle.blog_trans.specs.GroupEventsView.{event_seen};
 ghost use Rattle.blog_trans.specs.IndexView.{index_bytes, index_selection, index_groups};
-ghost use Rattle.blog_flash.specs.LaidOut.{text_from, rows_in, rows_seen, groups_in, transactions_of, written_event};
-ghost use Rattle.blog_flash.specs.Texts.{rows_event, group_events, laid_out_after};
+ghost use Rattle.blog_flash.specs.LaidOut.{text_from, groups_in, transactions_of, written_event, written_rows};
+ghost use Rattle.blog_flash.specs.Texts.{group_events, laid_out_after};
 
 use crate::lengths::text_len;
 use blog_event::{Event, Fault, Header, open_event_from, put_event_from};
@@ -18,16 +18,34 @@ use blog_row::{Order, RowsEvent};
 use blog_trans::{GroupEvent, Index};
 use std::alloc::Allocator;
 
-/// What stands in front of the groups: the magic number and the format description, as they are.
-pub(crate) fn front<'b, A: Allocator>(bytes: &'b [u8], index: &Index<'_, '_, A>) -> &'b [u8]
+/// What stands in front of the groups: the magic number and the format description, as they are. With the groups behind it,
+/// in an order, that is their log; with others behind it, that is the log of these.
+pub fn front<'b, A: Allocator>(bytes: &'b [u8], index: &Index<'_, '_, A>) -> &'b [u8]
     requires { bytes.now ≡ index_bytes index.now }
-    ensures { result.now ≡ laid_out_after (read (index_bytes index.now) (index_selection index.now).stop) [] }
+    ensures any { (ts : List Transaction) → result.now ++ text_from (length result.now) (group_events ts) ≡ laid_out_after (read (index_bytes index.now) (index_selection index.now).stop) ts }
+    ensures within { length result.now ≤ length bytes.now }
+    ensures text { (order : Order) → result.now ++ text_from (length result.now) (group_events (transactions_of order (index_groups index.now)))
+        ≡ laid_out_after (read (index_bytes index.now) (index_selection index.now).stop) (groups_in order (groups (index_bytes index.now) (index_selection index.now))) }
+    ensures end { (order : Order) → end_of (length result.now) (group_events (transactions_of order (index_groups index.now)))
+        ≡ length (laid_out_after (read (index_bytes index.now) (index_selection index.now).stop) (groups_in order (groups (index_bytes index.now) (index_selection index.now)))) }
+    ensures short { (order : Order) → end_of (length result.now) (group_events (transactions_of order (index_groups index.now))) ≤ 4294967295 }
 {
     &bytes[..index.log().first() as usize]
 }
 
+/// Begins a log with what stands in front of the groups.
+pub(crate) fn put_front<A: Allocator>(out: &mut Vec<u8, A>, front: &[u8])
+    requires none { out.old.items ≡ [] }
+    requires room { length front.now ≤ vec_capacity out.old }
+    ensures items { out.new.items ≡ front.now }
+    ensures len { vec_len out.new ≡ length front.now }
+    ensures capacity { vec_capacity out.old ≤ vec_capacity out.new }
+{
+    out.extend_from_slice(front).unwrap();
+}
+
 /// Appends an event as it is, with the log_pos that it has there. `out` holds the log from position `from` on.
-fn put_same<A: Allocator>(out: &mut Vec<u8, A>, from: usize, event: &Event<'_>)
+pub fn put_same<A: Allocator>(out: &mut Vec<u8, A>, from: usize, event: &Event<'_>)
     requires room { vec_len out.old + event_size (event_of event.now) ≤ vec_capacity out.old }
     requires short { from + vec_len out.old + event_size (event_of event.now) ≤ 4294967295 }
     ensures items { out.new.items ≡ out.old.items ++ text_from (from + vec_len out.old) (unplaced (event_of event.now) ∷ []) }
@@ -55,7 +73,7 @@ fn put_body_at<A: Allocator>(
 
 /// Appends a rows event, with the log_pos that it has there and without extra bytes; backward it undoes its rows, the
 /// last one first. `out` holds the log from position `from` on.
-fn put_rows_event<A: Allocator>(
+pub fn put_rows_event<A: Allocator>(
     out: &mut Vec<u8, A>,
     from: usize,
     order: Order,
@@ -63,10 +81,10 @@ fn put_rows_event<A: Allocator>(
     rows: &RowsEvent<'_>,
     last: bool,
 )
-    requires room { vec_len out.old + event_size (rows_event last (rows_in order (rows_seen event.now rows.now))) ≤ vec_capacity out.old }
-    requires short { from + vec_len out.old + event_size (rows_event last (rows_in order (rows_seen event.now rows.now))) ≤ 4294967295 }
-    ensures items { out.new.items ≡ out.old.items ++ text_from (from + vec_len out.old) (rows_event last (rows_in order (rows_seen event.now rows.now)) ∷ []) }
-    ensures len { vec_len out.new ≡ vec_len out.old + event_size (rows_event last (rows_in order (rows_seen event.now rows.now))) }
+    requires room { vec_len out.old + event_size (written_rows order last event.now rows.now) ≤ vec_capacity out.old }
+    requires short { from + vec_len out.old + event_size (written_rows order last event.now rows.now) ≤ 4294967295 }
+    ensures items { out.new.items ≡ out.old.items ++ text_from (from + vec_len out.old) (written_rows order last event.now rows.now ∷ []) }
+    ensures len { vec_len out.new ≡ vec_len out.old + event_size (written_rows order last event.now rows.now) }
     ensures capacity { vec_capacity out.old ≤ vec_capacity out.new }
 {
     let header = Header {
@@ -131,10 +149,10 @@ pub fn lay_out<A: Allocator, B: Allocator>(
     ensures ok { IfOk result (λ text. text.items ≡ laid_out_after (read (index_bytes index.now) (index_selection index.now).stop) (groups_in order (groups (index_bytes index.now) (index_selection index.now)))) }
     ensures refused { IfErr result (λ fault. fault ≡ OutOfMemory) }
 {
-    let Ok(mut out) = Vec::with_capacity(alloc, text_len(index)) else {
+    let Ok(mut out) = Vec::with_capacity(alloc, text_len(index, order)) else {
         return Err(Fault::OutOfMemory);
     };
-    out.extend_from_slice(front(bytes, index)).unwrap();
+    put_front(&mut out, front(bytes, index));
     put_transactions(&mut out, index, order);
     Ok(out)
 }

@@ -15,7 +15,9 @@ mod written_out;
 pub use blog_device::{RunFault, Watched, put};
 pub use blog_event::Fault;
 pub use blog_trans::Selection;
-pub use modes::{Mode, answer, flashback, forward, sql, summary};
+pub use laid_out::{front, put_rows_event, put_same};
+pub use modes::{Mode, answer, flashback, forward, selected, sql, summary};
+pub use printed::put_table;
 pub use runs::{prepare, run, run_by_chunks};
 pub use theorems::{
     every_stop_stands, flashback_undoes, forward_is_normal, groups_show_each_event_once,

@@ -35,7 +35,7 @@ pub enum Mode {
 }
 
 /// The selected groups of a log.
-pub(crate) fn selected<'a, 's, A: Allocator + Copy>(
+pub fn selected<'a, 's, A: Allocator + Copy>(
     alloc: A,
     bytes: &'a [u8],
     sel: &Selection<'s>,

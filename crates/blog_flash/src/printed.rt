@@ -68,8 +68,8 @@ fn put_quoted<A: Allocator>(out: &mut Vec<u8, A>, name: &[u8]) -> Result<(), All
     Ok(())
 }
 
-/// Appends the names of a schema and of a table in it.
-pub(crate) fn put_table<A: Allocator>(
+/// Appends the names of a schema and of a table in it, each between backticks, with a point between them.
+pub fn put_table<A: Allocator>(
     out: &mut Vec<u8, A>,
     schema: &[u8],
     table: &[u8],

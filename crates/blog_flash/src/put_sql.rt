@@ -1,34 +1,28 @@
 //! Groups as pseudo-SQL.
 
 ghost use Rattle.std.specs.Prelude.{◌≡◌, ◌+◌, ◌≤◌, ◌++◌, length, IfOk, OnOk, IsOk, vec_len, vec_capacity};
-ghost use Rattle.blog_row.specs.LayoutView.{layout_columns};
-ghost use Rattle.blog_row.specs.RowsEvent.{rows_by};
-ghost use Rattle.blog_row.specs.RowsEventView.{rows_kind, rows_layout, rows_body};
-ghost use Rattle.blog_row.specs.TableMap.{map_names};
+ghost use Rattle.blog_trans.specs.declared.group_events.GroupEvent.TheVariants as GroupEvent;
 ghost use Rattle.blog_trans.specs.Groups.{groups};
-ghost use Rattle.blog_trans.specs.GroupEventsView.{event_seen, IsWhole};
+ghost use Rattle.blog_trans.specs.GroupEventsView.{event_seen, IsByMap, IsWhole};
 ghost use Rattle.blog_trans.specs.IndexView.{index_bytes, index_selection};
 ghost use Rattle.blog_flash.specs.Printed.{sql_text};
-ghost use Rattle.blog_flash.specs.PrintedRows.{event_lines, images_lines};
+ghost use Rattle.blog_flash.specs.PrintedRows.{event_lines};
 
 use crate::printed::{put_change, put_line};
-use blog_row::{Order, RowsEvent, TableMap};
-use blog_trans::{GroupEvent, Index};
+use blog_row::Order;
+use blog_trans::{GroupEvent, GroupRows, Index};
 use std::alloc::{AllocError, Allocator};
 
 /// Appends the rows of a rows event.
-fn put_changes<A: Allocator>(
-    out: &mut Vec<u8, A>,
-    map: &TableMap<'_>,
-    rows: &RowsEvent<'_>,
-) -> Result<(), AllocError>
-    ensures ok { OnOk result (out.new.items ≡ out.old.items ++ images_lines (map_names map.now).table (layout_columns (rows_layout rows.now)) (rows_by (rows_kind rows.now).action (rows_body rows.now).images)) }
-    ensures room { vec_len out.old + length (images_lines (map_names map.now).table (layout_columns (rows_layout rows.now)) (rows_by (rows_kind rows.now).action (rows_body rows.now).images)) ≤ vec_capacity out.old → IsOk result }
+fn put_changes<A: Allocator>(out: &mut Vec<u8, A>, group: &GroupRows<'_>) -> Result<(), AllocError>
+    requires { IsByMap group.now }
+    ensures ok { OnOk result (out.new.items ≡ out.old.items ++ event_lines (event_seen (GroupEvent.Rows group.now))) }
+    ensures room { vec_len out.old + length (event_lines (event_seen (GroupEvent.Rows group.now))) ≤ vec_capacity out.old → IsOk result }
     ensures capacity { vec_capacity out.old ≤ vec_capacity out.new }
 {
-    let layout = rows.layout();
-    for row in rows.rows() {
-        put_change(out, map, &layout, &row)?;
+    let layout = group.rows.layout();
+    for row in group.rows.rows() {
+        put_change(out, &group.table, &layout, &row)?;
     }
     Ok(())
 }
@@ -46,7 +40,7 @@ fn put_group_event<A: Allocator>(
     match event {
         GroupEvent::Begin(_) => put_line(out, b"BEGIN"),
         GroupEvent::Map(_) => Ok(()),
-        GroupEvent::Rows(rows) => put_changes(out, &rows.table, &rows.rows),
+        GroupEvent::Rows(rows) => put_changes(out, rows),
         GroupEvent::End(_) => put_line(out, b"COMMIT"),
     }
 }

@@ -14,7 +14,7 @@ ghost use Rattle.blog_flash.specs.LaidOut.{text_from, groups_in, transactions_of
 ghost use Rattle.blog_flash.specs.Runs.{IsWritten, ends_before_writing};
 ghost use Rattle.blog_flash.specs.Texts.{group_events, laid_out_after};
 
-use crate::laid_out::{front, put_group_event};
+use crate::laid_out::{front, put_front, put_group_event};
 use crate::lengths::event_len;
 use blog_device::{RunFault, Watched, put, put_part};
 use blog_event::Fault;
@@ -103,6 +103,6 @@ pub(crate) fn write_out<A: Allocator, B: Allocator, W: Write>(
     let Ok(mut chunk) = Vec::with_capacity(alloc, room) else {
         return Err(RunFault::Log(Fault::OutOfMemory));
     };
-    chunk.extend_from_slice(front).unwrap();
+    put_front(&mut chunk, front);
     write_groups(writer, &mut chunk, index, order)
 }

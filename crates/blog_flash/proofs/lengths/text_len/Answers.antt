@@ -1,31 +1,28 @@
-use Rattle.std.proofs.Common.{◌+◌, map, ap, sym, ◌∙◌, arith}
-use Rattle.blog_event.specs.Event.{event_size}
-use Rattle.blog_event.specs.File.{end_of}
-use Rattle.blog_row.specs.declared.order.Order.TheVariants.{Forward}
-use Rattle.blog_trans.specs.GroupEventsView.{event_seen, events_left}
+use Rattle.std.proofs.Common.{◌+◌, map, ap, ◌∙◌, arith}
+use Rattle.blog_event.specs.Event.{event_of}
+use Rattle.blog_trans.specs.GroupEventsView.{events_left}
 use Rattle.blog_trans.specs.IndexView.{index_bytes, index_groups, index_selection}
 use Rattle.blog_flash.specs.LaidOut.{written_event}
-use Rattle.blog_flash.proofs.LayingOut.{log-end}
 use Rattle.blog_flash.proofs.InTurn.{written-in-turn}
-use Rattle.blog_flash.proofs.Placing.{end-above}
+use Rattle.blog_flash.proofs.LayingOut.{IsOpened, laid-length, laid-within}
+use Rattle.blog_flash.proofs.Sizes.{total}
 use Rattle.blog_flash.proofs.lengths.text_len.Goals as goal
 
 pub loop-event-init : goal.loop-event-init
 loop-event-init g c =
     let index = c.args.index.now in
-    let left = ap (λ events. map (written_event Forward) (events_left events)) c.into_iter-event-iterator.ensures.into_iter_gives ∙ ap (map (written_event Forward)) c.in_turn-event-items.ensures ∙ written-in-turn Forward (index_groups index) in
-    let end = log-end c.log.result Forward (index_bytes index) (index_selection index) c.first-end.result c.log.ensures.bytes c.first-end.ensures.event in
-    record { next = tt; finite = tt; ends = ap (end_of c.first-end.result) left ∙ sym end }
+    let left = ap (λ events. map (written_event c.args.order) (events_left events)) c.into_iter-event-iterator.ensures.into_iter_gives
+    ∙ ap (map (written_event c.args.order)) c.in_turn-event-items.ensures ∙ written-in-turn c.args.order (index_groups index) in
+    let opened : IsOpened (index_bytes index) (index_selection index) (event_of index.log.format) = record { accepted = index.accepted; mark = index.log.mark; stands = index.log.stands } in
+    let end = laid-length c.args.order _ _ _ c.first-end.result opened (rw c.log.ensures.bytes at c.first-end.ensures.event) in
+    record { next = tt; finite = tt; end = ap (λ es. c.first-end.result + total es) left ∙ end; short = omega (arith, laid-within c.args.order _ _ _ opened, index.log.short) }
 
 pub event_len-end-requires : goal.event_len-end-requires
 event_len-end-requires g c =
-    let next = ap (λ events. end_of c.loop-event.end (map (written_event Forward) events)) c.in-Some.ensures.steps.first in
-    let behind = end-above (c.loop-event.end + event_size (written_event Forward (event_seen c.in-Some.event))) (map (written_event Forward) (events_left c.next.new.self)) in
-    record { short = (Forward, omega (arith, next, behind, c.loop-event.invariant.ends, c.requires.short)) }
+    let next = ap (λ events. total (map (written_event c.args.order) events)) c.in-Some.ensures.steps.first in
+    record { short = (c.args.order, omega (arith, next, c.loop-event.invariant.end, c.loop-event.invariant.short)) }
 
 pub overflow_add-end : goal.overflow_add-end
 overflow_add-end g c =
-    let next = ap (λ events. end_of c.loop-event.end (map (written_event Forward) events)) c.in-Some.ensures.steps.first in
-    let behind = end-above (c.loop-event.end + event_size (written_event Forward (event_seen c.in-Some.event))) (map (written_event Forward) (events_left c.next.new.self)) in
-    let size = c.event_len-end.ensures Forward in
-    omega (arith, next, behind, size, c.loop-event.invariant.ends, c.requires.short)
+    let next = ap (λ events. total (map (written_event c.args.order) events)) c.in-Some.ensures.steps.first in
+    omega (arith, next, c.event_len-end.ensures c.args.order, c.loop-event.invariant.end, c.loop-event.invariant.short)

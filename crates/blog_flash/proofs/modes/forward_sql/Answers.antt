@@ -1,6 +1,7 @@
 use Rattle.blog_trans.specs.Selection.{selection_of}
-use Rattle.blog_flash.proofs.Answering.{sql-answers}
+use Rattle.blog_flash.specs.declared.modes.Mode.TheVariants.{ForwardSql}
+use Rattle.blog_flash.proofs.Answering.{output-answers, output-sql}
 use Rattle.blog_flash.proofs.modes.forward_sql.Goals as goal
 
 pub returns : goal.returns
-returns g c = sql-answers c.args.bytes.now (selection_of c.args.sel.now) c.printed.result c.printed.ensures.accepted c.printed.ensures.text c.printed.ensures.refused
+returns g c = output-answers c.args.bytes.now ForwardSql (selection_of c.args.sel.now) _ c.printed.result (output-sql _ _) c.printed.ensures.accepted c.printed.ensures.text c.printed.ensures.refused

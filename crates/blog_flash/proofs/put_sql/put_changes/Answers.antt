@@ -1,15 +1,23 @@
-use Rattle.std.proofs.Common.{ap}
+use Rattle.std.proofs.Common.{ap, sym, ◌∙◌, ◌++◌, arith}
 use Rattle.blog_row.specs.LayoutView.{layout_columns}
 use Rattle.blog_row.specs.RowsView.{row_seen, rows_left}
 use Rattle.blog_row.specs.TableMap.{map_names}
 use Rattle.blog_flash.specs.PrintedRows.{image_lines, images_lines}
+use Rattle.blog_flash.proofs.PrintedParts.{seen-lines}
 use Rattle.blog_flash.proofs.Printing.{not-refused, part-fits}
 use Rattle.blog_flash.proofs.put_sql.put_changes.Goals as goal
 
+pub loop-row-init : goal.loop-row-init
+loop-row-init g c =
+    let group = c.args.group.now in
+    let rows = ap (λ rows. images_lines (map_names group.table).table (layout_columns group.rows.layout) (rows_left rows)) c.into_iter-row-iterator.ensures.into_iter_gives
+    ∙ ap (images_lines (map_names group.table).table (layout_columns group.rows.layout)) c.rows-row-items.ensures.rows in
+    record { next = tt; finite = tt; text = ap (λ text. c.args.out.now.items ++ text) (rows ∙ sym (seen-lines group c.requires)); capacity = omega arith }
+
 pub returns-in_err-put_change-clause-room : goal.returns-in_err-put_change-clause-room
 returns-in_err-put_change-clause-room g c enough =
-    let table = (map_names c.args.map.now).table in
-    let layout = layout_columns c.args.rows.now.layout in
+    let table = (map_names c.args.group.now.table).table in
+    let layout = layout_columns c.args.group.now.rows.layout in
     let row = row_seen c.in-Some.row in
     let next = ap (images_lines table layout) c.in-Some.ensures.steps in
     let fits = part-fits _ _ _ _ (image_lines table layout row.before row.after) (images_lines table layout (rows_left c.next.new.self))

@@ -11,10 +11,9 @@ use Rattle.blog_flash.proofs.runs.write_log.Goals as goal
 
 pub returns-clause-written : goal.returns-clause-written
 returns-clause-written g c =
-    let log = c.args.bytes.now in
     let sel = selection_of c.args.sel.now in
     let had = g.W.Write.contents (device_of c.args.writer.now) in
     let has = g.W.Write.contents (device_of c.write_out.new.writer) in
     let same = ap₂ (λ (bytes : List ℕ) (own : Selection). laid_out_after (read bytes own.stop) (groups_in c.args.order (groups bytes own))) c.in-Ok.ensures.bytes c.in-Ok.ensures.selection in
-    output-written log (mode_in c.args.order) sel had has _ c.write_out.result (output-laid c.args.order log sel (λ i. omega (arith, c.type_inv.bytes i)) c.in-Ok.ensures.accepted)
+    output-written c.args.bytes.now (mode_in c.args.order) sel had has _ c.write_out.result (output-laid c.args.order c.args.bytes.now sel (λ i. omega (arith, c.type_inv.bytes i)) c.in-Ok.ensures.accepted)
     (subst (λ text. IsWritten had has text c.write_out.result) same c.write_out.ensures.written)
