@@ -6,7 +6,7 @@ use Rattle.blog_event.specs.File.{Placed}
 use Rattle.blog_trans.specs.Groups.{cons_if}
 use Rattle.blog_trans.specs.Places.{kind_at}
 use Rattle.blog_units.specs.declared.part.Part.{Part}
-use Rattle.blog_units.specs.Units.{Unit, begun, continued, end_behind, goes_on, is_query_or_rows, opened_by, rest_of, units_in}
+use Rattle.blog_units.specs.Units.{Unit, begun, continued, end_behind, goes_on, is_query_or_rows, opened_by, part_behind, rest_of, units_in}
 use Rattle.blog_units.specs.UnitsView.{HasStopped, time_of, time_with}
 
 -- what is left of a unit of this part, whose events begin at a position, in front of others: where it stops, the time, and
@@ -15,9 +15,10 @@ pub record IsGone (from at : ℕ) (part : Option Part) (known time : Option ℕ)
   pub stops : end_behind from (rest_of part ps) ≡ end_behind at (rest_of now qs)
   pub units_are : units_in part ps ≡ units_in now qs
   pub time_is : time_of known (rest_of part ps) ≡ time_of time (rest_of now qs)
+  pub last_is : part_behind part (rest_of part ps) ≡ part_behind now (rest_of now qs)
 
 pub gone-start : (at : ℕ) (part : Option Part) (known : Option ℕ) (ps : List Placed) → IsGone at at part known known part ps ps
-gone-start at part known ps = record { stops = refl; units_are = refl; time_is = refl }
+gone-start at part known ps = record { stops = refl; units_are = refl; time_is = refl; last_is = refl }
 
 pub time-with-more : (time : Option ℕ) (p : Placed) (rest : List Placed) → time_of time (p ∷ rest) ≡ time_of (time_with time p) rest
 time-with-more (Some time) p rest = refl
@@ -38,6 +39,7 @@ gone-on from at n part known time now ps qs later p gone is goes ends =
       units_are = gone.units_are ∙ ap (units_in (Some now)) is
           ∙ ap (λ b. if b then units_in (continued now p) later else begun (kind_at p) p later (λ part. units_in part later)) goes;
       time_is = gone.time_is ∙ ap (time_of time) rest_is ∙ time-with-more time p (rest_of (continued now p) later);
+      last_is = gone.last_is ∙ ap (part_behind (Some now)) rest_is;
     }
 
 -- the unit has ended
@@ -46,26 +48,27 @@ time-none (Some time) = refl
 time-none None = refl
 
 ended : (from at : ℕ) (part : Part) (known time : Option ℕ) (now : Option Part) (ps qs : List Placed) → IsGone from at (Some part) known time now ps qs
-    → rest_of now qs ≡ [] → units_in now qs ≡ units_in None qs → HasStopped from at part known time ps qs
+    → rest_of now qs ≡ [] → units_in now qs ≡ units_in None qs → HasStopped from at part known time now ps qs
 ended from at part known time now ps qs gone none same = record {
   stops = sym (gone.stops ∙ ap (end_behind at) none);
   units_are = gone.units_are ∙ same;
   time_is = sym (gone.time_is ∙ ap (time_of time) none ∙ time-none time);
+  last_is = sym (gone.last_is ∙ ap (part_behind now) none);
 }
 
 -- with its last event
-pub gone-ended : (from at : ℕ) (part : Part) (known time : Option ℕ) (ps qs : List Placed) → IsGone from at (Some part) known time None ps qs → HasStopped from at part known time ps qs
+pub gone-ended : (from at : ℕ) (part : Part) (known time : Option ℕ) (ps qs : List Placed) → IsGone from at (Some part) known time None ps qs → HasStopped from at part known time None ps qs
 gone-ended from at part known time ps qs gone = ended from at part known time None ps qs gone refl refl
 
 -- with the log
 pub gone-over : (from at : ℕ) (part : Part) (known time : Option ℕ) (now : Part) (ps qs : List Placed) → IsGone from at (Some part) known time (Some now) ps qs → qs ≡ []
-    → HasStopped from at part known time ps qs
+    → HasStopped from at part known time (Some now) ps qs
 gone-over from at part known time now ps qs gone is =
     ended from at part known time (Some now) ps qs gone (ap (rest_of (Some now)) is) (ap (units_in (Some now)) is ∙ sym (ap (units_in None) is))
 
 -- in front of an event that it doesn't go on with
 pub gone-before : (from at : ℕ) (part : Part) (known time : Option ℕ) (now : Part) (ps qs later : List Placed) (p : Placed) → IsGone from at (Some part) known time (Some now) ps qs
-    → qs ≡ p ∷ later → goes_on now (kind_at p) ≡ false → HasStopped from at part known time ps qs
+    → qs ≡ p ∷ later → goes_on now (kind_at p) ≡ false → HasStopped from at part known time (Some now) ps qs
 gone-before from at part known time now ps qs later p gone is goes =
     ended from at part known time (Some now) ps qs gone
     (ap (rest_of (Some now)) is ∙ ap (λ b. if b then p ∷ rest_of (continued now p) later else []) goes)

@@ -68,6 +68,18 @@ rest_of None ps = []
 rest_of (Some part) [] = []
 rest_of (Some part) (p ∷ ps) = if goes_on part (kind_at p) then p ∷ rest_of (continued part p) ps else []
 
+-- what a unit has behind events with which it goes on
+abbrev pub part_behind : Option Part → List Placed → Option Part
+part_behind part [] = part
+part_behind None (p ∷ ps) = None
+part_behind (Some part) (p ∷ ps) = part_behind (continued part p) ps
+
+-- it isn't a transaction that has no end, or a Gtid event without one
+abbrev pub is_whole : Option Part → Bool
+is_whole (Some Gtid) = false
+is_whole (Some Transaction) = false
+is_whole _ = true
+
 -- a unit: its first event and the others
 pub record Unit : Type 0 where
   pub first : Placed
@@ -111,12 +123,14 @@ id_of e =
     then Some (record { server = take 16 (drop 1 e.body); number = little_number 8 (drop 17 e.body) }) else None
 
 -- Where a unit starts and where it stops, in bytes from the file's start; the time of its first Query or rows event, of its
--- first event where there is none, in seconds since 1970 in UTC; and its global transaction id, where it begins with one.
+-- first event where there is none, in seconds since 1970 in UTC; its global transaction id, where it begins with one; and
+-- whether it is whole.
 pub record Facts : Type 0 where
   pub start : ℕ
   pub stop : ℕ
   pub time : ℕ
   pub id : Option Id
+  pub whole : Bool
 
 abbrev pub facts_of : Unit → Facts
 facts_of u = record {
@@ -124,6 +138,7 @@ facts_of u = record {
   stop = end_behind (u.first.pos + event_size u.first.event) u.rest;
   time = option_map_or (λ p. p.event.timestamp) (find is_query_or_rows (u.first ∷ u.rest)) u.first.event.timestamp;
   id = id_of u.first.event;
+  whole = is_whole (part_behind (opened_by (kind_at u.first)) u.rest);
 }
 
 -- the range from a start to a stop, of all tables

@@ -10,13 +10,13 @@ use Rattle.blog_event.specs.LogView.{log_bytes}
 use Rattle.blog_trans.specs.Acceptance.{fault, IsAccepted, IsRefusal}
 use Rattle.blog_trans.specs.declared.groups.Index.{Index}
 use Rattle.blog_trans.specs.IndexView.{index_bytes, index_selection}
-use Rattle.blog_trans.specs.Places.{placed}
+use Rattle.blog_trans.specs.Places.{kind_at, placed}
 use Rattle.blog_units.specs.declared.part.Part.{Part}
 use Rattle.blog_units.specs.declared.unit.GlobalId as told
 use Rattle.blog_units.specs.declared.unit.Unit as given
 use Rattle.blog_units.specs.declared.units.Units.{Units}
 use Rattle.blog_units.specs.Boundaries.{IsBoundary, events_behind}
-use Rattle.blog_units.specs.Units.{Facts, Id, between, end_behind, facts_of, is_query_or_rows, rest_of, units_in}
+use Rattle.blog_units.specs.Units.{Facts, Id, between, end_behind, facts_of, is_query_or_rows, opened_by, part_behind, rest_of, units_in}
 
 -- an id of the program, without where its bytes lie
 abbrev pub id_told : told.GlobalId → Id
@@ -24,7 +24,7 @@ id_told id = record { server = id.server.now; number = id.number }
 
 -- what a unit of the program tells
 abbrev pub facts_told : {A : Type 0} → given.Unit A → Facts
-facts_told unit = record { start = unit.start; stop = unit.stop; time = unit.time; id = option_map id_told unit.id }
+facts_told unit = record { start = unit.start; stop = unit.stop; time = unit.time; id = option_map id_told unit.id; whole = unit.whole }
 
 -- these are the groups of the range from a start to a stop, or this is the range's fault
 abbrev pub AreGroups : {A : Type 0} → List ℕ → ℕ → ℕ → Result (Index A) Fault → Type 0
@@ -38,6 +38,7 @@ IsJudged bytes unit = AreGroups bytes unit.start unit.stop unit.groups
 
 -- the first event, from a position on, that begins a unit, which has this part with it
 pub record IsFirst (bytes : List ℕ) (from : ℕ) (found : event.Event × Part) : Type 0 where
+  pub opened : opened_by (kind_at (placed found.0)) ≡ Some found.1
   pub units : units_in None (events_behind bytes from)
       ≡ record { first = placed found.0; rest = rest_of (Some found.1) (events_behind bytes (found.0.pos + found.0.header.size)) } ∷ units_in (Some found.1) (events_behind bytes (found.0.pos + found.0.header.size))
   pub size : found.0.header.size ≡ event_size (event_of found.0)
@@ -50,12 +51,13 @@ abbrev pub time_of : Option ℕ → List Placed → Option ℕ
 time_of (Some time) ps = Some time
 time_of None ps = option_map (λ p. p.event.timestamp) (find is_query_or_rows ps)
 
--- A unit of this part goes on from a position and stops at another, and this is its time. The events behind the one and the
--- other are these.
-pub record HasStopped (from at : ℕ) (part : Part) (known time : Option ℕ) (ps qs : List Placed) : Type 0 where
+-- A unit of this part goes on from a position and stops at another; this is its time, and what it has then. The events
+-- behind the one position and the other are these.
+pub record HasStopped (from at : ℕ) (part : Part) (known time : Option ℕ) (last : Option Part) (ps qs : List Placed) : Type 0 where
   pub stops : at ≡ end_behind from (rest_of (Some part) ps)
   pub units_are : units_in (Some part) ps ≡ units_in None qs
   pub time_is : time ≡ time_of known (rest_of (Some part) ps)
+  pub last_is : last ≡ part_behind (Some part) (rest_of (Some part) ps)
 
 -- the time with one more event
 abbrev pub time_with : Option ℕ → Placed → Option ℕ

@@ -4,7 +4,7 @@ ghost use Rattle.std.specs.Prelude.{◌≡◌, ◌≤◌, [], None, Some, IfSome
 ghost use Rattle.blog_event.specs.Event.{event_of};
 ghost use Rattle.blog_event.specs.LogView.{log_bytes};
 ghost use Rattle.blog_units.specs.Boundaries.{IsBoundary, events_behind};
-ghost use Rattle.blog_units.specs.Units.{id_of, units_in};
+ghost use Rattle.blog_units.specs.Units.{id_of, is_whole, units_in};
 ghost use Rattle.blog_units.specs.UnitsView.{AreGroups, HasStopped, IsFirst, id_told, time_with};
 ghost use Rattle.blog_trans.specs.Places.{placed};
 
@@ -36,6 +36,9 @@ pub struct Unit<'a, A: Allocator = Global> {
     pub time: u32,
     /// Its global transaction id, where it begins with one.
     pub id: Option<GlobalId<'a>>,
+    /// Whether it is whole: no transaction without an end, and no Gtid event without a transaction or a statement. The log goes
+    /// on behind such a unit with another one, or ends there.
+    pub whole: bool,
     /// What it changes: the groups of the range from its start to its stop; or why that range is refused.
     pub groups: Result<Index<'a, 'static, A>, Fault>,
 }
@@ -70,6 +73,16 @@ pub(crate) fn next_first<'a>(log: &Log<'a>, from: u32) -> Option<(Event<'a>, Par
     None
 }
 
+/// Whether a unit that has this at its end is whole.
+pub(crate) fn is_whole(part: Option<Part>) -> bool
+    ensures { result ≡ is_whole part }
+{
+    match part {
+        Some(Part::Gtid | Part::Transaction) => false,
+        _ => true,
+    }
+}
+
 /// The time that is known, or else that of an event, if it is a Query or a rows event.
 pub(crate) fn time_with(known: Option<u32>, event: &Event<'_>) -> Option<u32>
     ensures { result ≡ time_with known (placed event.now) }
@@ -81,16 +94,16 @@ pub(crate) fn time_with(known: Option<u32>, event: &Event<'_>) -> Option<u32>
     }
 }
 
-/// Goes through the events with which a unit goes on that has a part, from a position on. Answers where the unit stops, and
-/// the time of its first Query or rows event, which may be known already.
+/// Goes through the events with which a unit goes on that has a part, from a position on. Answers where the unit stops,
+/// the time of its first Query or rows event, which may be known already, and what it has then.
 pub(crate) fn go_through(
     log: &Log<'_>,
     from: u32,
     part: Part,
     known: Option<u32>,
-) -> (u32, Option<u32>)
+) -> (u32, Option<u32>, Option<Part>)
     requires boundary { IsBoundary (log_bytes log.now) from }
-    ensures stopped { HasStopped from result.0 part known result.1 (events_behind (log_bytes log.now) from) (events_behind (log_bytes log.now) result.0) }
+    ensures stopped { HasStopped from result.0 part known result.1 result.2 (events_behind (log_bytes log.now) from) (events_behind (log_bytes log.now) result.0) }
     ensures boundary { IsBoundary (log_bytes log.now) result.0 }
     ensures behind { from ≤ result.0 }
 {
@@ -99,16 +112,16 @@ pub(crate) fn go_through(
     let mut open = Some(part);
     'events: while let Some(part) = open {
         let Ok(event) = log.event_at(at) else {
-            return (at, time);
+            return (at, time, open);
         };
         if !part.goes_on(event_kind(&event)) {
-            return (at, time);
+            return (at, time, open);
         }
         time = time_with(time, &event);
         open = part.continued(&event);
         at += event.header.size;
     }
-    (at, time)
+    (at, time, None)
 }
 
 /// The groups of the range from a start to a stop, or why it is refused.

@@ -4,7 +4,7 @@ ghost use Rattle.std.specs.Prelude.{◌≡◌, length, map};
 ghost use Rattle.blog_event.specs.LogView.{log_bytes};
 ghost use Rattle.blog_units.specs.Boundaries.{IsBoundary};
 
-use crate::unit::{Unit, global_id, go_through, groups_between, next_first, time_with};
+use crate::unit::{Unit, global_id, go_through, groups_between, is_whole, next_first, time_with};
 use blog_event::Log;
 use std::alloc::{Allocator, Global};
 
@@ -48,13 +48,14 @@ impl<'a, A: Allocator + Copy> Iterator for Units<'a, A> {
         let (first, part) = next_first(&self.log, self.at)?;
         let start = first.pos;
         let known = time_with(None, &first);
-        let (stop, time) = go_through(&self.log, start + first.header.size, part, known);
+        let (stop, time, last) = go_through(&self.log, start + first.header.size, part, known);
         self.at = stop;
         Some(Unit {
             start,
             stop,
             time: time.unwrap_or(first.header.timestamp),
             id: global_id(&first),
+            whole: is_whole(last),
             groups: groups_between(self.alloc, &self.log, start, stop),
         })
     }

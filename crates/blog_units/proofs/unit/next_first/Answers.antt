@@ -25,9 +25,11 @@ returns-in-Some-clause-some c =
     let stands = sym c.in-Ok.ensures.event in
     let pos = sym c.in-Ok.ensures.pos in
     let behind = behind-event bytes at e stands c.in-Ok.ensures.pos c.in-Ok.ensures.size in
+    let opened = ap opened_by (sym c.event_kind.ensures) ∙ sym c.opened_by.ensures ∙ c.in-Some.is in
     record {
+      opened = opened;
       units = c.between.invariant.units
-          ∙ between-first (events_behind bytes at) (events_behind bytes (at + e.header.size)) (placed e) c.in-Some.part behind (ap opened_by (sym c.event_kind.ensures) ∙ sym c.opened_by.ensures ∙ c.in-Some.is)
+          ∙ between-first (events_behind bytes at) (events_behind bytes (at + e.header.size)) (placed e) c.in-Some.part behind opened
           ∙ ap (λ (n : ℕ). record { first = placed e; rest = rest_of (Some c.in-Some.part) (events_behind bytes (n + e.header.size)) } ∷ units_in (Some c.in-Some.part) (events_behind bytes (n + e.header.size))) pos;
       size = c.in-Ok.ensures.size;
       boundary = subst (IsBoundary bytes) pos c.between.invariant.boundary;

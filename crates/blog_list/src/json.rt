@@ -1,0 +1,156 @@
+//! Units as lines of JSON.
+
+use crate::beginning::{Beginning, statement_of};
+use crate::lines::Id;
+use crate::times::Seconds;
+use crate::totals::Totals;
+use blog_event::{Fault, Log};
+use blog_trans::TableCount;
+use blog_units::Unit;
+use bstr::ByteSlice;
+use serde::Serialize;
+use std::alloc::{AllocError, Allocator, Global};
+
+/// How many columns of a statement's text are printed.
+const TEXT_COLUMNS: usize = 1000;
+
+/// The numbers of a table's rows. Names that aren't UTF-8 stand in hexadecimal digits as well.
+#[derive(Drop, Serialize)]
+struct TableLine {
+    schema: String,
+    #[serde(skip_serializing_if = "Option::is_none")]
+    schema_hex: Option<String>,
+    table: String,
+    #[serde(skip_serializing_if = "Option::is_none")]
+    table_hex: Option<String>,
+    inserts: u64,
+    updates: u64,
+    deletes: u64,
+}
+
+#[derive(Drop, Serialize)]
+struct UnitLine {
+    start: u32,
+    stop: u32,
+    time: String,
+    gtid: Option<String>,
+    #[serde(skip_serializing_if = "Option::is_none")]
+    tables: Option<Vec<TableLine>>,
+    #[serde(skip_serializing_if = "Option::is_none")]
+    fault: Option<String>,
+    #[serde(skip_serializing_if = "Option::is_none")]
+    position: Option<u32>,
+    #[serde(skip_serializing_if = "Option::is_none")]
+    statement: Option<String>,
+}
+
+#[derive(Drop, Serialize)]
+struct TotalsLine {
+    units: u64,
+    not_undoable: u64,
+    rows: u64,
+}
+
+/// Appends the line of a unit.
+pub(crate) fn put_unit<A: Allocator + Copy, B: Allocator>(
+    global: Global,
+    out: &mut Vec<u8, A>,
+    log: &Log<'_>,
+    unit: &Unit<'_, B>,
+) -> Result<(), AllocError> {
+    let gtid = match unit.id {
+        Some(id) => Some(format!(in global; "{}", Id(id))?),
+        None => None,
+    };
+    let mut line = UnitLine {
+        start: unit.start,
+        stop: unit.stop,
+        time: format!(in global; "{}", Seconds(unit.time))?,
+        gtid,
+        tables: None,
+        fault: None,
+        position: None,
+        statement: None,
+    };
+    match &unit.groups {
+        Ok(groups) => {
+            let mut tables = Vec::new(global);
+            for n in 0..groups.tables() {
+                tables.push(table_line(global, &groups.table(n))?)?;
+            }
+            line.tables = Some(tables);
+        }
+        Err(fault) => {
+            line.fault = Some(name_of(global, fault)?);
+            line.position = fault.at();
+            line.statement = match statement_of(log, fault, unit.stop) {
+                Some(text) => {
+                    let columns = TEXT_COLUMNS;
+                    Some(format!(in global; "{}", Beginning { text, columns })?)
+                }
+                None => None,
+            };
+        }
+    }
+    put_line(global, out, &line)
+}
+
+/// Appends the last line.
+pub(crate) fn put_totals<A: Allocator>(
+    global: Global,
+    out: &mut Vec<u8, A>,
+    totals: &Totals,
+) -> Result<(), AllocError> {
+    let line = TotalsLine {
+        units: totals.units,
+        not_undoable: totals.refused,
+        rows: totals.rows,
+    };
+    put_line(global, out, &line)
+}
+
+fn put_line<A: Allocator, T: Serialize>(
+    global: Global,
+    out: &mut Vec<u8, A>,
+    line: &T,
+) -> Result<(), AllocError> {
+    let Ok(text) = serde_json::to_string(global, line) else {
+        return Err(AllocError);
+    };
+    out.extend_from_slice(text.as_bytes())?;
+    out.extend_from_slice(b"\n")
+}
+
+fn table_line(global: Global, count: &TableCount<'_>) -> Result<TableLine, AllocError> {
+    Ok(TableLine {
+        schema: lossy(global, count.schema)?,
+        schema_hex: digits(global, count.schema)?,
+        table: lossy(global, count.table)?,
+        table_hex: digits(global, count.table)?,
+        inserts: count.inserts,
+        updates: count.updates,
+        deletes: count.deletes,
+    })
+}
+
+/// The text of bytes, with U+FFFD for what is no character.
+fn lossy(global: Global, bytes: &[u8]) -> Result<String, AllocError> {
+    let mut text = String::new(global);
+    bytes.to_str_lossy_into(&mut text)?;
+    Ok(text)
+}
+
+/// The hexadecimal digits of bytes that aren't UTF-8.
+fn digits(global: Global, bytes: &[u8]) -> Result<Option<String>, AllocError> {
+    if str::from_utf8(bytes).is_ok() {
+        return Ok(None);
+    }
+    Ok(Some(hex::encode_upper(global, bytes)?))
+}
+
+/// The name of a fault, without its position.
+fn name_of(global: Global, fault: &Fault) -> Result<String, AllocError> {
+    let text = format!(in global; "{fault}")?;
+    let name = text.as_str().split(' ').next().unwrap_or("");
+    String::from_str(global, name)
+}

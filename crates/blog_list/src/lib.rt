@@ -1,0 +1,15 @@
+//! Lists of the units of a MySQL binary log, as text or as JSON: where each starts and stops, when it was, and which rows it
+//! changes, or why it can't be undone.
+#![tactic(auto)]
+
+mod beginning;
+mod json;
+mod lines;
+mod listing;
+mod times;
+mod totals;
+mod wanted;
+
+pub use listing::{Form, list};
+pub use times::seconds_of;
+pub use wanted::Wanted;

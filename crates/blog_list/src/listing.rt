@@ -1,0 +1,162 @@
+//! A list of the units of a log, which is written while it is made.
+
+ghost use Rattle.std.specs.Prelude.{◌≡◌, ◌||◌, ◌⊎◌, IfErr, IsSome};
+ghost use Rattle.blog_event.specs.Opening.{opening_fault};
+ghost use Rattle.blog_event.specs.declared.fault.Fault.TheVariants.{OutOfMemory};
+ghost use Rattle.blog_device.specs.Devices.{is_write_fault};
+ghost use Rattle.blog_device.specs.Watched.{has_failed};
+ghost use Rattle.blog_list.specs.Lists.{Lists};
+
+use crate::totals::Totals;
+use crate::wanted::{Wanted, is_before};
+use crate::{json, lines};
+use blog_device::{RunFault, Watched, put, put_part};
+use blog_event::{Fault, Log};
+use blog_units::{Unit, Units};
+use std::alloc::{AllocError, Allocator, Global};
+use std::io::Write;
+
+/// In which form units are listed.
+#[derive(Clone, Copy, Debug, PartialEq, Eq)]
+pub enum Form {
+    /// A line of text for each, below a header.
+    Text,
+    /// An object of JSON for each, on a line of its own.
+    Json,
+}
+
+/// How much of a list is collected before it is written, in bytes.
+const CHUNK_LEN: usize = 1 << 16;
+
+/// Lists the wanted units of a log: a line for each, and a last line that counts them. They are written while they are found,
+/// by some 64 KB at once.
+///
+/// Answers why the log ends too early, where it does: `CutEvent` where it ends inside an event, `Unended` at its end where it
+/// ends inside a transaction. Where units stop being wanted at a position, what comes behind it isn't read.
+///
+/// Fails with `Log` of the fault of a log that can't be opened, of which nothing is written, with `Log(OutOfMemory)`, and with
+/// `Write` where a write failed. Memory is taken from `alloc`, and for lines of JSON from `global`.
+pub fn list<A: Allocator + Copy, O: Write>(
+    global: Global,
+    alloc: A,
+    bytes: &[u8],
+    wanted: &Wanted<'_>,
+    form: Form,
+    writer: &mut Watched<O>,
+) -> Result<Option<Fault>, RunFault>
+    ensures refused { IsSome (opening_fault bytes.now) → writer.new ≡ writer.old }
+    ensures lists { Lists bytes.now result }
+    ensures mark { has_failed writer.new ≡ (has_failed writer.old || is_write_fault result) }
+{
+    let log = match Log::open(bytes) {
+        Ok(log) => log,
+        Err(fault) => return Err(RunFault::Log(fault)),
+    };
+    list_units(global, alloc, &log, wanted, form, writer)
+}
+
+/// The same of a log that is opened.
+fn list_units<A: Allocator + Copy, O: Write>(
+    global: Global,
+    alloc: A,
+    log: &Log<'_>,
+    wanted: &Wanted<'_>,
+    form: Form,
+    writer: &mut Watched<O>,
+) -> Result<Option<Fault>, RunFault>
+    ensures fault { IfErr result (λ e. (e ≡ RunFault.Log OutOfMemory) ⊎ (e ≡ RunFault.Write)) }
+    ensures mark { has_failed writer.new ≡ (has_failed writer.old || is_write_fault result) }
+{
+    let mut text = Vec::new(alloc);
+    let mut totals = Totals::NONE;
+    put_header(&mut text, form)?;
+    let mut behind = log.first();
+    let mut whole = true;
+    for unit in Units::new(alloc, log) {
+        if !is_before(unit.start, wanted.stop) {
+            write_end(global, &mut text, &totals, form, writer)?;
+            return Ok(None);
+        }
+        if let Err(Fault::OutOfMemory) = unit.groups {
+            return Err(RunFault::Log(Fault::OutOfMemory));
+        }
+        behind = unit.stop;
+        whole = unit.whole;
+        if wanted.has(&unit) {
+            totals.add(&unit);
+            put_unit(global, &mut text, log, &unit, form)?;
+            write_full(&mut text, writer)?;
+        }
+    }
+    write_end(global, &mut text, &totals, form, writer)?;
+    Ok(early_end(log, behind, whole))
+}
+
+/// Appends the line above all others, where the form has one.
+fn put_header<A: Allocator>(out: &mut Vec<u8, A>, form: Form) -> Result<(), AllocError> {
+    match form {
+        Form::Text => lines::put_header(out),
+        Form::Json => Ok(()),
+    }
+}
+
+/// Appends the line of a unit.
+fn put_unit<A: Allocator + Copy>(
+    global: Global,
+    out: &mut Vec<u8, A>,
+    log: &Log<'_>,
+    unit: &Unit<'_, A>,
+    form: Form,
+) -> Result<(), AllocError> {
+    match form {
+        Form::Text => lines::put_unit(out, log, unit),
+        Form::Json => json::put_unit(global, out, log, unit),
+    }
+}
+
+/// Writes what is collected once it is a chunk.
+fn write_full<A: Allocator, O: Write>(
+    text: &mut Vec<u8, A>,
+    writer: &mut Watched<O>,
+) -> Result<(), RunFault>
+    ensures fault { IfErr result (λ e. (e ≡ RunFault.Log OutOfMemory) ⊎ (e ≡ RunFault.Write)) }
+    ensures mark { has_failed writer.new ≡ (has_failed writer.old || is_write_fault result) }
+{
+    if text.len() >= CHUNK_LEN {
+        put_part(writer, text)?;
+        text.clear();
+    }
+    Ok(())
+}
+
+/// Appends the last line, and writes what is left.
+fn write_end<A: Allocator + Copy, O: Write>(
+    global: Global,
+    text: &mut Vec<u8, A>,
+    totals: &Totals,
+    form: Form,
+    writer: &mut Watched<O>,
+) -> Result<(), RunFault>
+    ensures fault { IfErr result (λ e. (e ≡ RunFault.Log OutOfMemory) ⊎ (e ≡ RunFault.Write)) }
+    ensures mark { has_failed writer.new ≡ (has_failed writer.old || is_write_fault result) }
+{
+    match form {
+        Form::Text => lines::put_totals(text, totals)?,
+        Form::Json => json::put_totals(global, text, totals)?,
+    }
+    put(writer, text)
+}
+
+/// Why a log ends too early, whose last unit stops at a position, and is whole or not.
+fn early_end(log: &Log<'_>, behind: u32, whole: bool) -> Option<Fault> {
+    for item in log.events(behind) {
+        if let Err(fault) = item {
+            return Some(fault);
+        }
+    }
+    if whole {
+        None
+    } else {
+        Some(Fault::Unended { pos: log.end() })
+    }
+}
