@@ -1,12 +1,12 @@
 -- What a run is asked to do, by the values of the options.
-use Rattle.std.specs.Prelude.{◌≡◌, ◌⊎◌, ℕ, ◌<◌, ◌^◌, Bool, true, false, List, [], ⊤, Option, Some, None, Result, Ok, Err, codes, option_map, unwrap_or}
+use Rattle.std.specs.Prelude.{◌≡◌, ◌⊎◌, ℕ, Bool, true, false, List, [], ⊤, Option, Some, None, Result, Ok, Err, codes, option_map, unwrap_or}
 use Rattle.std.specs.Option.{option_map_or}
 use Rattle.std.specs.Str.{bytes_eq}
-use Rattle.std.specs.Str.Parse.{IsNumeral, digits_value}
 use Rattle.clap.specs.Words.{first_value, found_of, kind_of, one_text}
 use Rattle.clap.specs.declared.error.Error.{Error}
 use Rattle.clap.specs.declared.parser.matches.ArgMatches.{ArgMatches}
 use Rattle.clap.specs.declared.parser.matches.Found.{Found}
+use Rattle.console.specs.Positions.{IsPositionOf, IsWrongPosition}
 use Rattle.console.specs.Told.{AsksForText}
 use Rattle.blog_flash.specs.declared.modes.Mode.{Mode}
 use Rattle.blog_flash.specs.declared.modes.Mode.TheVariants.{Flashback, Forward, FlashbackSql, ForwardSql, Summary}
@@ -19,20 +19,6 @@ use Rattle.flashback.specs.declared.words.WordsFault.{WordsFault}
 use Rattle.flashback.specs.declared.words.WordsFault.TheVariants.{Wrong, Mode as NoMode, NotText, OutOfMemory}
 
 -- ---- positions
-
--- a position: decimal digits and nothing else, below 2^32
-abbrev pub IsPosition : List ℕ → Type 0
-IsPosition word = IsNumeral 10 word × (digits_value 10 word < 2 ^ 32)
-
--- the position that an option's value means, and none where it has no value
-abbrev pub IsPositionOf : Option (List ℕ) → Option ℕ → Type 0
-IsPositionOf None position = position ≡ None
-IsPositionOf (Some word) position = IsPosition word × (position ≡ Some (digits_value 10 word))
-
--- an option's value means no position
-abbrev pub IsWrongPosition : Option (List ℕ) → Type 0
-IsWrongPosition None = ⊥
-IsWrongPosition (Some word) = ¬ (IsPosition word)
 
 -- why an option has no position: its value means none, or memory was refused
 abbrev pub RefusesPosition : {A : Type 0} → Option (List ℕ) → WordsFault A → Type 0

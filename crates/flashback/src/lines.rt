@@ -29,7 +29,7 @@ impl<A: Allocator> fmt::Display for Failure<A> {
         match self {
             Failure::Words(WordsFault::Wrong(text)) => write!(f, "{text}"),
             Failure::Words(WordsFault::Mode(fault)) => write!(f, "{fault}"),
-            Failure::Words(WordsFault::NotText) => f.write_str("the words are not UTF-8"),
+            Failure::Words(WordsFault::NotText) => f.write_str("the arguments are not UTF-8"),
             Failure::Words(WordsFault::OutOfMemory) => write!(f, "{}", Fault::OutOfMemory),
             Failure::NoLog => f.write_str("cannot open the log"),
             Failure::NoResultFile => f.write_str("cannot create the result file"),

@@ -1,7 +1,7 @@
 //! Every word that the program knows, and the help.
 
 use clap::{Arg, Command};
-use console::{flag, option};
+use console::{VERSION, flag, option};
 use std::alloc::{AllocError, Global};
 
 /// The name of `-B`.
@@ -57,11 +57,12 @@ Examples:
   flashback -B -r undo.binlog binlog.000042
       write to a file; -r is the same as --result-file
 
-Exit status: 0 done, 1 the log is refused or something failed, 2 the words are wrong.";
+Exit status: 0 done, 1 the log is refused or something failed, 2 the arguments are wrong.";
 
 /// Every word that the program knows.
 pub fn all_words<'w>(alloc: Global) -> Result<Command<'w>, AllocError> {
     let command = Command::new(alloc, "flashback")
+        .version(VERSION)
         .about(ABOUT)
         .override_usage(USAGE)
         .after_help(AFTER_HELP);

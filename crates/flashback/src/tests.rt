@@ -188,7 +188,7 @@ fn check_words(rt: &impl Abort, text: &str, words: &[&str]) {
 }
 
 #[test]
-fn helps(rt: HostRuntime) -> Result<(), Fail> {
+fn help_and_version_are_written(rt: HostRuntime) -> Result<(), Fail> {
     let outcome = run_words(&rt, &["--help"])?;
     assert_eq!(rt; outcome.status, ExitCode::SUCCESS);
     assert!(rt; outcome.errors().is_empty());
@@ -197,6 +197,12 @@ fn helps(rt: HostRuntime) -> Result<(), Fail> {
     check_words(&rt, text, &OPTIONS);
     let examples = text.split_once("Examples:").map_or("", |(_, rest)| rest);
     check_words(&rt, examples, &IN_EXAMPLES);
+    for word in ["-V", "--version"] {
+        let outcome = run_words(&rt, &[word])?;
+        assert_eq!(rt; outcome.status, ExitCode::SUCCESS);
+        assert!(rt; outcome.errors().is_empty());
+        assert!(rt; str::from_utf8(outcome.output())?.starts_with("flashback 0.1.0 "));
+    }
     Ok(())
 }
 

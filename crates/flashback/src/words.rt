@@ -1,9 +1,9 @@
 //! Which words mean what.
 
-ghost use Rattle.std.specs.Prelude.{◌≡◌, Err, IfErr, IfOk, SomeIff};
-ghost use Rattle.std.specs.Str.Parse.{digits_value};
+ghost use Rattle.std.specs.Prelude.{◌≡◌, Err, IfErr, IfOk};
 ghost use Rattle.clap.specs.Words.{first_value, found_of, kind_of};
-ghost use Rattle.flashback.specs.Request.{IsAsked, IsPosition, IsPositionOf, IsRead, RefusesPosition, RefusesRun, asked_mode, is_given};
+ghost use Rattle.console.specs.Positions.{IsPositionOf};
+ghost use Rattle.flashback.specs.Request.{IsAsked, IsRead, RefusesPosition, RefusesRun, asked_mode, is_given};
 ghost use Rattle.flashback.specs.declared.words.WordsFault.TheVariants.{OutOfMemory};
 
 use crate::options::{
@@ -12,7 +12,7 @@ use crate::options::{
 use blog_flash::{Mode, Selection};
 use clap::error::ErrorKind;
 use clap::{ArgMatches, Command, Error};
-use console::Told;
+use console::{POSITION, Told, position_of, wrong_value};
 use std::alloc::{AllocError, Allocator, Global};
 
 /// What the words ask for.
@@ -129,9 +129,6 @@ fn has_flag(matches: &ArgMatches<'_>, flag: &str) -> bool
     matches.get_one::<bool>(flag).unwrap_or(false)
 }
 
-/// What a wrong position isn't.
-const POSITION: &str = "a position: decimal digits, 0 to 4294967295";
-
 fn read_task<'w, A: Allocator + Copy>(
     alloc: A,
     command: &mut Command<'w>,
@@ -172,20 +169,9 @@ fn read_position<'w, A: Allocator + Copy>(
     if let Some(position) = position_of(word) {
         return Ok(Some(position));
     }
-    let text = format!(in alloc; "invalid value '{word}' for '--{name} <POS>': not {POSITION}")?;
-    let error = command.error(ErrorKind::ValueValidation, text.as_str())?;
-    Err(WordsFault::Wrong(error.to_string(alloc)?))
-}
-
-/// The position that a word means, which is decimal digits and nothing else.
-fn position_of(word: &str) -> Option<u32>
-    ensures { SomeIff result (IsPosition word.now) (digits_value 10 word.now) }
-{
-    // the parser of numbers takes a plus
-    match word.as_bytes().first() {
-        Some(b'+') => None,
-        _ => word.parse().ok(),
-    }
+    let option = format!(in alloc; "{name} <POS>")?;
+    let text = wrong_value(alloc, command, option.as_str(), word, POSITION)?;
+    Err(WordsFault::Wrong(text))
 }
 
 /// What the parser answers in place of matches: the help that was asked for, or what is wrong.

@@ -101,7 +101,7 @@ fn refuses_wrong_positions(rt: HostRuntime) -> Result<(), Fail> {
 #[test]
 fn refuses_words_that_the_system_does_not_give(rt: HostRuntime) {
     let outcome = run_given(&rt, Err(io::Error::from(io::ErrorKind::InvalidData)));
-    assert!(rt; outcome.is_refusal(2, "flashback: the words are not UTF-8\n"));
+    assert!(rt; outcome.is_refusal(2, "flashback: the arguments are not UTF-8\n"));
     let outcome = run_given(&rt, Err(io::Error::from(io::ErrorKind::OutOfMemory)));
     assert!(rt; outcome.is_refusal(1, "flashback: OutOfMemory\n"));
 }
