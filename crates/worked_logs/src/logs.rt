@@ -29,6 +29,16 @@ pub fn two_inserts(rt: &impl AllocGlobal) -> Built {
     build(rt, &[BEGIN, Part::Map(T), rows, XID])
 }
 
+/// A transaction that inserts the rows 1, NULL and 3, by a rows event that has extra bytes. The free null bits of the last
+/// row are clear.
+pub fn three_inserts(rt: &impl AllocGlobal) -> Built {
+    let images = b"\xFE\x01\0\0\0\xFF\0\x03\0\0\0";
+    let rows = insert(1, &[])
+        .with_extra(b"\xAA\xBB")
+        .over(1, &[0xFF], images);
+    build(rt, &[BEGIN, Part::Map(T), rows, XID])
+}
+
 /// A transaction that changes the row 1 to 2, and the row 2 to 3.
 pub fn two_updates(rt: &impl AllocGlobal) -> Built {
     let rows = update(1, &[1, 2, 2, 3]);

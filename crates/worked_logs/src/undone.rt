@@ -19,6 +19,20 @@ pub fn two_tables_undone(rt: &impl AllocGlobal) -> Built {
     build(rt, &parts)
 }
 
+/// What undoes the three inserts: the rows are deleted from the last to the first, without extra bytes.
+pub fn three_inserts_undone(rt: &impl AllocGlobal) -> Built {
+    let images = b"\0\x03\0\0\0\xFF\xFE\x01\0\0\0";
+    let rows = delete(1, &[]).over(1, &[0xFF], images);
+    build(rt, &[BEGIN, Part::Map(T), rows, XID])
+}
+
+/// The three inserts in normal form: without extra bytes.
+pub fn three_inserts_copied(rt: &impl AllocGlobal) -> Built {
+    let images = b"\xFE\x01\0\0\0\xFF\0\x03\0\0\0";
+    let rows = insert(1, &[]).over(1, &[0xFF], images);
+    build(rt, &[BEGIN, Part::Map(T), rows, XID])
+}
+
 /// What undoes the two transactions.
 pub fn two_transactions_undone(rt: &impl AllocGlobal) -> Built {
     let parts = [
