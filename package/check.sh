@@ -1,0 +1,182 @@
+#!/bin/sh
+# Checks what is installed and packed, and each example of the helps and the man pages:
+#     package/check.sh PROGRAM BINLOG VERSION
+# Prints one line if all is well, else what differs from package/files.txt and package/examples.txt.
+set -eu
+umask 022
+cd "$(dirname "$0")/.."
+work=$(mktemp -d)
+trap 'rm -rf "$work"' EXIT
+mkdir "$work/bin" "$work/logs"
+cp "$1" "$work/bin/flashback"
+cp "$2" "$work/bin/binlog"
+version=$3
+PATH=$work/bin:$PATH
+failed=0
+
+differs() {
+    echo "package/check.sh: $1" >&2
+    failed=1
+}
+
+# make with these programs, and without the toolchain
+made() {
+    ${MAKE:-make} -s RT=none PROGRAM="$work/bin/flashback" BINLOG="$work/bin/binlog" VERSION="$version" "$@"
+}
+
+files_below() {
+    (cd "$1" && find . ! -type d | LC_ALL=C sort)
+}
+
+# what make puts where, by its three ways
+list_files() {
+    echo "make install"
+    made install DESTDIR="$work/root" PREFIX=/usr/local
+    files_below "$work/root"
+    made uninstall DESTDIR="$work/root" PREFIX=/usr/local
+    [ -z "$(files_below "$work/root")" ] || differs "make uninstall leaves files"
+    echo "make dist"
+    made dist DIST="$work/dist" SOURCE_DATE_EPOCH=1000000000 > "$work/archive"
+    tar -xzf "$(cat "$work/archive")" -C "$work/root"
+    files_below "$work/root"
+    (cd "$work/root/flashback-$version-linux-x86_64" && sha256sum --quiet -c SHA256SUMS) || differs "SHA256SUMS is wrong"
+    echo "make deb"
+    made deb DIST="$work/dist" SOURCE_DATE_EPOCH=1000000000 > "$work/package"
+    dpkg-deb -c "$(cat "$work/package")" | awk '!/^d/ { print $6 }' | LC_ALL=C sort
+}
+
+# the same bytes, at another time and under another mask
+packs_are_the_same() {
+    for pack in dist deb; do
+        (umask 077 && made "$pack" DIST="$work/again" SOURCE_DATE_EPOCH=1000000000 > "$work/again.$pack")
+    done
+    cmp "$(cat "$work/archive")" "$(cat "$work/again.dist")" || differs "two archives differ"
+    cmp "$(cat "$work/package")" "$(cat "$work/again.deb")" || differs "two packages differ"
+}
+
+help_examples() {
+    "$@" --help | sed -n '/^Examples:$/,/^$/s/^  \([a-z]\)/\1/p'
+}
+
+man_examples() {
+    sed -n 's/^\.Dl \$ //p' "man/$1.1" | sed 's/\\-/-/g'
+}
+
+# The folder in which an example runs: binlog.000042 has checksums for binlog, and none for flashback. Its transaction
+# that deletes begins at 842 and stops at 1143, where the pages have 4021 and 9144.
+begin_folder() {
+    rm -rf "$work/here"
+    mkdir "$work/here"
+    case $1 in
+        flashback) cp "$work/logs/plain" "$work/here/binlog.000042" ;;
+        binlog) cp examples/mysql/crc32_closed.binlog "$work/here/binlog.000042" ;;
+    esac
+}
+
+# a log that was written: its checksum and size, and its events
+written() {
+    echo "cksum $(cksum < "$1")"
+    od -An -v -tu1 "$1" | awk -f examples/events.awk
+}
+
+# an example, what it prints, the log that it writes, and its status; of a help the first line alone
+run_example() {
+    echo "\$ $1"
+    command=$(printf '%s\n' "$1" | sed 's/-j 4021/-j 842/; s/--stop-position 9144/--stop-position 1143/')
+    status=0
+    (cd "$work/here" && sh -c "$command") > "$work/output" 2>&1 || status=$?
+    case $1 in
+        *--help) head -n 1 "$work/output" ;;
+        *) cat "$work/output" ;;
+    esac
+    file=$(printf '%s\n' "$1" | sed -n -E 's/.*(-r|>) ([^ ]+).*/\2/p')
+    [ -z "$file" ] || written "$work/here/$file"
+    echo "status $status"
+}
+
+# each example of a help begins anew, those of a man page go on where the last one stopped
+run_examples() {
+    for page in flashback binlog "binlog plain"; do
+        echo "## $page --help"
+        help_examples $page > "$work/commands"
+        while read -r command; do
+            begin_folder "${page%% *}"
+            run_example "$command"
+        done < "$work/commands"
+    done
+    for page in flashback binlog; do
+        echo "## $page.1"
+        man_examples "$page" > "$work/commands"
+        begin_folder "$page"
+        while read -r command; do
+            run_example "$command"
+        done < "$work/commands"
+    done
+}
+
+# the options that a help lists
+help_options() {
+    "$@" --help | sed -n '/^Options:$/,/^$/p' | grep -oE '(^| )--?[a-zA-Z][a-z-]*' | tr -d ' ' | LC_ALL=C sort -u
+}
+
+# the options that a man page lists
+man_options() {
+    grep -E '^\.It Fl' "man/$1.1" | grep -oE 'Fl -?[a-zA-Z][a-z-]*' | sed 's/^Fl /-/' | LC_ALL=C sort -u
+}
+
+# the words that the shell completes behind these
+completed() {
+    bash -c '. "completion/$1"; COMP_WORDS=("$@" -); COMP_CWORD=$#; "_$1"; printf "%s\n" "${COMPREPLY[@]}"' bash "$@" \
+        | LC_ALL=C sort -u
+}
+
+# each fault stands in the man page
+faults_are_told() {
+    for fault in $(sed -n 's/^ *#\[error("\([A-Za-z]*\).*/\1/p' "$1"); do
+        grep -q "^\.It Cm $fault\$" "man/$2.1" || differs "$2.1 has no $fault"
+    done
+}
+
+# man pages have no errors, as far as there is a program that looks for them
+pages_are_sound() {
+    for page in man/*.1; do
+        if command -v mandoc > "$work/which"; then
+            mandoc -Tlint -Wwarning "$page" >&2 || differs "$page has errors"
+        fi
+        if command -v man > "$work/which"; then
+            man --warnings -E UTF-8 -l "$page" 2> "$work/warnings" > "$work/page" || differs "$page can't be shown"
+            [ ! -s "$work/warnings" ] || differs "$page has warnings: $(cat "$work/warnings")"
+        fi
+    done
+}
+
+options_agree() {
+    for page in flashback binlog "binlog plain"; do
+        help_options $page > "$work/options"
+        completed $page | cmp -s "$work/options" - || differs "completion of $page has other options than its help"
+    done
+    for page in flashback binlog; do
+        { help_options "$page"; [ "$page" = flashback ] || help_options binlog plain; } | LC_ALL=C sort -u > "$work/options"
+        man_options "$page" | cmp -s "$work/options" - || differs "$page.1 has other options than its help"
+    done
+}
+
+binlog plain examples/mysql/crc32_closed.binlog > "$work/logs/plain"
+list_files > "$work/files"
+diff -u package/files.txt "$work/files" >&2 || differs "other files than in package/files.txt"
+packs_are_the_same
+run_examples > "$work/examples"
+diff -u package/examples.txt "$work/examples" >&2 || differs "an example does other than in package/examples.txt"
+options_agree
+faults_are_told crates/blog_event/src/fault.rt flashback
+faults_are_told crates/blog_sum/src/fault.rt binlog
+pages_are_sound
+for program in flashback binlog; do
+    case $($program --version) in
+        "$program $version" | "$program $version (proved with "*) ;;
+        *) differs "$program --version isn't $version" ;;
+    esac
+done
+grep -q "^## $version\$" CHANGELOG.md || differs "CHANGELOG.md has no $version"
+[ "$failed" = 0 ] || exit 1
+echo "package/check.sh: files, examples and options are as they should be"
