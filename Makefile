@@ -60,6 +60,7 @@ $(LAYERS): $(SOURCES)
 bench:
 	@FLASHBACK=$(PROGRAM) sh bench/run.sh $(BENCH)
 	@[ -n "$(BENCH)" ] || BINLOG=$(BINLOG) FLASHBACK=$(PROGRAM) sh bench/sums.sh
+	@[ -n "$(BENCH)" ] || BINLOG=$(BINLOG) FLASHBACK=$(PROGRAM) sh bench/commands.sh
 	@[ -n "$(BENCH)" ] || LAYERS=$(LAYERS) sh bench/layers.sh
 
 bench_layers: $(LAYERS)

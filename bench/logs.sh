@@ -15,3 +15,12 @@ print_machine() {
     echo "$(nproc) processors, $(sed -n 's/^model name[^:]*: //p' /proc/cpuinfo | head -n 1); best of $RUNS runs"
     echo
 }
+
+# are_there SCRIPT PROGRAM..: the programs can be run
+are_there() {
+    script=$1
+    shift
+    for program in "$@"; do
+        [ -x "$program" ] || { echo "$script: $program isn't there, so nothing is measured; make builds it" >&2; return 1; }
+    done
+}

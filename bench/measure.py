@@ -54,6 +54,17 @@ def run(words, out, limit, best):
     return line or f"exit status {os.waitstatus_to_exitcode(status)}"
 
 
+def run_all(script, cases, runs, limit):
+    """Runs each of the cases, its words, the file that is written, and its best, in turn; ends the script where one fails."""
+    for _ in range(runs):
+        for words, to, best in cases:
+            if to != os.devnull and os.path.isfile(to):
+                os.remove(to)
+            why = run(words, to, limit, best)
+            if why:
+                sys.exit(f"{script}: {words[0]}: {why}")
+
+
 def measure(log, programs, runs, limit, out):
     """The best of each program by name, and why the others have none."""
     best, failed = {name: Best() for name in programs}, {}

@@ -15,7 +15,7 @@ import sys
 import time
 import zlib
 
-from measure import Best, run
+from measure import Best, run_all
 
 FIRST = 120           # where the second event begins
 MOST_BESIDE = 2 << 20  # bytes that binlog plain may take beside the log and the plain log
@@ -49,14 +49,8 @@ def main(binlog, flashback, runs, limit, out, *logs):
         plain = os.path.join(out, "plain.binlog")
         print("measuring", os.path.basename(log), file=sys.stderr)
         cat, ours, summary = Best(), Best(), Best()
-        for _ in range(runs):
-            for words, to, best in ((["cat", log], os.devnull, cat), ([binlog, "plain", log], plain, ours),
-                                    ([flashback, "--summary", plain], os.devnull, summary)):
-                if to == plain and os.path.isfile(to):
-                    os.remove(to)
-                why = run(words, to, limit, best)
-                if why:
-                    sys.exit(f"sums.py: {words[0]}: {why}")
+        run_all("sums.py", ((["cat", log], os.devnull, cat), ([binlog, "plain", log], plain, ours),
+                            ([flashback, "--summary", plain], os.devnull, summary)), runs, limit)
         made = log.removesuffix("-sums.binlog") + ".binlog"
         if subprocess.run(["cmp", "-i", str(FIRST), plain, made]).returncode:
             status = 1

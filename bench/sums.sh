@@ -9,9 +9,7 @@ set -eu
 cd "$(dirname "$0")/.."
 . bench/logs.sh
 BINLOG=${BINLOG:-bin/binlog} FLASHBACK=${FLASHBACK:-bin/flashback} RUNS=${RUNS:-3} LIMIT=${LIMIT:-600} OUT=${OUT:-bench/out}
-for program in "$BINLOG" "$FLASHBACK"; do
-    [ -x "$program" ] || { echo "sums.sh: $program isn't there, so nothing is measured; make builds it" >&2; exit 0; }
-done
+are_there sums.sh "$BINLOG" "$FLASHBACK" || exit 0
 [ $# -gt 0 ] || set -- mixed 10 mixed 100 mixed 1000 one_row 250
 [ $(($# % 2)) -eq 0 ] || { echo "sums.sh: a size in MB for each shape is wanted" >&2; exit 2; }
 mkdir -p "$OUT"

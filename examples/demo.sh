@@ -1,8 +1,9 @@
 #!/bin/sh
 # Undoes a log that a MySQL server wrote, shows its events before and after, and undoes the undoing.
 # Then tries to undo the log without its last byte, which is refused.
-# Then undoes a log with checksums, by way of the same log without; without its last byte it is refused too.
-# Words: the program, the log, the file for the new log, the program for logs with checksums, and such a log.
+# Then lists and undoes a log with checksums, by way of the same log without; without its last byte it is refused too.
+# At last cuts the statement of the log that undoes the first one.
+# Arguments: the program, the log, the file for the new log, the program for logs with checksums, and such a log.
 set -eu
 program=$1 log=$2 undo=$3 binlog=$4 summed=$5
 here=$(dirname "$0")
@@ -73,6 +74,8 @@ without_last_byte "$summed"
 is_refused "binlog: CutEvent at " "$binlog" plain "$cut"
 echo "\$ $binlog plain $summed -r $plain"
 "$binlog" plain "$summed" -r "$plain"
+echo "\$ $binlog list $plain"
+"$binlog" list "$plain"
 echo "\$ $program --summary $plain"
 "$program" --summary "$plain"
 "$program" -B -r "$undo.summed" "$plain"
@@ -83,4 +86,14 @@ if ! cmp "$undo.twice" "$undo.normal"; then
     exit 1
 fi
 echo "Undone, and undone again: the same as its changes in normal form, byte for byte."
-rm -f "$plain" "$undo.summed" "$undo.twice" "$undo.normal" "$cut" "$cut.output" "$cut.errors"
+echo "\$ $binlog split --size 50 $undo     (its statement of two rows events becomes two statements)"
+"$binlog" split --size 50 "$undo" > "$undo.split"
+"$program" --summary "$undo"
+"$program" --summary "$undo.split"
+"$program" -B --sql "$undo" > "$undo.normal"
+if ! "$program" -B --sql "$undo.split" | cmp - "$undo.normal"; then
+    echo "The demo failed: the log that is cut should be undone as it was." >&2
+    exit 1
+fi
+echo "Undoing either makes the same changes."
+rm -f "$plain" "$undo.split" "$undo.summed" "$undo.twice" "$undo.normal" "$cut" "$cut.output" "$cut.errors"

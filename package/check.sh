@@ -59,17 +59,20 @@ help_examples() {
 }
 
 man_examples() {
-    sed -n 's/^\.Dl \$ //p' "man/$1.1" | sed 's/\\-/-/g'
+    sed -n 's/^\.Dl \$ //p' "man/$1.1" | sed "s/\\\\-/-/g; s/\\\\(aq/'/g"
 }
 
-# The folder in which an example runs: binlog.000042 has checksums for binlog, and none for flashback. Its transaction
-# that deletes begins at 842 and stops at 1143, where the pages have 4021 and 9144.
+# The folder in which an example, or those of a man page, run: binlog.000042 has checksums for binlog, and none for
+# flashback; to list there is plain.000042, and to cut undo.binlog, which undoes it. Its transaction that deletes begins at 842 and stops at 1143, where the pages
+# have 4021 and 9144.
 begin_folder() {
     rm -rf "$work/here"
     mkdir "$work/here"
     case $1 in
-        flashback) cp "$work/logs/plain" "$work/here/binlog.000042" ;;
-        binlog) cp examples/mysql/crc32_closed.binlog "$work/here/binlog.000042" ;;
+        flashback*) cp "$work/logs/plain" "$work/here/binlog.000042" ;;
+        "binlog list"*) cp "$work/logs/plain" "$work/here/plain.000042" ;;
+        "binlog split"*) cp "$work/logs/undo" "$work/here/undo.binlog" ;;
+        binlog*) cp examples/mysql/crc32_closed.binlog "$work/here/binlog.000042" ;;
     esac
 }
 
@@ -96,11 +99,11 @@ run_example() {
 
 # each example of a help begins anew, those of a man page go on where the last one stopped
 run_examples() {
-    for page in flashback binlog "binlog plain"; do
+    for page in flashback binlog "binlog plain" "binlog list" "binlog split"; do
         echo "## $page --help"
         help_examples $page > "$work/commands"
         while read -r command; do
-            begin_folder "${page%% *}"
+            begin_folder "$command"
             run_example "$command"
         done < "$work/commands"
     done
@@ -151,17 +154,21 @@ pages_are_sound() {
 }
 
 options_agree() {
-    for page in flashback binlog "binlog plain"; do
+    for page in flashback binlog "binlog plain" "binlog list" "binlog split"; do
         help_options $page > "$work/options"
         completed $page | cmp -s "$work/options" - || differs "completion of $page has other options than its help"
     done
     for page in flashback binlog; do
-        { help_options "$page"; [ "$page" = flashback ] || help_options binlog plain; } | LC_ALL=C sort -u > "$work/options"
+        {
+            help_options "$page"
+            [ "$page" = flashback ] || { help_options binlog plain && help_options binlog list && help_options binlog split; }
+        } | LC_ALL=C sort -u > "$work/options"
         man_options "$page" | cmp -s "$work/options" - || differs "$page.1 has other options than its help"
     done
 }
 
 binlog plain examples/mysql/crc32_closed.binlog > "$work/logs/plain"
+flashback -B "$work/logs/plain" > "$work/logs/undo"
 list_files > "$work/files"
 diff -u package/files.txt "$work/files" >&2 || differs "other files than in package/files.txt"
 packs_are_the_same
@@ -173,7 +180,7 @@ faults_are_told crates/blog_sum/src/fault.rt binlog
 pages_are_sound
 for program in flashback binlog; do
     case $($program --version) in
-        "$program $version" | "$program $version (proved with "*) ;;
+        "$program $version (proved with "*) ;;
         *) differs "$program --version isn't $version" ;;
     esac
 done

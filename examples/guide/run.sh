@@ -2,7 +2,8 @@
 # Runs every command of the guide in README.md on a server of its own, MariaDB's (Debian's package mariadb-server):
 #     examples/guide/run.sh PROGRAM BINLOG
 # The commands are read from the README. What is put in their place is what differs here: the server's folder and socket,
-# the times, the positions that are found, and the options that MariaDB's programs don't have. The log is brought into the
+# the times, the positions that are found, the size at which statements are cut, so that they are cut at all, and the
+# options that MariaDB's programs don't have. The log is brought into the
 # profile by profile.py. At the end the rows have to be as before the mistake, and after step 10 as after it.
 set -eu
 here=$(cd "$(dirname "$0")/../.." && pwd)
@@ -69,7 +70,8 @@ INSERT INTO shop.items VALUES (1, 1, 5), (2, 2, 6), (3, 3, 7);
 DELETE FROM shop.orders WHERE id = 4;
 END
     rows > "$work/undone"
-    mysql -e "BEGIN; DELETE FROM shop.orders WHERE id > 1; DELETE FROM shop.items WHERE order_id > 1; COMMIT"
+    # one statement of two rows events
+    mysql shop -e "DELETE orders, items FROM orders JOIN items ON items.order_id = orders.id WHERE orders.id > 1"
     rows > "$work/redone"
     mysql -e "INSERT INTO shop.items VALUES (9, 1, 1)"
     printf '9\t1\t1\n' | tee -a "$work/undone" >> "$work/redone"
@@ -94,7 +96,7 @@ commands() {
 # a command as it is run here
 as_run_here() {
     printf '%s\n' "$1" | sed -e "s|/var/lib/mysql|$work/data|" -e 's/| less$/| cat/' -e 's/^less .*/cat around.txt/' \
-        -e 's/; echo \$?$//' -e "s/2026-11-22 02:50:00/$from/" -e "s/2026-11-22 03:10:00/$to/" \
+        -e 's/; echo \$?$//' -e 's/^binlog split /binlog split --size 1 /' -e "s/2026-11-22 02:50:00/$from/" -e "s/2026-11-22 03:10:00/$to/" \
         -e "s/4021/$start/g" -e "s/9144/$stop/g"
 }
 
@@ -119,12 +121,21 @@ run_guide() {
         case $command in
             "mkdir undo"*) cd undo ;;
             "cp "*) python3 "$here/examples/guide/profile.py" binlog.000042 in_profile && mv in_profile binlog.000042 ;;
-            *"> around.txt") positions=$(find_positions) && start=${positions% *} stop=${positions#* } ;;
+            *"> around.txt")
+                positions=$(find_positions) && start=${positions% *} stop=${positions#* }
+                binlog list -d shop -T orders binlog.000042 | grep -q "^ *$start *$stop .*\`orders\` deletes 2; " \
+                    || fail "binlog list has other positions"
+                ;;
             *"-T orders -r undo.binlog"*) mv undo.binlog one_table && mv all_tables undo.binlog ;;
             *"-r undo.binlog"*) cp undo.binlog all_tables ;;
             *"undo.binlog | mysql"*) rows_are undone ;;
             *"-r redo.binlog undo.binlog") mv redo.binlog first ;;
-            *"-r redo.binlog binlog"*) cmp redo.binlog first || fail "the two logs of step 10 aren't the same" ;;
+            *"-r redo.binlog binlog"*)
+                binlog split --size 1 redo.binlog | cmp - first || fail "the two logs of step 10 aren't the same"
+                ;;
+            "binlog split"*)
+                [ "$(flashback --summary undo.binlog | sed -n '2p')" = "statements 2" ] || fail "the statements aren't cut"
+                ;;
         esac
     done 3< "$work/commands"
     run_command "mysqlbinlog --skip-gtids redo.binlog | mysql"

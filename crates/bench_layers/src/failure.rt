@@ -9,7 +9,7 @@ use thiserror::Error;
 /// Why nothing could be measured.
 #[derive(Debug, Drop, Error)]
 pub enum Failure {
-    /// The words ask for nothing.
+    /// The arguments ask for nothing.
     #[error("LAYER LOG [TIMES], the layer one of events, rows, index and all")]
     Words,
     /// The system refused a call.

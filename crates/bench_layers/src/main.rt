@@ -31,7 +31,7 @@ fn main(rt: HostRuntime) -> ExitCode {
     }
 }
 
-/// Does what the words ask for.
+/// Does what the arguments ask for.
 fn measure<R: Runtime + CpuClock + AllocGlobal>(rt: &R) -> Result<(), Failure> {
     let words: Vec<String> = env::args(rt)?.collect(rt.alloc())?;
     let task = read_words(words.as_slice()).ok_or(Failure::Words)?;

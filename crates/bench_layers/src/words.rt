@@ -1,4 +1,4 @@
-//! The words of the command line.
+//! The arguments of the program.
 
 /// What is measured.
 #[derive(Clone, Copy)]
@@ -49,7 +49,7 @@ impl Layer {
     }
 }
 
-/// What the words ask for.
+/// What the arguments ask for.
 #[derive(Drop)]
 pub struct Task<'w> {
     /// What is measured.

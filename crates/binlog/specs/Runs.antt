@@ -1,6 +1,6 @@
--- What a run of `plain` does to the bytes of its devices. Of a device that does not tell its bytes these words say that there
+-- What a run does to the bytes of its devices. Of a device that does not tell its bytes these words say that there
 -- are such bytes.
-use Rattle.std.specs.Prelude.{◌≡◌, ◌⊎◌, ℕ, Bool, true, false, List, ⊤, Vec, Option, None, Some, Result, Ok, Err}
+use Rattle.std.specs.Prelude.{◌≡◌, ◌⊎◌, ℕ, Bool, true, false, List, ⊤, String, Vec, Option, None, Some, Result, Ok, Err}
 use Rattle.std.specs.Io.KnownBytes.{Keeps, Appends}
 use Rattle.blog_event.specs.declared.fault.Fault.TheVariants.{TooLong, OutOfMemory as NoMemory}
 use Rattle.blog_device.specs.Devices.{greatest_length, PassesLimit, ReadsLog, AppendsBeginning}
@@ -10,45 +10,106 @@ use Rattle.blog_sum.specs.declared.fault.SumFault.{SumFault}
 use Rattle.blog_sum.specs.declared.fault.SumFault.TheVariants.{OutOfMemory}
 use Rattle.blog_sum.specs.Sums.{sum_fault}
 use Rattle.blog_sum.specs.Plain.{plain_of}
-use Rattle.binlog.specs.declared.commands.PlainFault.{PlainFault}
-use Rattle.binlog.specs.declared.commands.PlainFault.TheVariants.{Run, Sums}
+use Rattle.blog_event.specs.Opening.{opening_fault}
+use Rattle.binlog.specs.Request.{asks_for_list}
+use Rattle.binlog.specs.declared.commands.Failure.{Failure}
+use Rattle.binlog.specs.declared.commands.Failure.TheVariants.{List as OfList, EndsEarly}
+use Rattle.binlog.specs.declared.commands.CopyFault.{CopyFault}
+use Rattle.binlog.specs.declared.commands.CopyFault.TheVariants.{Run, Sums, Split as Cut}
+use Rattle.binlog.specs.declared.words.Making.{Making}
+use Rattle.binlog.specs.declared.words.Making.TheVariants.{Plain, Split}
+use Rattle.blog_split.specs.declared.fault.SplitFault.{SplitFault}
+use Rattle.blog_split.specs.declared.fault.SplitFault.TheVariants.{Log as OfLog, TooLong as TooLongCut}
+use Rattle.blog_split.specs.declared.fault.SplitRunFault.{SplitRunFault}
+use Rattle.blog_split.specs.declared.fault.SplitRunFault.TheVariants as run
+use Rattle.blog_split.specs.Laws.{IsSplit, KeepsChanges}
+use Rattle.blog_split.specs.Splitting.{IsTooLong}
+use Rattle.blog_trans.specs.Selection.{all}
+use Rattle.blog_trans.specs.Acceptance.{IsRefusal, fault}
+use Rattle.blog_trans.specs.Groups.{Transaction}
 
 -- this log was read, and it has no plain copy: memory was refused, or this is its first fault
 abbrev pub RefusesSums : Option (List ℕ) → Option (List ℕ) → SumFault → Type 0
 RefusesSums old new fault = (fault ≡ OutOfMemory) ⊎ ((log : List ℕ) × ReadsLog old new log × (sum_fault log ≡ Some fault))
 
--- what comes of reading a log for its plain copy: the copy; or that it can't be held, that a read failed, or that it has none
-abbrev pub MakesPlain : {A : Type 0} → Option (List ℕ) → Option (List ℕ) → Result (Vec ℕ A) PlainFault → Type 0
-MakesPlain old new (Ok text) = (log : List ℕ) × ReadsLog old new log × (sum_fault log ≡ None) × (text.items ≡ plain_of log)
-MakesPlain old new (Err (Run (Log fault))) = (fault ≡ NoMemory) ⊎ ((fault ≡ TooLong 0) × PassesLimit greatest_length old new)
-MakesPlain old new (Err (Run Read)) = ⊤
-MakesPlain old new (Err (Run Write)) = ⊥
-MakesPlain old new (Err (Sums fault)) = RefusesSums old new fault
+-- the statements of a log can't be cut: memory was refused, or it has this fault, or what is cut is too long
+abbrev pub RefusesCut : ℕ → List ℕ → SplitFault → Type 0
+RefusesCut limit log (OfLog cause) = IsRefusal (fault log all) cause
+RefusesCut limit log TooLongCut = IsTooLong limit log
+
+-- what is made of a log: the same without checksums, or one with the same changes in statements of at most so many bytes
+abbrev pub IsMadeOf : Making → List ℕ → List ℕ → Type 0
+IsMadeOf Plain log text = (sum_fault log ≡ None) × (text ≡ plain_of log)
+IsMadeOf (Split limit) log text = (cut : List Transaction) × IsSplit limit log all cut text × KeepsChanges limit log all cut text
+
+-- what comes of reading a log for its copy: the copy; or that it can't be held, that a read failed, or that it has none
+abbrev pub MakesCopy : {A : Type 0} → Making → Option (List ℕ) → Option (List ℕ) → Result (Vec ℕ A) CopyFault → Type 0
+MakesCopy making old new (Ok text) = (log : List ℕ) × ReadsLog old new log × IsMadeOf making log text.items
+MakesCopy making old new (Err (Run (Log fault))) = (fault ≡ NoMemory) ⊎ ((fault ≡ TooLong 0) × PassesLimit greatest_length old new)
+MakesCopy making old new (Err (Run Read)) = ⊤
+MakesCopy making old new (Err (Run Write)) = ⊥
+MakesCopy making old new (Err (Sums fault)) = (making ≡ Plain) × RefusesSums old new fault
+MakesCopy making old new (Err (Cut fault)) = (limit : ℕ) × (log : List ℕ) × (making ≡ Split limit) × ReadsLog old new log × RefusesCut limit log fault
 
 -- and of writing it: the whole copy is written, or a beginning of it where a write failed, or nothing
-abbrev pub WritesPlain : Option (List ℕ) → Option (List ℕ) → Option (List ℕ) → Option (List ℕ) → Result Unit PlainFault → Type 0
-WritesPlain old new had has (Ok done) = (log : List ℕ) × ReadsLog old new log × (sum_fault log ≡ None) × Appends had has (plain_of log)
-WritesPlain old new had has (Err (Run (Log fault))) = ((fault ≡ NoMemory) ⊎ ((fault ≡ TooLong 0) × PassesLimit greatest_length old new)) × Keeps had has
-WritesPlain old new had has (Err (Run Read)) = Keeps had has
-WritesPlain old new had has (Err (Run Write)) = (log : List ℕ) × ReadsLog old new log × (sum_fault log ≡ None) × AppendsBeginning had has (plain_of log)
-WritesPlain old new had has (Err (Sums fault)) = RefusesSums old new fault × Keeps had has
+abbrev pub WritesCopy : Making → Option (List ℕ) → Option (List ℕ) → Option (List ℕ) → Option (List ℕ) → Result Unit CopyFault → Type 0
+WritesCopy making old new had has (Ok done) = (log text : List ℕ) × ReadsLog old new log × IsMadeOf making log text × Appends had has text
+WritesCopy making old new had has (Err (Run (Log fault))) = ((fault ≡ NoMemory) ⊎ ((fault ≡ TooLong 0) × PassesLimit greatest_length old new)) × Keeps had has
+WritesCopy making old new had has (Err (Run Read)) = Keeps had has
+WritesCopy making old new had has (Err (Run Write)) = (log text : List ℕ) × ReadsLog old new log × IsMadeOf making log text × AppendsBeginning had has text
+WritesCopy making old new had has (Err (Sums fault)) = (making ≡ Plain) × RefusesSums old new fault × Keeps had has
+WritesCopy making old new had has (Err (Cut fault)) = (limit : ℕ) × (log : List ℕ) × (making ≡ Split limit) × ReadsLog old new log × RefusesCut limit log fault × Keeps had has
 
--- the plain log of some log was written
-abbrev pub WritesPlainLog : Option (List ℕ) → Option (List ℕ) → Type 0
-WritesPlainLog had has = (log : List ℕ) × (sum_fault log ≡ None) × Appends had has (plain_of log)
+-- why a copy can't be made or written, where its statements are cut while it is written
+abbrev pub copy_fault : SplitRunFault → CopyFault
+copy_fault (run.Split fault) = Cut fault
+copy_fault run.Write = Run Write
+
+-- the copy of some log was written
+abbrev pub WritesCopyOf : Making → Option (List ℕ) → Option (List ℕ) → Type 0
+WritesCopyOf making had has = (log text : List ℕ) × IsMadeOf making log text × Appends had has text
 
 -- the answer is that a read failed
-abbrev pub is_failed_read : {X : Type 0} → Result X PlainFault → Bool
+abbrev pub is_failed_read : {X : Type 0} → Result X CopyFault → Bool
 is_failed_read (Ok x) = false
 is_failed_read (Err (Run (Log fault))) = false
 is_failed_read (Err (Run Read)) = true
 is_failed_read (Err (Run Write)) = false
 is_failed_read (Err (Sums fault)) = false
+is_failed_read (Err (Cut fault)) = false
 
 -- the answer is that a write failed
-abbrev pub is_failed_write : {X : Type 0} → Result X PlainFault → Bool
+abbrev pub is_failed_write : {X : Type 0} → Result X CopyFault → Bool
 is_failed_write (Ok x) = false
 is_failed_write (Err (Run (Log fault))) = false
 is_failed_write (Err (Run Read)) = false
 is_failed_write (Err (Run Write)) = true
 is_failed_write (Err (Sums fault)) = false
+is_failed_write (Err (Cut fault)) = false
+
+-- ---- lists
+
+-- the arguments ask for a list, where there are any
+abbrev pub may_list : {A B E : Type 0} → Result (Vec (String A) B) E → Bool
+may_list (Ok words) = asks_for_list words.items
+may_list (Err error) = false
+
+-- what comes of reading a log for its list: it was read; or it can't be held or be opened, or a read or a write failed
+abbrev pub WritesList : {X : Type 0} → Option (List ℕ) → Option (List ℕ) → Result X RunFault → Type 0
+WritesList old new (Ok end) = (log : List ℕ) × ReadsLog old new log × (opening_fault log ≡ None)
+WritesList old new (Err (Log fault)) = (fault ≡ NoMemory) ⊎ ((fault ≡ TooLong 0) × PassesLimit greatest_length old new)
+    ⊎ ((log : List ℕ) × ReadsLog old new log × (opening_fault log ≡ Some fault))
+WritesList old new (Err Read) = ⊤
+WritesList old new (Err Write) = (log : List ℕ) × ReadsLog old new log × (opening_fault log ≡ None)
+
+-- a part of the list may be written before this fault: memory was refused, or a write failed
+abbrev pub MayHaveListed : RunFault → Type 0
+MayHaveListed (Log fault) = fault ≡ NoMemory
+MayHaveListed Read = ⊥
+MayHaveListed Write = ⊤
+
+-- a part of a list, or all of it, may be written before this failure
+abbrev pub MayFollowList : {A : Type 0} → Failure A → Type 0
+MayFollowList (OfList fault) = MayHaveListed fault
+MayFollowList (EndsEarly fault) = ⊤
+MayFollowList failure = ⊥

@@ -4,7 +4,7 @@ use Rattle.binlog.specs.declared.commands.Failure.{Failure}
 use Rattle.binlog.specs.declared.commands.Failure.TheVariants.{Words}
 use Rattle.binlog.specs.declared.words.WordsFault.TheVariants.{Wrong, NotText, OutOfMemory}
 
--- 2 where the words are wrong, else 1
+-- 2 where the arguments are wrong, else 1
 abbrev pub status_of : {A : Type 0} → Failure A → ℕ
 status_of (Words (Wrong text)) = 2
 status_of (Words NotText) = 2

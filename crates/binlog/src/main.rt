@@ -1,4 +1,4 @@
-//! `binlog` prepares MySQL binary logs for `flashback`.
+//! `binlog` prepares MySQL binary logs for `flashback`, and lists what can be undone of them.
 #![tactic(auto)]
 
 mod commands;

@@ -1,32 +1,62 @@
-//! Every word that the program knows, and the help.
+//! Every option that the program knows, and the help.
 
 use clap::{Arg, Command};
-use console::{flag, option};
+use console::{VERSION, flag, option};
 use std::alloc::{AllocError, Global};
 
 /// The name of the command `plain`.
 pub const PLAIN: &str = "plain";
+/// The name of the command `list`.
+pub const LIST: &str = "list";
+/// The name of the command `split`.
+pub const SPLIT: &str = "split";
+/// The name of `-d`.
+pub const DATABASE: &str = "database";
+/// The name of `-T`.
+pub const TABLE: &str = "table";
+/// The name of `-j`.
+pub const START: &str = "start-position";
+/// The name of `--stop-position`.
+pub const STOP: &str = "stop-position";
+/// The name of `--start-datetime`.
+pub const START_TIME: &str = "start-datetime";
+/// The name of `--stop-datetime`.
+pub const STOP_TIME: &str = "stop-datetime";
+/// The name of `--size`.
+pub const SIZE: &str = "size";
+/// The name of `--json`.
+pub const JSON: &str = "json";
 /// The name of `-r`.
 pub const RESULT_FILE: &str = "result-file";
 /// The name of `--force`.
 pub const FORCE: &str = "force";
-/// The name of the word without an option.
+/// The name of the argument without an option.
 pub const LOG: &str = "LOG";
 
-const VERSION: &str = "0.1.0";
+/// How many bytes the rows events of a statement have at most, where `--size` isn't given.
+pub const DEFAULT_SIZE: u32 = 8_000_000;
 
 const ABOUT: &str = "\
-Prepares MySQL binary logs for flashback.";
+Prepares MySQL binary logs for flashback, lists what can be undone of them, and cuts large statements.";
 
-const USAGE: &str = "binlog plain [-r FILE [--force]] LOG";
+const USAGE: &str = "\
+binlog plain [-r FILE [--force]] LOG
+       binlog list [-d NAME] [-T NAME] [-j POS] [--stop-position POS]
+                   [--start-datetime TIME] [--stop-datetime TIME] [--json] LOG
+       binlog split [--size BYTES] [-r FILE [--force]] LOG";
 
 const AFTER_HELP: &str = "\
 Examples:
+  binlog list plain.000042
+      list the transactions of a log without checksums: where each starts and stops,
+      and which rows it changes, or why it can't be undone
   binlog plain binlog.000042 -r plain.000042
       check every checksum of a log, and write the same log without checksums,
       which flashback reads
+  binlog split undo.binlog -r parts.binlog
+      cut the large statements of a log, so that a server takes them
   binlog plain --help
-      what there is to know of the command
+      what there is to know of a command
 
 Exit status: 0 done, 1 the log is refused or something failed, 2 the arguments are wrong.";
 
@@ -52,7 +82,68 @@ Examples:
 
 Exit status: 0 done, 1 the log is refused or something failed, 2 the arguments are wrong.";
 
-/// Every word that the program knows.
+const LIST_ABOUT: &str = "\
+Lists the units of LOG: its transactions, and what stands between them and can't be undone.
+A line says where a unit starts and stops, its time in UTC, its GTID if it has one, and how many
+rows of each table it changes, or why it can't be undone. The last line counts units, those that
+can't be undone, and the rows of the others.
+LOG has no checksums. flashback -B -j START --stop-position STOP undoes a unit, or more of them in a row.";
+
+const LIST_USAGE: &str = "\
+binlog list [-d NAME] [-T NAME] [-j POS] [--stop-position POS] [--start-datetime TIME]
+                   [--stop-datetime TIME] [--json] LOG";
+
+const LIST_AFTER_HELP: &str = "\
+Positions are bytes from the start of the file, decimal, 0 to 4294967295.
+Times are in UTC, whatever the time zone of the server or of this machine.
+Names are compared byte by byte. With -d or -T units that can't be undone are listed too,
+since what they change isn't known.
+
+Examples:
+  binlog list plain.000042
+      list all units
+  binlog list -d shop -T orders plain.000042
+      those that change one table, with the other tables that they change;
+      -d is the same as --database, -T the same as --table
+  binlog list -j 4021 plain.000042
+      those that start at 4021 or later; -j is the same as --start-position
+  binlog list --stop-position 9144 plain.000042
+      those that start before 9144; what comes behind isn't looked at
+  binlog list --start-datetime '2026-11-21 02:02:00' plain.000042
+      those of this time or later
+  binlog list --stop-datetime '2026-11-21 02:03:00' plain.000042
+      those before this time
+  binlog list --json plain.000042
+      an object of JSON for each, on a line of its own, and one for the totals
+
+Exit status: 0 done, 1 the log is refused, ends too early, or something failed, 2 the arguments are wrong.";
+
+const SPLIT_ABOUT: &str = "\
+Cuts each statement of LOG into statements whose rows events have at most BYTES bytes together,
+or are a single one, each with the table maps that its rows use. A server takes all rows of a
+statement as one packet, which max_allowed_packet limits: mysqlbinlog prints them as base64,
+4 bytes for 3. The changes stay the same and in their order, and transactions stay whole.
+LOG is a log that flashback accepts as a whole, such as one that it wrote.
+Nothing is written unless the whole log can be cut.";
+
+const SPLIT_USAGE: &str = "binlog split [--size BYTES] [-r FILE [--force]] LOG";
+
+const SPLIT_AFTER_HELP: &str = "\
+The new log is binary, and standard output may be a terminal: use -r FILE or > FILE.
+
+Examples:
+  binlog split undo.binlog -r parts.binlog
+      write to a file that isn't there yet; -r is the same as --result-file
+  binlog split --size 1000000 undo.binlog -r parts.binlog
+      statements of at most 1,000,000 bytes of rows events
+  binlog split undo.binlog > parts.binlog
+      the same as the first by the shell, which overwrites a file that is there
+  binlog split undo.binlog -r parts.binlog --force
+      overwrite a file that is there
+
+Exit status: 0 done, 1 the log is refused or something failed, 2 the arguments are wrong.";
+
+/// Every command that the program knows, with its options.
 pub fn all_words<'w>(alloc: Global) -> Result<Command<'w>, AllocError> {
     Command::new(alloc, "binlog")
         .version(VERSION)
@@ -60,22 +151,86 @@ pub fn all_words<'w>(alloc: Global) -> Result<Command<'w>, AllocError> {
         .override_usage(USAGE)
         .after_help(AFTER_HELP)
         .subcommand_required(true)
-        .subcommand(plain_words(alloc)?)
+        .subcommand(plain_words(alloc)?)?
+        .subcommand(list_words(alloc)?)?
+        .subcommand(split_words(alloc)?)
 }
 
-/// The words of `plain`.
+/// The command `plain`, with its options.
 fn plain_words<'w>(alloc: Global) -> Result<Command<'w>, AllocError> {
     let command = Command::new(alloc, PLAIN)
         .about(PLAIN_ABOUT)
         .override_usage(PLAIN_USAGE)
         .after_help(PLAIN_AFTER_HELP);
-    let log = Arg::new(alloc, LOG).help("The binary log, a file");
-    let file = option(alloc, RESULT_FILE, "FILE").help(
+    copying_words(
+        alloc,
+        command,
         "Create FILE once LOG is checked, and write to it; it must not be there",
+    )
+}
+
+/// The command `split`, with its options.
+fn split_words<'w>(alloc: Global) -> Result<Command<'w>, AllocError> {
+    let command = Command::new(alloc, SPLIT)
+        .about(SPLIT_ABOUT)
+        .override_usage(SPLIT_USAGE)
+        .after_help(SPLIT_AFTER_HELP);
+    let size = option(alloc, SIZE, "BYTES").help(
+        "The most bytes of rows events of a statement, headers included; 8000000 if it isn't given",
     );
+    copying_words(
+        alloc,
+        command.arg(size)?,
+        "Create FILE once LOG is cut, and write to it; it must not be there",
+    )
+}
+
+/// Adds the options of a copy, and its argument LOG.
+fn copying_words<'w>(
+    alloc: Global,
+    command: Command<'w>,
+    creating: &'w str,
+) -> Result<Command<'w>, AllocError> {
+    let file = option(alloc, RESULT_FILE, "FILE").help(creating);
     let force = flag(alloc, FORCE).help("With -r: overwrite FILE if it is there");
+    let log = Arg::new(alloc, LOG).help("The binary log, a file");
     command
         .arg(file.short('r'))?
         .arg(force)?
         .arg(log.required(true))
+}
+
+/// The command `list`, with its options.
+fn list_words<'w>(alloc: Global) -> Result<Command<'w>, AllocError> {
+    let command = Command::new(alloc, LIST)
+        .about(LIST_ABOUT)
+        .override_usage(LIST_USAGE)
+        .after_help(LIST_AFTER_HELP);
+    let database = option(alloc, DATABASE, "NAME").help(
+        "Only the units that change a table of this database",
+    );
+    let table = option(alloc, TABLE, "NAME").help(
+        "Only the units that change a table of this name",
+    );
+    let json = flag(alloc, JSON).help("Write JSON, an object a line");
+    let log = Arg::new(alloc, LOG).help("The binary log, a file without checksums");
+    ranging_words(
+        alloc,
+        command.arg(database.short('d'))?.arg(table.short('T'))?,
+    )?
+    .arg(json)?
+    .arg(log.required(true))
+}
+
+/// Adds the options that bound positions and times.
+fn ranging_words<'w>(alloc: Global, command: Command<'w>) -> Result<Command<'w>, AllocError> {
+    let start = option(alloc, START, "POS").help("Only the units that start at POS or behind it");
+    let stop = option(alloc, STOP, "POS").help("Only the units that start before POS");
+    let from = option(alloc, START_TIME, "TIME").help(
+        "Only the units of TIME or later: YYYY-MM-DD hh:mm:ss, in UTC",
+    );
+    let to = option(alloc, STOP_TIME, "TIME").help(
+        "Only the units before TIME: YYYY-MM-DD hh:mm:ss, in UTC",
+    );
+    command.arg(start.short('j'))?.arg(stop)?.arg(from)?.arg(to)
 }

@@ -1,9 +1,11 @@
 //! Runs of the program, over files in the folder for temporary files and writers in memory.
 
 mod failing_writers;
+mod lists;
 mod logs;
 mod refused_memory;
 mod result_files;
+mod splits;
 
 use crate::commands::command;
 use blog_device::Watched;
@@ -131,8 +133,12 @@ fn refused_logs_are_told(rt: HostRuntime) -> Result<(), Fail> {
 #[test]
 fn logs_that_cannot_be_read_are_told(rt: HostRuntime) -> Result<(), Fail> {
     let absent = path_of(&rt, "absent")?;
+    let absent_name = absent.as_str();
+    let line = format!(in rt.alloc();
+        "binlog: cannot open the log {absent_name}: No such file or directory (os error 2): "
+    )?;
     let outcome = run_words(&rt, &["plain", absent.as_str()])?;
-    assert!(rt; outcome.is_refusal(1, "binlog: cannot open the log: "));
+    assert!(rt; outcome.is_refusal(1, line.as_str()));
     let folder = env::temp_dir(&rt)?;
     let outcome = run_words(&rt, &["plain", folder.as_str()])?;
     assert!(rt; outcome.is_refusal(1, "binlog: read failed: "));
@@ -147,7 +153,12 @@ fn help_and_version_are_written(rt: HostRuntime) -> Result<(), Fail> {
             "binlog plain [-r FILE [--force]] LOG",
         ),
         (&["plain", "--help"], "-r is the same as --result-file"),
-        (&["--version"], "binlog 0.1.0\n"),
+        (&["list", "--help"], "-j is the same as --start-position"),
+        (
+            &["split", "--help"],
+            "binlog split [--size BYTES] [-r FILE [--force]] LOG",
+        ),
+        (&["--version"], "binlog 0.1.0 (proved with "),
     ];
     for (words, text) in cases {
         let outcome = run_words(&rt, words)?;

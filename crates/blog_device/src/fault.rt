@@ -9,7 +9,7 @@ use std::alloc::AllocError;
 /// Why a run did not come to its end.
 #[derive(Clone, Copy, Debug, PartialEq, Eq)]
 pub enum RunFault {
-    /// The log is refused, or a growth was.
+    /// The log is refused, or memory was.
     Log(Fault),
     /// A call of the reader failed.
     Read,

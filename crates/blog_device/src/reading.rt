@@ -21,7 +21,7 @@ const STEP: usize = 65_536;
 /// Reads a log to the reader's end.
 ///
 /// `Log(TooLong)` at 0 where there are more than 4,294,967,295 bytes, of which one more than that
-/// is then read; `Log(OutOfMemory)` where a growth was refused; `Read` where a read failed. No
+/// is then read; `Log(OutOfMemory)` where memory was refused; `Read` where a read failed. No
 /// other fault.
 pub fn read_log<A: Allocator, R: Read>(
     alloc: A,

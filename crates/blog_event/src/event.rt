@@ -3,7 +3,7 @@
 /// The six fields of an event's header (MySQL Internals manual, "Binary Log Event Header").
 #[derive(Clone, Copy, Debug, PartialEq, Eq)]
 pub struct Header {
-    /// Seconds since 1970.
+    /// Seconds since 1970, in UTC.
     pub timestamp: u32,
     /// The event's type.
     pub kind: u8,
@@ -11,7 +11,7 @@ pub struct Header {
     pub server_id: u32,
     /// The event's size in bytes, header included.
     pub size: u32,
-    /// Where the next event begins in the file that the server wrote.
+    /// Where the event ends in the file for which it was written, in bytes from that file's start.
     pub log_pos: u32,
     /// The header's flags.
     pub flags: u16,
@@ -24,6 +24,6 @@ pub struct Event<'a> {
     pub pos: u32,
     /// The header.
     pub header: Header,
-    /// The bytes after the header.
+    /// The bytes behind the header.
     pub body: &'a [u8],
 }

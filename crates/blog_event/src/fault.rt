@@ -6,8 +6,8 @@ ghost use Rattle.blog_event.specs.declared.fault.Fault.TheVariants.{OutOfMemory}
 use std::alloc::{AllocError, AllocFailed};
 use thiserror::Error;
 
-/// Why a log is refused. Each fault but the last has a byte position `pos` from the file's start:
-/// that of the event at fault, save where a line says otherwise.
+/// Why a log is refused. Each fault but `OutOfMemory` has a byte position `pos` from the file's start: that of the event at
+/// fault, save where a line says otherwise.
 #[derive(Clone, Copy, Debug, PartialEq, Eq, Error)]
 pub enum Fault {
     /// The file doesn't begin with FE 62 69 6E; at 0.
@@ -37,8 +37,8 @@ pub enum Fault {
     /// An event where its kind can't stand.
     #[error("OutOfPlace at {pos}")]
     OutOfPlace { pos: u32 },
-    /// A transaction ends inside a statement; or the range ends inside or announced, then at the
-    /// first byte after the range's last event.
+    /// A transaction ends inside a statement; or the range ends inside a transaction or behind a transaction's id, then at
+    /// the first byte behind the range's last event.
     #[error("Unended at {pos}")]
     Unended { pos: u32 },
     /// A rows event whose table id isn't mapped in its statement.
@@ -62,7 +62,7 @@ pub enum Fault {
     /// More than 4,294,967,295 bytes; at 0.
     #[error("TooLong at {pos}")]
     TooLong { pos: u32 },
-    /// A growth was refused.
+    /// Memory was refused.
     #[error("OutOfMemory")]
     OutOfMemory,
 }

@@ -1,6 +1,7 @@
-//! The check of the format description event, the first of each file (MySQL Internals manual,
+//! The checks of the format description event, the first of each file (MySQL Internals manual,
 //! "FORMAT_DESCRIPTION_EVENT"). Its body: binlog version, 2 bytes; server version, 50; creation time, 4; header length, 1;
-//! the post-header length of each event type from 1 on, 1 each; checksum algorithm, 1; checksum, 4.
+//! the post-header length of each event type from 1 on, 1 each; and of a server from 5.6.1 on checksum algorithm, 1, and
+//! checksum, 4.
 
 ghost use Rattle.std.specs.Prelude.{◌≡◌, ◌+◌, ◌-◌, ◌<◌, ◌≤◌, ◌==◌, ◌&&◌, nat_le, if◌then◌else◌, Option, length, option_map, IfOk};
 ghost use Rattle.std.specs.Result.{result_err};

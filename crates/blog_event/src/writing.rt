@@ -39,6 +39,7 @@ fn joined_len(parts: &[&[u8]]) -> usize
 
 /// Makes room for an event with a body of `body_len` bytes, and appends its header, with its size and where it ends.
 /// `out` holds the file from position `from` on.
+#[inline(always)]
 fn put_header<A: Allocator>(
     out: &mut Vec<u8, A>,
     from: usize,
@@ -103,6 +104,7 @@ pub fn put_event<A: Allocator>(
 
 /// Appends an event to a part of a file: `out` holds the file's bytes from position `from` on. The rest is as for
 /// `put_event`, its errors too; `log_pos` is a position of the whole file.
+#[inline(always)]
 pub fn put_event_from<A: Allocator>(
     out: &mut Vec<u8, A>,
     from: usize,
@@ -148,6 +150,7 @@ pub fn open_event<A: Allocator>(
 
 /// Appends an event to a part of a file that begins at position `from`, with a body to be written over. The rest is as for
 /// `open_event` and `put_event_from`.
+#[inline(always)]
 pub fn open_event_from<A: Allocator>(
     out: &mut Vec<u8, A>,
     from: usize,

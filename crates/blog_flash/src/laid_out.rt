@@ -19,7 +19,7 @@ use blog_trans::{GroupEvent, Index};
 use std::alloc::Allocator;
 
 /// What stands in front of the groups: the magic number and the format description, as they are. With the groups behind it,
-/// in an order, that is their log; with others behind it, that is the log of these.
+/// in an order, that is their log; with others behind it, that is the log of these. `bytes` are those of the index.
 pub fn front<'b, A: Allocator>(bytes: &'b [u8], index: &Index<'_, '_, A>) -> &'b [u8]
     requires { bytes.now ≡ index_bytes index.now }
     ensures any { (ts : List Transaction) → result.now ++ text_from (length result.now) (group_events ts) ≡ laid_out_after (read (index_bytes index.now) (index_selection index.now).stop) ts }
@@ -44,7 +44,9 @@ pub(crate) fn put_front<A: Allocator>(out: &mut Vec<u8, A>, front: &[u8])
     out.extend_from_slice(front).unwrap();
 }
 
-/// Appends an event as it is, with the log_pos that it has there. `out` holds the log from position `from` on.
+/// Appends an event as it is, with the log_pos that it has there. `out` holds the log from position `from` on, and has room
+/// for the event, which is to end at most at 4,294,967,295.
+#[inline(always)]
 pub fn put_same<A: Allocator>(out: &mut Vec<u8, A>, from: usize, event: &Event<'_>)
     requires room { vec_len out.old + event_size (event_of event.now) ≤ vec_capacity out.old }
     requires short { from + vec_len out.old + event_size (event_of event.now) ≤ 4294967295 }
@@ -56,6 +58,7 @@ pub fn put_same<A: Allocator>(out: &mut Vec<u8, A>, from: usize, event: &Event<'
 }
 
 /// Writes the body of a rows event over the last bytes, from position `at` on.
+#[inline(always)]
 fn put_body_at<A: Allocator>(
     out: &mut Vec<u8, A>,
     at: usize,
@@ -71,8 +74,10 @@ fn put_body_at<A: Allocator>(
     rows.put_body(order, last, &mut out[at..]);
 }
 
-/// Appends a rows event, with the log_pos that it has there and without extra bytes; backward it undoes its rows, the
-/// last one first. `out` holds the log from position `from` on.
+/// Appends what is written for a rows event, with the log_pos that it has there and without extra bytes, and with the end
+/// flag where it is the last of its statement; backward it undoes its rows, the last one first. `out` holds the log from
+/// position `from` on, and has room for it; it is to end at most at 4,294,967,295.
+#[inline(always)]
 pub fn put_rows_event<A: Allocator>(
     out: &mut Vec<u8, A>,
     from: usize,
@@ -97,6 +102,7 @@ pub fn put_rows_event<A: Allocator>(
 
 /// Appends what is written for an event of the groups, with the log_pos that it has there. `out` holds the log from
 /// position `from` on.
+#[inline(always)]
 pub(crate) fn put_group_event<A: Allocator>(
     out: &mut Vec<u8, A>,
     from: usize,

@@ -34,7 +34,7 @@ pub enum Mode {
     Summary,
 }
 
-/// The selected groups of a log.
+/// The index of a log under a selection, with the errors of `answer`.
 pub fn selected<'a, 's, A: Allocator + Copy>(
     alloc: A,
     bytes: &'a [u8],
@@ -123,7 +123,7 @@ fn counted<A: Allocator + Copy>(
 
 /// What the mode makes of a log under a selection.
 ///
-/// A log that is refused is answered with its first fault, in every mode. `OutOfMemory` where a growth was refused.
+/// A log that is refused is answered with its first fault, in every mode. `OutOfMemory` where memory was refused.
 pub fn answer<A: Allocator + Copy>(
     alloc: A,
     bytes: &[u8],

@@ -17,7 +17,7 @@ use std::io::{Read, Write};
 /// Reads a log to the reader's end and gives what it is answered with in this mode.
 ///
 /// `Log` of the log's fault where it is refused; `Log(TooLong)` at 0 where it has more than
-/// 4,294,967,295 bytes, of which one more than that is then read; `Log(OutOfMemory)` where a growth
+/// 4,294,967,295 bytes, of which one more than that is then read; `Log(OutOfMemory)` where memory
 /// was refused; `Read` where a read failed. Never `Write`.
 pub fn prepare<A: Allocator + Copy, R: Read>(
     alloc: A,

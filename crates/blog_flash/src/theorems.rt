@@ -43,8 +43,8 @@ pub fn written_logs_are_no_longer()
 {}
 
 /// Of each accepted log and selection the groups have events of the range, none of them twice, and so no more than that
-/// has; their sizes and the position behind the event at 4 add up to at most the length of the log. Of every log each rows event of the groups
-/// goes by the map of its table id that its statement has. The call does nothing.
+/// has; their sizes and the position behind the event at 4 add up to at most the length of the log. Of every log each rows
+/// event of the groups goes by the map of its table id that its statement has. The call does nothing.
 pub fn groups_show_each_event_once()
     ensures maps { (bytes : List ℕ) (sel : Selection) → GoByOwnMaps (placed_groups bytes sel) }
     ensures once { (bytes : List ℕ) (sel : Selection) → AreBytes bytes → IsAccepted bytes sel → ShowsEachOnce bytes sel }

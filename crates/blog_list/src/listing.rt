@@ -32,7 +32,8 @@ const CHUNK_LEN: usize = 1 << 16;
 /// by some 64 KB at once.
 ///
 /// Answers why the log ends too early, where it does: `CutEvent` where it ends inside an event, `Unended` at its end where it
-/// ends inside a transaction. Where units stop being wanted at a position, what comes behind it isn't read.
+/// ends inside a transaction. Where units stop being wanted at a position, what begins there or behind it is neither listed nor
+/// looked at.
 ///
 /// Fails with `Log` of the fault of a log that can't be opened, of which nothing is written, with `Log(OutOfMemory)`, and with
 /// `Write` where a write failed. Memory is taken from `alloc`, and for lines of JSON from `global`.
@@ -89,7 +90,7 @@ fn list_units<A: Allocator + Copy, O: Write>(
         }
     }
     write_end(global, &mut text, &totals, form, writer)?;
-    Ok(early_end(log, behind, whole))
+    Ok(early_end(log, behind, whole, wanted.stop))
 }
 
 /// Appends the line above all others, where the form has one.
@@ -147,11 +148,16 @@ fn write_end<A: Allocator + Copy, O: Write>(
     put(writer, text)
 }
 
-/// Why a log ends too early, whose last unit stops at a position, and is whole or not.
-fn early_end(log: &Log<'_>, behind: u32, whole: bool) -> Option<Fault> {
+/// Why a log ends too early: inside its last unit, where that isn't whole, or behind it and in front of the stop.
+fn early_end(log: &Log<'_>, behind: u32, whole: bool, stop: Option<u32>) -> Option<Fault> {
+    let mut at = behind;
     for item in log.events(behind) {
-        if let Err(fault) = item {
-            return Some(fault);
+        if whole && !is_before(at, stop) {
+            return None;
+        }
+        match item {
+            Ok(event) => at = event.pos.saturating_add(event.header.size),
+            Err(fault) => return Some(fault),
         }
     }
     if whole {

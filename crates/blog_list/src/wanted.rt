@@ -12,7 +12,7 @@ use blog_trans::{Index, TableCount};
 use blog_units::Unit;
 use std::alloc::Allocator;
 
-/// Which units of a log are wanted.
+/// Which units of a log are wanted: those that meet each condition that is given.
 #[derive(Clone, Copy, Debug)]
 pub struct Wanted<'w> {
     /// Those that start at this byte position or behind it.
@@ -21,12 +21,12 @@ pub struct Wanted<'w> {
     pub stop: Option<u32>,
     /// Those of this time or later, in seconds since 1970 in UTC.
     pub from_time: Option<u32>,
-    /// Those before this time.
+    /// Those before this time, in seconds since 1970 in UTC.
     pub to_time: Option<u32>,
-    /// Those that change a table of this schema. Where a name of tables is given too, it is that of the same table. Units that
-    /// can't be undone are wanted too: which tables they change isn't known.
+    /// Those that change a table of this schema, compared byte by byte. Where `table` is given too, one table has both names.
+    /// Units that can't be undone are wanted too: which tables they change isn't known.
     pub database: Option<&'w [u8]>,
-    /// Those that change a table of this name, and as for the schema.
+    /// Those that change a table of this name, compared byte by byte; the rest is as for `database`.
     pub table: Option<&'w [u8]>,
 }
 

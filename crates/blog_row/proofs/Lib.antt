@@ -19,5 +19,7 @@ pub mod Reversing
 pub mod ReversedRows
 pub mod KnownRows
 pub mod RowsWalking
-pub mod StorageWalking
 pub mod WrittenBody
+pub mod TypeTables
+pub mod PositionWalking
+pub mod StorageWalking

@@ -1,5 +1,5 @@
 -- Slices are written over bytes, one after the other.
-use Rattle.std.proofs.Common.{◌≡◌, ℕ, ◌+◌, ◌-◌, ◌≤◌, List, [], ◌++◌, length, take, drop, sym, ap, ap₂, ◌∙◌, arith, append-nil, append_assoc, length-append, length-drop, length-take-le, take-append-drop, take_at, drop_at, drop-drop}
+use Rattle.std.proofs.Common.{◌≡◌, ℕ, ◌+◌, ◌-◌, ◌≤◌, List, [], ◌++◌, length, take, drop, sym, ap, ap₂, subst, ◌∙◌, arith, append-nil, append_assoc, length-append, length-drop, length-take-le, take-append-drop, take_at, drop_at, drop-drop}
 
 -- what is written and what is left to be written are all, and behind what is written stands what stood there
 pub record IsOver (all rest : List ℕ) (at : ℕ) (old to : List ℕ) : Type 0 where
@@ -34,6 +34,14 @@ over-more all part rest old to at k within long over =
           ∙ ap (drop k) over.behind ∙ drop-drop k at old;
       len = omega arith;
     }
+
+-- the same, where what stands behind it is told from the front on
+pub over-part : (all part rest old to new : List ℕ) (at k : ℕ) → length all ≤ length old → k ≡ length part → IsOver all (part ++ rest) at old to
+    → new ≡ take at to ++ (part ++ drop (at + length part) to) → IsOver all rest (at + k) old new
+over-part all part rest old to new at k within long over is =
+    let number : (at + k) - at ≡ length part = omega (arith, long) in
+    let behind : drop ((at + k) - at) (drop at to) ≡ drop (at + length part) to = ap (λ (n : ℕ). drop n (drop at to)) number ∙ drop-drop (length part) at to in
+    subst (λ (t : List ℕ). IsOver all rest (at + k) old t) (ap (λ (t : List ℕ). take at to ++ (part ++ t)) behind ∙ sym is) (over-more all part rest old to at k within long over)
 
 -- all of them
 pub over-all : (all old to : List ℕ) (at : ℕ) → IsOver all [] at old to → to ≡ all ++ drop (length all) old

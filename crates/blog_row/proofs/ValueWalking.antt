@@ -1,4 +1,4 @@
--- How the code goes from value to value.
+-- How the code goes through the values of an image column by column, whether they are NULL or not.
 use Rattle.std.proofs.Common.{◌≡◌, ◌≤◌, ℕ, suc, ◌+◌, ◌-◌, true, false, Bool, is_some, List, [], ◌∷◌, length, Option, Some, None, option_and_then, option_map, unwrap_or, refl, sym, ap, ◌∙◌, arith}
 use Rattle.blog_row.specs.Checks.{cut}
 use Rattle.blog_row.specs.Column.{Column, Layout, value_front}

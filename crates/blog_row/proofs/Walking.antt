@@ -1,4 +1,4 @@
--- How the code walks over an image, column by column.
+-- How the code walks over an image from value to value, past the columns that are NULL.
 use Rattle.std.proofs.Common.{◌≡◌, ◌≢◌, ◌<◌, ◌≤◌, ℕ, zero, suc, ◌+◌, ◌-◌, ◌/◌, ◌%◌, ◌^◌, min, true, false, List, [], ◌∷◌, ◌++◌, length, take, drop, get_or, Option, Some, None, option_and_then, option_map, refl, sym, ap, ◌∙◌, subst, ⊎_elim, arith, append_assoc, length-append, length-drop, take-append-drop, take_at}
 use Rattle.std.specs.List.{list_all, slice_get}
 use Rattle.std.proofs.lemmas.Bool.{cond-true, cond-false, and_parts, eq-eqb, cases_order}
@@ -7,7 +7,7 @@ use Rattle.blog_row.specs.Checks.{cut}
 use Rattle.blog_row.specs.Column.{Column, Layout, Storage, storage_of, is_column, metadata_total, columns_of, value_stored, value_front}
 use Rattle.blog_row.specs.Image.{Row, bitmap_len, is_marked, IsImage, IsSomeImage, values_front, image_front, image_len_of}
 use Rattle.blog_row.specs.ImageView.{AreNull, at_column}
-use Rattle.blog_row.proofs.Cutting.{none_is_not, map_found}
+use Rattle.blog_row.proofs.Cutting.{map_found}
 use Rattle.blog_row.proofs.Images.{image_found, image_again}
 use Rattle.blog_row.proofs.Layouts.{length_of_columns, columns_behind}
 
@@ -244,15 +244,6 @@ image_there sought layout bytes value rest e =
       long = ap (option_map (λ r. length bytes - length r.1)) read.1;
       image = (read.0.0, subst (IsImage layout read.0.0) (sym (image_taken bytes found.0 read.0.1 found.2)) found.1);
     })
-
--- where a map gives nothing, so does another
-nothing_mapped : {A B C : Type 0} (f : A → B) (g : A → C) (o : Option A) → None ≡ option_map f o → option_map g o ≡ None
-nothing_mapped f g None e = refl
-nothing_mapped f g (Some x) e = none_is_not (f x) e
-
--- no image that is read
-pub image_gone : (sought : ℕ) (layout : Layout) (bytes : List ℕ) → None ≡ option_map (at_column sought) (image_front layout bytes) → image_len_of layout bytes ≡ None
-image_gone sought layout bytes e = nothing_mapped (at_column sought) (λ r. length bytes - length r.1) (image_front layout bytes) e
 
 -- no other number of bytes is an image's
 pub image_only : (layout : Layout) (bytes : List ℕ) (m : ℕ) → m ≤ length bytes → IsSomeImage layout (take m bytes) → image_len_of layout bytes ≡ Some m

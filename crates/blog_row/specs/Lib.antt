@@ -14,3 +14,4 @@ pub mod RowsEventView
 pub mod RowsView
 pub mod RowsWriting
 pub mod ValuesView
+pub mod PositionView

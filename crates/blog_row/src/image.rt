@@ -6,6 +6,7 @@ ghost use Rattle.byteorder.specs.Endian.{little_number};
 ghost use Rattle.blog_row.specs.Checks.{cut, cut_seen};
 ghost use Rattle.blog_row.specs.Column.{value_stored, is_column, columns_of};
 ghost use Rattle.blog_row.specs.Image.{bitmap_len, is_marked, values_front, image_front};
+ghost use Rattle.blog_row.specs.PositionView.{EndsAt};
 ghost use Rattle.blog_row.specs.StorageView.{prefix_seen, storage_seen};
 ghost use Rattle.blog_row.specs.ImageView.{AreNull, front_seen, at_column};
 
@@ -71,10 +72,25 @@ pub(crate) fn stored_at(storage: Storage, bytes: &[u8]) -> Option<(&[u8], &[u8])
     }
 }
 
+/// Where the value ends that is stored from a position on, which may be past the bytes.
+#[inline(always)]
+pub(crate) fn stored_end(storage: Storage, at: usize, bytes: &[u8]) -> Option<usize>
+    ensures { EndsAt (value_stored (storage_seen storage)) at bytes.now result }
+{
+    match storage {
+        Storage::Fixed(width) => at.checked_add(width),
+        Storage::Counted(prefix) => {
+            let (_, rest) = cut_at(at, bytes)?;
+            let (count, _) = cut_at(prefix.bytes(), rest)?;
+            (at + prefix.bytes()).checked_add(length_of(prefix, count))
+        }
+    }
+}
+
 /// The first column from `from` on that is not NULL, if there is one below `columns`. Eight columns are passed over at
 /// once where they are all NULL.
 #[inline(always)]
-fn next_value(nulls: &[u8], from: usize, columns: usize) -> Option<usize>
+pub(crate) fn next_value(nulls: &[u8], from: usize, columns: usize) -> Option<usize>
     requires long { columns ≤ 8 * length nulls.now }
     ensures nulls { AreNull nulls.now from (unwrap_or result columns) }
     ensures value { IfSome result (λ i. (from ≤ i) × (i < columns) × (is_marked nulls.now i ≡ false)) }

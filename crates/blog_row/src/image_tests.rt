@@ -1,7 +1,7 @@
 //! Images of each column type, at the limits of its metadata.
 
 use crate::layout::Layout;
-use std::alloc::Global;
+use std::alloc::{AllocError, Global};
 use std::process::Abort;
 use std::test::Fail;
 
@@ -19,8 +19,44 @@ fn check_image(
     column: usize,
     value: Option<Option<&[u8]>>,
 ) {
-    assert_eq!(rt; layout.image_len(bytes), len, "{layout:?}");
-    assert_eq!(rt; layout.value(bytes, column), value, "{layout:?}");
+    let has_len = layout.image_len(bytes) == len;
+    assert!(rt;
+        has_len && layout.value(bytes, column) == value,
+        "{layout:?}"
+    );
+}
+
+/// A column of this type, as it stands behind the names of a table map.
+fn table_of(alloc: Global, kind: u8, metadata: &[u8]) -> Result<Vec<u8>, Fail> {
+    let mut table = vec![in alloc; 1, kind]?;
+    table.push(u8::try_from(metadata.len())?)?;
+    table.extend_from_slice(metadata)?;
+    table.push(0)?;
+    Ok(table)
+}
+
+/// The image of a value of so many bytes behind the bytes of its length, and a byte behind it.
+fn image_of(alloc: Global, count: &[u8], width: usize) -> Result<Vec<u8>, AllocError> {
+    let mut image = vec![in alloc; 0xFE]?;
+    image.extend_from_slice(count)?;
+    for _ in 0..width {
+        image.push(0x61)?;
+    }
+    image.push(0x61)?;
+    Ok(image)
+}
+
+/// A value in an image that is whole, has a byte behind it, and lacks its last; and NULL.
+fn check_images(rt: &impl Abort, layout: Layout<'_>, longer: &[u8], width: usize) {
+    let (_, image) = longer.split_last().expect(rt, "a byte behind the image");
+    let (_, cut) = image.split_last().expect(rt, "an image");
+    let len = Some(image.len());
+    let value = image.get(image.len().saturating_sub(width)..);
+    check_image(rt, layout, image, len, 0, Some(value));
+    check_image(rt, layout, image, len, 1, None);
+    check_image(rt, layout, longer, len, 0, Some(value));
+    check_image(rt, layout, cut, None, 0, None);
+    check_image(rt, layout, &[0xFF, 0x61], Some(1), 0, Some(None));
 }
 
 /// Images of one column: a value of so many bytes behind the bytes of its length, and NULL.
@@ -32,25 +68,9 @@ fn check_column(
     count: &[u8],
     width: usize,
 ) -> Result<(), Fail> {
-    let mut table = vec![in alloc; 1, kind]?;
-    table.push(u8::try_from(metadata.len())?)?;
-    table.extend_from_slice(metadata)?;
-    table.push(0)?;
-    let layout = layout_at(rt, &table);
-
-    let value = vec![in alloc; 0x61; width]?;
-    let mut image = vec![in alloc; 0xFE]?;
-    image.extend_from_slice(count)?;
-    image.extend_from_slice(&value)?;
-    let len = image.len();
-    check_image(rt, layout, &image, Some(len), 0, Some(Some(&value)));
-    check_image(rt, layout, &image, Some(len), 1, None);
-    image.push(0x61)?;
-    check_image(rt, layout, &image, Some(len), 0, Some(Some(&value)));
-    let _ = image.pop();
-    let _ = image.pop();
-    check_image(rt, layout, &image, None, 0, None);
-    check_image(rt, layout, &[0xFF, 0x61], Some(1), 0, Some(None));
+    let table = table_of(alloc, kind, metadata)?;
+    let longer = image_of(alloc, count, width)?;
+    check_images(rt, layout_at(rt, &table), &longer, width);
     Ok(())
 }
 

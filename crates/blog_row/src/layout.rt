@@ -13,6 +13,7 @@ use crate::image::image_at;
 use crate::names::names_at;
 use crate::packed::packed_at;
 use crate::storages::{MOST_STORAGES, len_by, storages_of};
+use crate::typed_walk::len_by_types;
 use crate::values::Values;
 
 /// How many bytes of metadata the types have together, where the profile has each of them.
@@ -164,9 +165,7 @@ impl Layout<'_> {
         ensures found { IfSome result (λ m. (m ≤ length bytes.now) × IsSomeImage (layout_columns self.now) (take m bytes.now)) }
         ensures only { (m : ℕ) → m ≤ length bytes.now → IsSomeImage (layout_columns self.now) (take m bytes.now) → result ≡ Some m }
     {
-        // Any column will do: its value is not asked for.
-        let front = image_at(self.kinds, self.metadata, bytes, 0)?;
-        Some(bytes.len() - front.rest.len())
+        len_by_types(self.kinds, self.metadata, bytes)
     }
 
     /// How each column is stored, where there are at most 64; what stands behind them means nothing.

@@ -17,6 +17,8 @@ mod rows_event;
 mod rows_parts;
 mod storages;
 mod table_map;
+mod type_tables;
+mod typed_walk;
 mod values;
 
 pub use fault::RowFault;

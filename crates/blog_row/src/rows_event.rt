@@ -1,7 +1,7 @@
 //! Rows events: the fixed part of a body, a whole body as it was read, and the body that is written for it, with its rows as
 //! they stand or reversed.
 
-ghost use Rattle.std.specs.Prelude.{◌≡◌, ◌+◌, ◌≤◌, ◌<◌, ◌%◌, ◌^◌, ◌==◌, ◌++◌, Some, drop, length, is_some, true};
+ghost use Rattle.std.specs.Prelude.{◌≡◌, ◌+◌, ◌≤◌, ◌<◌, ◌%◌, ◌^◌, ◌==◌, ◌++◌, Some, drop, length, is_some, take, true};
 ghost use Rattle.blog_event.specs.Writing.{joined};
 ghost use Rattle.blog_row.specs.declared.kind.RowsVersion.{RowsVersion};
 ghost use Rattle.blog_row.specs.Image.{images_of, bitmap_len};
@@ -126,7 +126,7 @@ impl<'a> RowsEvent<'a> {
         RowsEvent::read_as(kind, body, layout)
     }
 
-    /// Reads a body as `read` does, by what the event does to its rows.
+    /// Reads a body as `read` does, by its kind in place of its event type.
     pub fn read_as(
         kind: RowsKind,
         body: &'a [u8],
@@ -208,6 +208,7 @@ impl<'a> RowsEvent<'a> {
 
     /// The event of a body, where it is known that reading gives one. The images are not read again: it takes as long
     /// for many rows as for few.
+    #[inline(always)]
     pub fn known(kind: RowsKind, body: &'a [u8], layout: &Layout<'a>) -> RowsEvent<'a>
         requires { IsOk (rows_of kind (layout_columns layout.now) body.now) }
         ensures body { rows_of kind (layout_columns layout.now) body.now ≡ Ok (rows_body result) }
@@ -311,6 +312,9 @@ impl<'a> RowsEvent<'a> {
     }
 }
 
+/// How many bytes the table id has.
+const ID_LEN: usize = 6;
+
 /// How many bytes the table id and the flags have.
 const HEAD_LEN: usize = 8;
 
@@ -327,20 +331,34 @@ fn extra_len(version: RowsVersion) -> usize
     }
 }
 
+/// Writes a slice over bytes, from position `at` on. Most slices have a byte or none, for which no call pays.
+#[inline(always)]
+fn write_at(to: &mut [u8], at: usize, part: &[u8])
+    requires { at + length part.now ≤ length to.old }
+    ensures { to.new ≡ take at to.old ++ (part.now ++ drop (at + length part.now) to.old) }
+{
+    match part.len() {
+        0 => {}
+        1 => to[at] = part[0],
+        len => to[at..at + len].copy_from_slice(part),
+    }
+}
+
 /// Writes slices over bytes, one after the other, from the front on.
+#[inline(always)]
 fn write_over(to: &mut [u8], parts: &[&[u8]])
     requires { length (joined parts.now) ≤ length to.old }
     ensures { to.new ≡ joined parts.now ++ drop (length (joined parts.now)) to.old }
 {
     let mut at = 0;
     for part in parts {
-        to[at..at + part.len()].copy_from_slice(part);
+        write_at(to, at, part);
         at += part.len();
     }
 }
 
 impl<'a> RowsEvent<'a> {
-    ghost use Rattle.std.specs.Prelude.{◌-◌, Bool, reverse, take};
+    ghost use Rattle.std.specs.Prelude.{◌-◌, Bool, reverse};
     ghost use Rattle.std.specs.List.{concat};
     ghost use Rattle.byteorder.specs.Endian.{little_bytes};
     ghost use Rattle.blog_row.specs.declared.order.Order.{Order};
@@ -350,6 +368,7 @@ impl<'a> RowsEvent<'a> {
 
     /// Writes the images from the last to the first into room of their size, `rows_len` bytes. That puts the rows in
     /// reverse order, each with its images before and after exchanged. It takes no memory.
+    #[inline(always)]
     pub fn put_reversed(&self, to: &mut [u8])
         requires room { length to.old ≡ length (concat (rows_body self.now).images) }
         ensures images { to.new ≡ concat (reverse (rows_body self.now).images) }
@@ -379,6 +398,7 @@ impl<'a> RowsEvent<'a> {
     }
 
     /// Writes the images into room of their size.
+    #[inline(always)]
     fn put_images(&self, order: Order, to: &mut [u8])
         requires room { length to.old ≡ length (concat (rows_body self.now).images) }
         ensures images { to.new ≡ concat (content_in order (rows_content self.now)).images }
@@ -390,6 +410,7 @@ impl<'a> RowsEvent<'a> {
     }
 
     /// How many bytes the body has that is written for the event, in either order; never more than the body that was read.
+    #[inline(always)]
     pub fn body_len(&self) -> usize
         ensures len { (order : Order) → (last : Bool) → result ≡ length (written_body last (content_in order (rows_content self.now))) }
         ensures shorter { result ≤ length (rows_text (rows_body self.now)) }
@@ -400,18 +421,22 @@ impl<'a> RowsEvent<'a> {
     }
 
     /// Writes all fields of the body but the images, from the front on.
+    #[inline(always)]
     fn put_front(&self, order: Order, last: bool, to: &mut [u8])
         requires room { length (written_front last (content_in order (rows_content self.now))) ≤ length to.old }
         ensures front { to.new ≡ written_front last (content_in order (rows_content self.now)) ++ drop (length (written_front last (content_in order (rows_content self.now)))) to.old }
     {
+        // Its length is known to the compiler then.
+        let (id, _) = self.id().split_at(ID_LEN);
         let flags = self.flag_bytes(last);
         let extra_len = &NO_EXTRA[..extra_len(self.kind().version)];
         let (first, second) = self.bitmaps_in(order);
-        let parts = [self.id(), &flags, extra_len, self.count(), first, second];
+        let parts = [id, &flags, extra_len, self.count(), first, second];
         write_over(to, &parts);
     }
 
     /// Writes the images over the last bytes.
+    #[inline(always)]
     fn put_last_images(&self, order: Order, to: &mut [u8])
         requires room { length (concat (rows_body self.now).images) ≤ length to.old }
         ensures images { to.new ≡ take (length to.old - length (concat (rows_body self.now).images)) to.old ++ concat (content_in order (rows_content self.now)).images }
@@ -423,6 +448,7 @@ impl<'a> RowsEvent<'a> {
     /// Writes a body for the event into room of its size, `body_len` bytes: of the same version, with its rows in this
     /// order, without extra bytes, and with the end flag where it is the last rows event of its statement. It takes no
     /// memory.
+    #[inline(always)]
     pub fn put_body(&self, order: Order, last: bool, to: &mut [u8])
         requires room { length to.old ≡ length (written_body last (content_in order (rows_content self.now))) }
         ensures body { to.new ≡ written_body last (content_in order (rows_content self.now)) }

@@ -1,10 +1,10 @@
 //! The parts of a rows event's body.
 
-ghost use Rattle.std.specs.Prelude.{◌≡◌, ◌≤◌, ◌*◌, length, option_map, IfSome};
+ghost use Rattle.std.specs.Prelude.{◌≡◌, ◌<◌, ◌≤◌, ◌*◌, ℕ, true, length, option_map, IfSome};
 ghost use Rattle.std.specs.List.{list_all, AllByRecursion};
 ghost use Rattle.blog_row.specs.Checks.{or_bad};
 ghost use Rattle.blog_row.specs.RowsKind.{images_a_row};
-ghost use Rattle.blog_row.specs.Image.{bitmap_len};
+ghost use Rattle.blog_row.specs.Image.{bitmap_len, is_marked};
 ghost use Rattle.blog_row.specs.RowsEvent.{are_marked, pieces, bitmaps_by, extra_of, two_bitmaps};
 ghost use Rattle.blog_row.specs.RowsEventView.{extra_seen, front_seen, rows_front, bitmaps_seen};
 ghost use Rattle.blog_row.specs.declared.kind.RowsVersion.TheVariants.{Two};
@@ -122,11 +122,27 @@ pub(crate) fn bitmaps_at(action: RowsAction, len: usize, bytes: &[u8]) -> Option
     }
 }
 
+/// Whether all bits are set, those behind the last column too.
+fn is_full(bitmap: &[u8]) -> bool
+    ensures { result ≡ true → (i : ℕ) → i < 8 * length bitmap.now → is_marked bitmap.now i ≡ true }
+{
+    for byte in bitmap {
+        if *byte != 255 {
+            return false;
+        }
+    }
+    true
+}
+
 /// Whether the first `columns` bits are set.
 pub(crate) fn are_set(bitmap: &[u8], columns: usize) -> bool
     requires { columns ≤ 8 * length bitmap.now }
     ensures { result ≡ are_marked columns bitmap.now }
 {
+    // A server sets the bits behind the last column too.
+    if is_full(bitmap) {
+        return true;
+    }
     for i in 0..columns {
         if !is_set(bitmap, i) {
             return false;

@@ -1,13 +1,14 @@
 //! How the columns of a table are stored, looked up once for many images.
 
-ghost use Rattle.std.specs.Prelude.{◌≡◌, ◌≤◌, ◌*◌, true, length, take, option_map, IfSome};
+ghost use Rattle.std.specs.Prelude.{◌≡◌, ◌≤◌, ◌*◌, true, length, take, option_and_then, IfSome};
 ghost use Rattle.std.specs.List.{list_all};
 ghost use Rattle.blog_row.specs.Column.{Layout, columns_of, is_column};
-ghost use Rattle.blog_row.specs.Image.{image_len_of, values_front};
+ghost use Rattle.blog_row.specs.Image.{image_len_of};
+ghost use Rattle.blog_row.specs.PositionView.{behind_from, from_position};
 ghost use Rattle.blog_row.specs.StorageView.{AreStored};
 
 use crate::column::Storage;
-use crate::image::{cut_at, is_set, stored_at};
+use crate::image::{cut_at, is_set, stored_end};
 use crate::layout::column_at;
 
 /// The most columns whose storages are looked up for many images.
@@ -30,21 +31,19 @@ pub(crate) fn storages_of(kinds: &[u8], metadata: &[u8]) -> [Storage; MOST_STORA
     storages
 }
 
-/// The bytes behind the values of columns at the front, by their null bits.
+/// Where the values of columns end that begin at a position, by their null bits.
 #[inline(always)]
-fn behind_values<'a>(storages: &[Storage], nulls: &[u8], bytes: &'a [u8]) -> Option<&'a [u8]>
+fn values_end(storages: &[Storage], nulls: &[u8], at: usize, bytes: &[u8]) -> Option<usize>
     requires long { length storages.now ≤ 8 * length nulls.now }
-    ensures exact { (columns : Layout) → AreStored columns storages.now → option_map (λ rest. rest.now) result ≡ option_map (λ r. r.1) (values_front columns nulls.now 0 bytes.now) }
-    ensures within { IfSome result (λ rest. length rest.now ≤ length bytes.now) }
+    ensures { (columns : Layout) → AreStored columns storages.now → behind_from columns nulls.now 0 at bytes.now ≡ option_and_then (λ end. from_position end bytes.now) result }
 {
-    let mut rest = bytes;
+    let mut end = at;
     'columns: for (i, storage) in storages.iter().enumerate() {
         if !is_set(nulls, i) {
-            let (_, behind) = stored_at(*storage, rest)?;
-            rest = behind;
+            end = stored_end(*storage, end, bytes)?;
         }
     }
-    Some(rest)
+    Some(end)
 }
 
 /// How long the image is with which the bytes begin, in bytes; None where they begin with none. Its columns are stored
@@ -54,7 +53,8 @@ pub(crate) fn len_by(storages: &[Storage], bytes: &[u8]) -> Option<usize>
     ensures exact { (columns : Layout) → AreStored columns storages.now → result ≡ image_len_of columns bytes.now }
     ensures within { IfSome result (λ m. m ≤ length bytes.now) }
 {
-    let (nulls, values) = cut_at(storages.len().div_ceil(8), bytes)?;
-    let rest = behind_values(storages, nulls, values)?;
-    Some(bytes.len() - rest.len())
+    let count = storages.len().div_ceil(8);
+    let (nulls, _) = cut_at(count, bytes)?;
+    let end = values_end(storages, nulls, count, bytes)?;
+    if end <= bytes.len() { Some(end) } else { None }
 }

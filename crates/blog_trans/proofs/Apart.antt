@@ -1,6 +1,6 @@
 -- What the progress keeps lies apart in the events that it is taken of: whatever number each event has, the sum over what
 -- is kept is no larger than that over the events.
-use Rattle.std.proofs.Common.{◌≡◌, ℕ, ◌+◌, ◌≤◌, Bool, true, false, ◌&&◌, if◌then◌else◌, List, [], ◌∷◌, map, filter, not, bytes_eq, Option, Some, None, refl, ap, arith}
+use Rattle.std.proofs.Common.{◌≡◌, ℕ, ◌+◌, ◌≤◌, Bool, false, ◌&&◌, if◌then◌else◌, List, [], ◌∷◌, map, filter, not, bytes_eq, Option, Some, None, refl, ap, arith}
 use Rattle.std.specs.List.{cons_option, filter_map, flat_map, list_any}
 use Rattle.blog_event.specs.File.{Placed}
 use Rattle.blog_row.specs.RowsEvent.{table_id}
@@ -29,11 +29,7 @@ rows_sum w rows = sum_of (λ (r : PlacedRows). w r.event) rows
 once-step : (w : Placed → ℕ) (p : Placed) (map any : Bool) (o : Option PlacedRows) → ((r : PlacedRows) → o ≡ Some r → (map ≡ false) × (r.event ≡ p))
     → (with_it without : List Placed) (rows : List PlacedRows) (n : ℕ) → sum_of w with_it + rows_sum w rows ≤ n → sum_of w without + rows_sum w rows ≤ n
     → sum_of w (if map && any then p ∷ with_it else without) + rows_sum w (cons_option o rows) ≤ w p + n
-once-step w p true true None own with_it without rows n one other = omega arith
-once-step w p true false None own with_it without rows n one other = omega arith
-once-step w p false any None own with_it without rows n one other = omega arith
-once-step w p true any (Some r) own with_it without rows n one other = let never : true ≡ false = (own r refl).0 in absurd (cc)
-once-step w p false any (Some r) own with_it without rows n one other = let same : w r.event ≡ w p = ap w (own r refl).1 in omega arith
+once-step w p map any o own with_it without rows n one other = grind arith
 
 -- maps and rows events are taken of different events
 once-total : (w : Placed → ℕ) (sel : Selection) (s es : List Placed) (ids : List (List ℕ))

@@ -1,5 +1,5 @@
 -- What one more event makes of what is kept.
-use Rattle.std.proofs.Common.{◌≡◌, ℕ, Bool, true, false, if◌then◌else◌, List, [], ◌∷◌, ◌++◌, map, filter, refl, sym, ap, ◌∙◌, subst, Some}
+use Rattle.std.proofs.Common.{◌≡◌, ℕ, Bool, List, [], ◌∷◌, ◌++◌, map, filter, refl, sym, ap, ◌∙◌, subst, Some, arith}
 use Rattle.std.specs.List.{flat_map}
 use Rattle.std.proofs.lemmas.List.{append_assoc, append-nil}
 use Rattle.std.proofs.lemmas.Simd.{map-map}
@@ -62,12 +62,7 @@ flat-ended f none done begin p (s ∷ ss) = sym (append-nil _ ∙ flat_push (λ 
 
 filter-map : {X Y : Type 0} (test : Y → Bool) (f : X → Y) (xs : List X) → filter test (map f xs) ≡ map f (filter (λ x. test (f x)) xs)
 filter-map test f [] = refl
-filter-map test f (x ∷ xs) = at (test (f x)) (filter-map test f xs)
-  where
-    at : (b : Bool) → filter test (map f xs) ≡ map f (filter (λ y. test (f y)) xs)
-        → (if b then f x ∷ filter test (map f xs) else filter test (map f xs)) ≡ map f (if b then x ∷ filter (λ y. test (f y)) xs else filter (λ y. test (f y)) xs)
-    at true others = ap (λ ys. f x ∷ ys) others
-    at false others = others
+filter-map test f (x ∷ xs) = let others = filter-map test f xs in grind arith
 
 -- where those begin that the program holds, and their bodies, are those of the log's
 pub used-held : {A B : Type 0} (f : ℕ → List ℕ → B) (checker : Checker A) (sel : Selection) (statement earlier : List Placed) → HasChecked sel statement earlier checker

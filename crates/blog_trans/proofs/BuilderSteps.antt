@@ -1,8 +1,9 @@
 -- One more event, and what the builder's parts hold.
-use Rattle.std.proofs.Common.{◌≡◌, Bool, true, false, not, if◌then◌else◌, ◌&&◌, ◌==◌, ℕ, List, [], ◌∷◌, length, reverse, Option, Some, None, option_map, is_some, refl, sym, ap, ◌∙◌, subst, inl, inr}
+use Rattle.std.proofs.Common.{rules, ◌≡◌, Bool, true, false, not, if◌then◌else◌, ◌==◌, ℕ, List, [], ◌∷◌, length, reverse, Option, Some, None, option_map, is_some, refl, sym, ap, ◌∙◌, subst, inl, inr}
 use Rattle.std.specs.Prelude.{◌⊎◌}
 use Rattle.std.specs.List.{list_any}
-use Rattle.std.proofs.lemmas.Bool.{false≢true}
+use Rattle.std.proofs.Math.Bool.{and-false}
+use Rattle.std.proofs.lemmas.Bool.{not-true}
 use Rattle.blog_event.specs.declared.fault.Fault.TheVariants.{OutOfPlace, Unended, BadBody}
 use Rattle.blog_event.specs.Fault.{Cause, needs, first_failing}
 use Rattle.blog_event.specs.File.{Placed}
@@ -27,27 +28,24 @@ use Rattle.blog_trans.specs.ListsView.{statement_behind, all_ended, open_behind,
 use Rattle.blog_trans.specs.BuilderView.{HasTaken, Keeps, progress_changes, progress_tables}
 use Rattle.blog_trans.proofs.Growing.{counts-grown}
 use Rattle.blog_trans.proofs.Checking.{knows-quiet}
-use Rattle.blog_trans.proofs.ProgressSteps.{needs-passed, not-holds}
+use Rattle.blog_trans.proofs.ProgressSteps.{needs-passed}
 use Rattle.blog_trans.proofs.ProgressState.{open-inside, open-no-rows, since-rows, since-last}
 use Rattle.blog_trans.proofs.ProgressGroups.{none-open}
 use Rattle.blog_trans.proofs.ProgressMaps.{used_statement, taken-maps, taken-closed}
 use Rattle.blog_trans.proofs.ProgressFirsts.{ids_of}
+use Rattle.blog_trans.proofs.IndexFacts.{some_found}
 
 -- ---- the transactions before an event that passed
 
 -- none is open before a `BEGIN`
 pub ended-before : (sel : Selection) (earlier : List Placed) (p : Placed) → kind_at p ≡ kind.Begin → HavePassed sel (p ∷ earlier) → progress sel earlier ≡ all_ended (progress sel earlier).done
 ended-before sel earlier p is passed =
-    let outside = not-holds (is_inside (place earlier)) (needs-passed (not (is_inside (place earlier))) OutOfPlace [] (ap (λ j. first_failing (checks sel earlier p j)) (sym is) ∙ passed.0)).0 in
+    let outside = not-true (is_inside (place earlier)) (needs-passed (not (is_inside (place earlier))) OutOfPlace [] (ap (λ j. first_failing (checks sel earlier p j)) (sym is) ∙ passed.0)).0 in
     λ i. record { done = (progress sel earlier).done; current = none-open sel earlier passed.1 outside i }
 
 -- inside a transaction one is open
 open-there : (sel : Selection) (earlier : List Placed) → HavePassed sel earlier → is_inside (place earlier) ≡ true → (o : Open) × ((progress sel earlier).current ≡ Some o)
-open-there sel earlier passed inside = some-open (progress sel earlier).current (open-inside sel earlier passed ∙ inside)
-  where
-    some-open : (o : Option Open) → is_some o ≡ true → (x : Open) × (o ≡ Some x)
-    some-open (Some x) e = (x, refl)
-    some-open None e = absurd (false≢true e)
+open-there sel earlier passed inside = some_found (progress sel earlier).current (open-inside sel earlier passed ∙ inside)
 
 -- before a rows event
 pub open-rows-event : (sel : Selection) (earlier : List Placed) (p : Placed) (k : RowsKind) → kind_at p ≡ kind.Rows k → HavePassed sel (p ∷ earlier) → (o : Open) × ((progress sel earlier).current ≡ Some o)
@@ -59,7 +57,7 @@ pub open-end : (sel : Selection) (earlier : List Placed) → HavePassed sel earl
 open-end sel earlier passed checked =
     let unended : Option Cause = needs (not (list_any is_rows (since earlier))) Unended in
     let inside = needs-passed (is_inside (place earlier)) OutOfPlace (unended ∷ []) checked in
-    let none = not-holds (list_any is_rows (since earlier)) (needs-passed (not (list_any is_rows (since earlier))) Unended [] inside.1).0 in
+    let none = not-true (list_any is_rows (since earlier)) (needs-passed (not (list_any is_rows (since earlier))) Unended [] inside.1).0 in
     let there = open-there sel earlier passed inside.0 in
     let rows = open-no-rows sel earlier there.0 passed there.1 none in
     (there.0.begin, there.0.statements, λ i. record { done = (progress sel earlier).done; current = (there.1 ∙ ap (λ rs. Some (record { begin = there.0.begin; statements = there.0.statements; rows = rs })) rows) i })
@@ -97,8 +95,7 @@ closed-same sel earlier p o passed current =
     ap (between_statements o.begin) (at (with_rows (kept_rows sel (reverse (since earlier)) p) o).rows) ∙ sym (taken-closed sel earlier p o passed current)
   where
     at : (rs : List PlacedRows) → statement_behind o.statements (used_of sel (p ∷ since earlier)) rs ≡ appended_if o.statements (used_statement sel (p ∷ since earlier) rs)
-    at [] = refl
-    at (r ∷ others) = refl
+    at rs = search rules
 
 -- no maps are used where no rows event is kept
 pub no-used : (sel : Selection) (earlier : List Placed) (p : Placed) (o : Open) → HavePassed sel (p ∷ earlier) → (progress sel earlier).current ≡ Some o
@@ -106,13 +103,9 @@ pub no-used : (sel : Selection) (earlier : List Placed) (p : Placed) (o : Open) 
 no-used sel earlier p o passed current none =
     sym (taken-maps sel earlier p o passed current) ∙ ap (λ rs. first_maps (ids_of rs) (reverse (p ∷ since earlier))) none ∙ no-maps (reverse (p ∷ since earlier))
   where
-    at : (b : Bool) (q : Placed) (qs : List Placed) → first_maps [] qs ≡ [] → (if b && false then q ∷ first_maps [] qs else first_maps [] qs) ≡ []
-    at true q qs rest = rest
-    at false q qs rest = rest
-
     no-maps : (ps : List Placed) → first_maps [] ps ≡ []
     no-maps [] = refl
-    no-maps (q ∷ qs) = at (is_map q) q qs (no-maps qs)
+    no-maps (q ∷ qs) = rw (and-false (is_map q)) (no-maps qs)
 
 -- one that is kept is the log's
 pub kept-some : {A : Type 0} (tables : List Table) (at : ℕ) (kept : KeptRows) (r : Option PlacedRows) (done : List PlacedTransaction) (o : Open) (w : IndexBuilder A)

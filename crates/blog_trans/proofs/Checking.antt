@@ -1,5 +1,5 @@
 -- What is known after one more event.
-use Rattle.std.proofs.Common.{◌≡◌, ℕ, Bool, true, false, List, [], ◌∷◌, ◌++◌, map, Option, Some, None, Ok, refl, sym, ap, ◌∙◌, subst}
+use Rattle.std.proofs.Common.{◌≡◌, ℕ, Bool, true, false, List, [], ◌∷◌, ◌++◌, map, Option, Some, None, Ok, refl, sym, ap, ◌∙◌, subst, arith}
 use Rattle.std.specs.Prelude.{not, is_some, option_map}
 use Rattle.std.specs.Option.{option_map_or}
 use Rattle.std.specs.List.{list_any, AllByRecursion}
@@ -84,51 +84,47 @@ new-facts sel p statement k v is passed new k_is at body layout used =
     let unused : false ≡ is_used sel (p ∷ statement) p = sym (rw (no_rows, none) (and-false (is_selected sel p.event.body))) in
     λ i. record { id = k_is i; at = at i; body = body i; layout = layout i; used = (used ∙ unused) i }
 
--- a further map of a known id
-pub knows-map-seen : {A : Type 0} (sel : Selection) (p : Placed) (earlier : List Placed) (checker after : Checker A) → kind_at p ≡ kind.TableMap → IsPassed sel p
-    → list_any (clashes_by_id p) (since earlier) ≡ false → list_any (is_map_of (table_id p.event.body)) (since earlier) ≡ true
-    → after.place ≡ checker.place → after.has_rows ≡ checker.has_rows → after.maps.entries ≡ checker.maps.entries → LayoutsAgree sel (p ∷ earlier) after.layouts
-    → HaveGrown (tables_known checker.layouts) (tables_known after.layouts)
-    → HasChecked sel (since earlier) earlier checker → HasChecked sel (since (p ∷ earlier)) (p ∷ earlier) after
-knows-map-seen sel p earlier checker after is passed none there place_same rows_same maps_same agree grown h =
-    let is_one : is_map p ≡ true = rw is refl in
-    let no_rows : is_rows p ≡ false = rw is refl in
-    let facts : map (facts_of sel (p ∷ since earlier)) (first_of_ids (p ∷ since earlier)) ≡ map (facts_of sel (since earlier)) (first_of_ids (since earlier)) =
-    rw (is_one, there) (ap (λ (f : Placed → MapFacts). map f (first_of_ids (since earlier))) (facts-kept sel p (since earlier) no_rows)) in
-    rw is (record {
-      place_is = place_same ∙ h.place_is ∙ rw is refl;
-      open_is = rows_same ∙ h.open_is ∙ rw no_rows refl;
-      maps_are = ap (map facts_held) maps_same ∙ h.maps_are ∙ sym facts;
-      passed = passed-map sel p (since earlier) is_one no_rows passed none h.passed;
-      layouts_agree = agree;
-      numbered = subst (λ es. AllByRecursion (IsNumbered (tables_known after.layouts)) (map (λ e. e.1) es)) (sym maps_same) (numbered-grown (tables_known checker.layouts) (tables_known after.layouts) (values checker.maps) grown h.numbered);
-    })
+module _ {A : Type 0} (sel : Selection) (p : Placed) (earlier : List Placed) (checker after : Checker A) (is : kind_at p ≡ kind.TableMap) (passed : IsPassed sel p)
+    (none : list_any (clashes_by_id p) (since earlier) ≡ false) (place_same : after.place ≡ checker.place) (rows_same : after.has_rows ≡ checker.has_rows)
+    (agree : LayoutsAgree sel (p ∷ earlier) after.layouts) (grown : HaveGrown (tables_known checker.layouts) (tables_known after.layouts)) (h : HasChecked sel (since earlier) earlier checker) where
+  is_one : is_map p ≡ true
+  is_one = rw is refl
 
--- a map of a new id
-pub knows-map-new : {A : Type 0} (sel : Selection) (p : Placed) (earlier : List Placed) (checker after : Checker A) (k : ℕ) (v : MapSeen) → kind_at p ≡ kind.TableMap → IsPassed sel p
-    → list_any (clashes_by_id p) (since earlier) ≡ false → list_any (is_map_of (table_id p.event.body)) (since earlier) ≡ false
-    → after.place ≡ checker.place → after.has_rows ≡ checker.has_rows → after.maps.entries ≡ checker.maps.entries ++ (k, v) ∷ [] → LayoutsAgree sel (p ∷ earlier) after.layouts
-    → HaveGrown (tables_known checker.layouts) (tables_known after.layouts) → IsNumbered (tables_known after.layouts) v → facts_held (k, v) ≡ facts_of sel (p ∷ since earlier) p
-    → HasChecked sel (since earlier) earlier checker → HasChecked sel (since (p ∷ earlier)) (p ∷ earlier) after
-knows-map-new sel p earlier checker after k v is passed none new place_same rows_same maps_more agree grown own last h =
-    let is_one : is_map p ≡ true = rw is refl in
-    let no_rows : is_rows p ≡ false = rw is refl in
-    rw is (record {
-      place_is = place_same ∙ h.place_is ∙ rw is refl;
-      open_is = rows_same ∙ h.open_is ∙ rw no_rows refl;
-      maps_are = maps-more sel p (since earlier) k v checker.maps.entries after.maps.entries is_one no_rows new h.passed h.maps_are maps_more last;
-      passed = passed-map sel p (since earlier) is_one no_rows passed none h.passed;
-      layouts_agree = agree;
-      numbered =
-          subst (λ es. AllByRecursion (IsNumbered (tables_known after.layouts)) (map (λ e. e.1) es)) (sym maps_more)
-          (subst (AllByRecursion (IsNumbered (tables_known after.layouts))) (sym (map-append (λ (e : ℕ × MapSeen). e.1) checker.maps.entries ((k, v) ∷ [])))
-          (all-append (IsNumbered (tables_known after.layouts)) (values checker.maps) (v ∷ []) (numbered-grown (tables_known checker.layouts) (tables_known after.layouts) (values checker.maps) grown h.numbered) (own, tt)));
-    })
+  no_rows : is_rows p ≡ false
+  no_rows = rw is refl
+
+  numbered : AllByRecursion (IsNumbered (tables_known after.layouts)) (values checker.maps)
+  numbered = numbered-grown (tables_known checker.layouts) (tables_known after.layouts) (values checker.maps) grown h.numbered
+
+  knows-map : map facts_held after.maps.entries ≡ map (facts_of sel (p ∷ since earlier)) (first_of_ids (p ∷ since earlier))
+      → AllByRecursion (IsNumbered (tables_known after.layouts)) (values after.maps) → HasChecked sel (since (p ∷ earlier)) (p ∷ earlier) after
+  knows-map maps all = rw is (record {
+    place_is = place_same ∙ h.place_is ∙ rw is refl;
+    open_is = rows_same ∙ h.open_is ∙ rw no_rows refl;
+    maps_are = maps;
+    passed = passed-map sel p (since earlier) is_one no_rows passed none h.passed;
+    layouts_agree = agree;
+    numbered = all;
+  })
+
+  -- a further map of a known id
+  pub knows-map-seen : list_any (is_map_of (table_id p.event.body)) (since earlier) ≡ true → after.maps.entries ≡ checker.maps.entries → HasChecked sel (since (p ∷ earlier)) (p ∷ earlier) after
+  knows-map-seen there same = knows-map
+      (ap (map facts_held) same ∙ h.maps_are ∙ sym (rw (is_one, there) (ap (λ (f : Placed → MapFacts). map f (first_of_ids (since earlier))) (facts-kept sel p (since earlier) no_rows))))
+      (subst (λ es. AllByRecursion (IsNumbered (tables_known after.layouts)) (map (λ e. e.1) es)) (sym same) numbered)
+
+  -- a map of a new id
+  pub knows-map-new : (k : ℕ) (v : MapSeen) → list_any (is_map_of (table_id p.event.body)) (since earlier) ≡ false → after.maps.entries ≡ checker.maps.entries ++ (k, v) ∷ []
+      → IsNumbered (tables_known after.layouts) v → facts_held (k, v) ≡ facts_of sel (p ∷ since earlier) p → HasChecked sel (since (p ∷ earlier)) (p ∷ earlier) after
+  knows-map-new k v new more own last = knows-map
+      (maps-more sel p (since earlier) k v checker.maps.entries after.maps.entries is_one no_rows new h.passed h.maps_are more last)
+      (subst (λ es. AllByRecursion (IsNumbered (tables_known after.layouts)) (map (λ e. e.1) es)) (sym more)
+      (subst (AllByRecursion (IsNumbered (tables_known after.layouts))) (sym (map-append (λ (e : ℕ × MapSeen). e.1) checker.maps.entries ((k, v) ∷ [])))
+      (all-append (IsNumbered (tables_known after.layouts)) (values checker.maps) (v ∷ []) numbered (own, tt))))
 
 -- a reading that gave a value was there
 pub or-bad-some : {A : Type 0} (o : Option A) (x : A) → or_bad o ≡ Ok x → o ≡ Some x
-or-bad-some None x h = absurd (cc)
-or-bad-some (Some y) x h = cc
+or-bad-some o x h = grind arith
 
 -- ---- the checks of a map
 

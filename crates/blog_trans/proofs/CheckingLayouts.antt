@@ -1,8 +1,9 @@
 -- What one more map makes of the layouts that are known.
-use Rattle.std.proofs.Common.{◌≡◌, ℕ, Bool, true, false, List, [], ◌∷◌, Option, Some, None, Result, Ok, Err, refl, sym, ap, ◌∙◌}
+use Rattle.std.proofs.Common.{◌≡◌, ℕ, Bool, true, false, List, [], ◌∷◌, Option, Some, None, Result, Ok, Err, refl, sym, ap, ◌∙◌, rules}
 use Rattle.std.specs.Prelude.{◌&&◌, ◌||◌, not, if◌then◌else◌, bytes_eq, option_map}
 use Rattle.std.specs.List.{list_any}
 use Rattle.std.specs.Option.{option_map_or}
+use Rattle.std.proofs.Math.Bool.{or-false}
 use Rattle.std.proofs.lemmas.Bool.{and_parts}
 use Rattle.std.proofs.lemmas.Slice.Eq.{bytes_eq-Decides}
 use Rattle.std.specs.Map.{lookup}
@@ -21,7 +22,7 @@ use Rattle.blog_trans.specs.Places.{is_map}
 use Rattle.blog_trans.specs.Acceptance.{is_selected, clashes_by_layout, is_same_table, have_same_layout, selected_map_checks}
 use Rattle.blog_trans.specs.TablesView.{table_named}
 use Rattle.blog_trans.specs.CheckerView.{LayoutsAgree, has_other_layout, is_same_name}
-use Rattle.blog_trans.proofs.CheckingStatement.{or-false, twice}
+use Rattle.blog_trans.proofs.CheckingStatement.{twice}
 
 -- an event that isn't a map clashes with none
 pub layouts-quiet : {S : Type 0} (sel : Selection) (p : Placed) (earlier : List Placed) (layouts : IndexMap TableName told.Layout S) → is_map p ≡ false
@@ -99,8 +100,7 @@ same-itself a = rw ((bytes_eq-Decides (types_of a) (types_of a)).1 refl, (bytes_
 -- ---- the checks of the map of a selected table
 
 not-not : (b : Bool) (cause : Cause) → first_failing (needs (not (not b)) cause ∷ []) ≡ needs b cause
-not-not true cause = refl
-not-not false cause = refl
+not-not b cause = search rules
 
 -- by the layout that is known of its table
 pub selected-checks : {S : Type 0} (sel : Selection) (p : Placed) (earlier : List Placed) (layouts : IndexMap TableName told.Layout S) (name : TableName) (n : Names) (l : told.Layout) (same : Bool)

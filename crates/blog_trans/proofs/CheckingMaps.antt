@@ -1,11 +1,12 @@
 -- The maps that the program holds of a statement: looking one up, one more, and a rows event that goes by one.
 -- `statement` has its events so far, the latest first.
-use Rattle.std.proofs.Common.{◌≡◌, ℕ, ◌≤◌, Bool, true, false, List, [], ◌∷◌, ◌++◌, length, map, reverse, Option, Some, None, refl, sym, subst, ap, ◌∙◌, arith, take, length-append}
-use Rattle.std.specs.Prelude.{◌&&◌, ◌||◌, not, if◌then◌else◌, find, is_some, bytes_eq, nat_eq, option_map, Result, Ok, Err, IsOk}
+use Rattle.std.proofs.Common.{◌≡◌, ℕ, ◌≤◌, Bool, true, false, List, [], ◌∷◌, ◌++◌, length, map, reverse, Option, Some, None, refl, sym, subst, ap, ◌∙◌, arith, take, length-append, rules}
+use Rattle.std.specs.Prelude.{◌&&◌, not, if◌then◌else◌, find, is_some, bytes_eq, nat_eq, option_map, Result, IsOk}
 use Rattle.std.specs.Option.{option_map_or, option_or}
 use Rattle.std.specs.Result.{result_ok}
 use Rattle.std.specs.List.{list_any, AllByRecursion, IsDistinct}
 use Rattle.std.specs.Map.{lookup, set_value, keys_of}
+use Rattle.std.proofs.Math.Bool.{and-true}
 use Rattle.std.proofs.lemmas.Bool.{eqb-true}
 use Rattle.std.proofs.lemmas.Bool.Decides.{Decides-eqb, Decides-like, same_from_decides}
 use Rattle.std.proofs.lemmas.List.{length-take-le, map-append, take_all, take_at}
@@ -27,7 +28,8 @@ use Rattle.blog_trans.specs.Selection.{Selection}
 use Rattle.blog_trans.specs.Places.{is_map, is_rows, is_map_of, map_in}
 use Rattle.blog_trans.specs.Acceptance.{is_selected, clashes_by_id}
 use Rattle.blog_trans.specs.StatementMaps.{MapFacts, first_of_ids, facts_of, facts_held}
-use Rattle.blog_trans.specs.CheckerView.{IsPassed, IsPassedStatement, is_rows_of, differs}
+use Rattle.blog_trans.specs.CheckerView.{IsPassed, IsPassedStatement, differs}
+use Rattle.blog_trans.proofs.EntriesFound.{mapped}
 use Rattle.blog_trans.proofs.CheckingStatement.{map-first, map-there, or-none, facts-kept}
 
 -- ---- table ids
@@ -58,18 +60,14 @@ pub record IsPassedMap (sel : Selection) (m : Placed) : Type 0 where
 pub first-passed : (sel : Selection) (statement : List Placed) → AllByRecursion (λ m. is_map m ≡ true → IsPassed sel m) statement
     → AllByRecursion (IsPassedMap sel) (first_of_ids statement)
 first-passed sel [] all = tt
-first-passed sel (p ∷ statement) all = by (is_map p) (not (list_any (is_map_of (table_id p.event.body)) statement)) refl (first-passed sel statement all.1)
-  where
-    by : (b new : Bool) → is_map p ≡ b → AllByRecursion (IsPassedMap sel) (first_of_ids statement)
-        → AllByRecursion (IsPassedMap sel) (if b && new then first_of_ids statement ++ p ∷ [] else first_of_ids statement)
-    by true true is others = all-append (IsPassedMap sel) (first_of_ids statement) (p ∷ []) others (record { is = is; passed = all.0 is }, tt)
-    by true false is others = others
-    by false new is others = others
+first-passed sel (p ∷ statement) all =
+    let others = first-passed sel statement all.1 in
+    let pushed : is_map p ≡ true → AllByRecursion (IsPassedMap sel) (first_of_ids statement ++ p ∷ []) = λ is. all-append (IsPassedMap sel) (first_of_ids statement) (p ∷ []) others (record { is = is; passed = all.0 is }, tt) in
+    grind arith
 
 -- the first of an id among them
 or-some : {A : Type 0} (o p : Option A) → is_some o ≡ true → option_or o p ≡ o
-or-some None p h = absurd (cc)
-or-some (Some x) p h = refl
+or-some o p h = grind arith
 
 find-step : (p : Placed) (statement : List Placed) (id : List ℕ) (b any : Bool) → is_map p ≡ b → list_any (is_map_of (table_id p.event.body)) statement ≡ any
     → find (is_map_of id) (first_of_ids statement) ≡ map_in (reverse statement) id
@@ -96,9 +94,7 @@ held-step : (sel : Selection) (statement : List Placed) (id : List ℕ) (k : ℕ
     → nat_eq k e.0 ≡ b → is_map_of id m ≡ b → facts_held e ≡ facts_of sel statement m
     → option_map (λ v. facts_held (k, v)) (lookup (nat_eq k) es) ≡ option_map (facts_of sel statement) (find (is_map_of id) ms)
     → option_map (λ v. facts_held (k, v)) (lookup (nat_eq k) (e ∷ es)) ≡ option_map (facts_of sel statement) (find (is_map_of id) (m ∷ ms))
-held-step sel statement id k e m es ms true same own first others =
-    rw (same, own) (ap (λ (n : ℕ). Some (facts_held (n, e.1))) (eqb-true k e.0 same) ∙ ap Some first)
-held-step sel statement id k e m es ms false same own first others = rw (same, own) others
+held-step sel statement id k e m es ms b same own first others = let number = eqb-true k e.0 in grind arith
 
 -- what is held under an id's number is the first map of the id
 held : (sel : Selection) (statement : List Placed) (id : List ℕ) (k : ℕ) → IsId id → k ≡ little_number 6 id → (es : List (ℕ × MapSeen)) (ms : List Placed) → AllByRecursion (IsPassedMap sel) ms
@@ -142,17 +138,10 @@ maps-more sel m statement k v es after is no_rows new passed h after_is last =
 
 -- where a selected map has a layout
 layout-there : (b : Bool) (r : Result Layout RowFault) → (b ≡ true → IsOk r) → is_some (if b then result_ok r else None) ≡ b
-layout-there true (Ok layout) h = refl
-layout-there true (Err fault) h = absurd (cc (h refl))
-layout-there false r h = refl
+layout-there b r h = grind arith
 
 some-map : {A B : Type 0} (f : A → B) (o : Option A) → is_some o ≡ is_some (option_map f o)
-some-map f None = refl
-some-map f (Some x) = refl
-
-and-true : (b : Bool) → b && true ≡ b
-and-true true = refl
-and-true false = refl
+some-map f o = search rules
 
 module _ (sel : Selection) (p : Placed) (statement : List Placed) (k : ℕ) (is_id : IsId (table_id p.event.body)) (k_is : k ≡ little_number 6 (table_id p.event.body)) (is : is_rows p ≡ true) where
   -- whether it goes by a map
@@ -222,29 +211,22 @@ maps-marked sel p statement k v w es after is_id k_is no_map is passed h distinc
 pub body-id : (body : List ℕ) → 6 ≤ length body → AreBytes body → IsId (table_id body)
 body-id body long bytes = record { len = length-take-le 6 body long; bytes = bytes-take 6 body bytes }
 
+unmapped : {A B : Type 0} (f : A → B) (o : Option A) → option_map f o ≡ None → o ≡ None
+unmapped f o is = grind arith
+
 -- what is held under an id's number
 pub held-some : (sel : Selection) (statement : List Placed) (id : List ℕ) (k : ℕ) (v : MapSeen) (es : List (ℕ × MapSeen)) → IsId id → k ≡ little_number 6 id → IsPassedStatement sel statement
     → map facts_held es ≡ map (facts_of sel statement) (first_of_ids statement) → lookup (nat_eq k) es ≡ Some v
     → (m : Placed) × (map_in (reverse statement) id ≡ Some m) × (facts_held (k, v) ≡ facts_of sel statement m)
-held-some sel statement id k v es is_id k_is passed h found = by (map_in (reverse statement) id) refl
-  where
-    held_is : Some (facts_held (k, v)) ≡ option_map (facts_of sel statement) (map_in (reverse statement) id)
-    held_is = ap (option_map (λ (x : MapSeen). facts_held (k, x))) (sym found) ∙ held-map sel statement id k es is_id k_is passed h
-
-    by : (o : Option Placed) → map_in (reverse statement) id ≡ o → (m : Placed) × (map_in (reverse statement) id ≡ Some m) × (facts_held (k, v) ≡ facts_of sel statement m)
-    by None e = let bad : Some (facts_held (k, v)) ≡ None = held_is ∙ ap (option_map (facts_of sel statement)) e in absurd (cc)
-    by (Some m) e = let is : Some (facts_held (k, v)) ≡ Some (facts_of sel statement m) = held_is ∙ ap (option_map (facts_of sel statement)) e in (m, e, cc)
+held-some sel statement id k v es is_id k_is passed h found =
+    let (m, is, same) = mapped (facts_of sel statement) (map_in (reverse statement) id) (facts_held (k, v))
+    (sym (held-map sel statement id k es is_id k_is passed h) ∙ ap (option_map (λ (x : MapSeen). facts_held (k, x))) found) in
+    (m, is, sym same)
 
 pub held-none : (sel : Selection) (statement : List Placed) (id : List ℕ) (k : ℕ) (es : List (ℕ × MapSeen)) → IsId id → k ≡ little_number 6 id → IsPassedStatement sel statement
     → map facts_held es ≡ map (facts_of sel statement) (first_of_ids statement) → lookup (nat_eq k) es ≡ None → map_in (reverse statement) id ≡ None
-held-none sel statement id k es is_id k_is passed h found = by (map_in (reverse statement) id) refl
-  where
-    held_is : None ≡ option_map (facts_of sel statement) (map_in (reverse statement) id)
-    held_is = ap (option_map (λ (x : MapSeen). facts_held (k, x))) (sym found) ∙ held-map sel statement id k es is_id k_is passed h
-
-    by : (o : Option Placed) → map_in (reverse statement) id ≡ o → map_in (reverse statement) id ≡ None
-    by None e = e
-    by (Some m) e = let bad : None ≡ Some (facts_of sel statement m) = held_is ∙ ap (option_map (facts_of sel statement)) e in absurd (cc)
+held-none sel statement id k es is_id k_is passed h found =
+    unmapped (facts_of sel statement) (map_in (reverse statement) id) (sym (held-map sel statement id k es is_id k_is passed h) ∙ ap (option_map (λ (x : MapSeen). facts_held (k, x))) found)
 
 pub compare-some : (sel : Selection) (statement : List Placed) (p : Placed) (k : ℕ) (v : MapSeen) (es : List (ℕ × MapSeen)) (same : Bool) → IsId (table_id p.event.body)
     → k ≡ little_number 6 (table_id p.event.body) → IsPassedStatement sel statement → map facts_held es ≡ map (facts_of sel statement) (first_of_ids statement) → lookup (nat_eq k) es ≡ Some v

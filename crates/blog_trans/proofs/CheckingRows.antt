@@ -1,18 +1,19 @@
 -- What is told and known of a rows event.
-use Rattle.std.proofs.Common.{◌≡◌, ℕ, ◌≤◌, ◌<◌, Bool, true, false, List, [], ◌∷◌, length, map, reverse, Option, Some, None, Result, Ok, Err, refl, sym, subst, ap, ◌∙◌, arith, length-append}
+use Rattle.std.proofs.Common.{◌≡◌, ℕ, ◌≤◌, ◌<◌, Bool, true, false, List, [], ◌∷◌, length, map, reverse, Option, Some, None, Result, Ok, Err, refl, sym, subst, ap, ◌∙◌, arith, length-append, rules}
 use Rattle.std.specs.Prelude.{if◌then◌else◌, is_some, nat_eq, nat_le, option_map, option_and_then, slice_get, IsOk}
 use Rattle.std.specs.Result.{result_ok}
 use Rattle.std.specs.List.{concat, list_any, AllByRecursion, IsDistinct}
-use Rattle.std.specs.Map.{lookup, set_value, keys_of}
+use Rattle.std.specs.Map.{lookup, set_value, keys_of, values_of}
 use Rattle.std.proofs.lemmas.Bool.{leb-true}
+use Rattle.std.proofs.lemmas.List.Elements.{All-from_recursion, recursion_from_All}
+use Rattle.std.proofs.lemmas.Map.Views.{All-values-set_value}
 use Rattle.byteorder.specs.Endian.{little_number}
-use Rattle.blog_event.specs.Fault.{Cause, first_failing}
-use Rattle.blog_event.specs.File.{Placed}
+use Rattle.blog_event.specs.Fault.{first_failing}
+use Rattle.blog_event.specs.declared.fault.Fault.TheVariants.{NoMap}
+use Rattle.blog_event.specs.File.{Placed, AreBytes}
 use Rattle.blog_row.specs.declared.fault.RowFault.{RowFault}
-use Rattle.blog_row.specs.declared.fault.RowFault.TheVariants as row
 use Rattle.blog_row.specs.declared.kind.RowsKind.{RowsKind}
 use Rattle.blog_row.specs.declared.kind.RowsVersion.{RowsVersion}
-use Rattle.blog_row.specs.declared.kind.RowsVersion.TheVariants.{One, Two}
 use Rattle.blog_row.specs.declared.rows_event.RowsHead.{RowsHead}
 use Rattle.blog_row.specs.Column.{Layout}
 use Rattle.blog_row.specs.Image.{IsSomeImage}
@@ -26,16 +27,16 @@ use Rattle.blog_trans.specs.declared.checker.Checker.{Checker}
 use Rattle.blog_trans.specs.declared.layouts.SelectedTable.{SelectedTable}
 use Rattle.blog_trans.specs.declared.checker.MapSeen.{MapSeen}
 use Rattle.blog_trans.specs.Selection.{Selection}
-use Rattle.blog_trans.specs.Places.{kind_at, is_map, is_rows, is_map_of, map_in, is_inside, place, since}
+use Rattle.blog_trans.specs.Places.{kind_at, is_map, is_rows, is_map_of, map_in, is_inside, since}
 use Rattle.blog_trans.specs.Acceptance.{is_selected, cause_of_row, rows_check, event_fault}
 use Rattle.blog_trans.specs.Changes.{table_of}
 use Rattle.blog_trans.specs.Groups.{kept_rows}
 use Rattle.blog_trans.specs.TablesView.{tables_known, IsNumbered}
-use Rattle.blog_trans.specs.StatementMaps.{MapFacts, first_of_ids, facts_of, facts_held}
-use Rattle.blog_trans.specs.CheckerView.{IsKept, HasChecked, LayoutsAgree, IsPassedStatement, IsMapHeld, columns_known}
+use Rattle.blog_trans.specs.StatementMaps.{MapFacts, first_of_ids}
+use Rattle.blog_trans.specs.CheckerView.{IsKept, HasChecked, LayoutsAgree, IsMapHeld, columns_known}
 use Rattle.blog_trans.proofs.PlacedParts.{all-found}
 use Rattle.blog_trans.proofs.CheckingStatement.{map-there, passed-rows}
-use Rattle.blog_trans.proofs.CheckingMaps.{IsId, IsPassedMap, first-passed, find-first, held-some, maps-marked}
+use Rattle.blog_trans.proofs.CheckingMaps.{IsId, body-id, held-none, IsPassedMap, first-passed, find-first, held-some, maps-marked}
 use Rattle.blog_trans.proofs.CheckingLayouts.{layouts-quiet}
 
 -- ---- how many images it has
@@ -54,36 +55,14 @@ images-fit kind layout body b some is =
     let few : length b.images ≤ length (concat b.images) = images-few layout b.images some is.images_each in
     omega (arith, ap length is.text, length-append b.id, length-append b.flags, length-append b.extra_len, length-append b.extra, length-append b.count, length-append (concat b.bitmaps) (concat b.images))
 
--- ---- its map
-
--- the map under whose number one is held
-pub map-held : (sel : Selection) (statement : List Placed) (id : List ℕ) (k : ℕ) (v : MapSeen) (es : List (ℕ × MapSeen)) → IsId id → k ≡ little_number 6 id → IsPassedStatement sel statement
-    → map facts_held es ≡ map (facts_of sel statement) (first_of_ids statement) → lookup (nat_eq k) es ≡ Some v → (m : Placed) × IsMapHeld sel statement id v m
-map-held sel statement id k v es is_id k_is passed h found =
-    let some = held-some sel statement id k v es is_id k_is passed h found in
-    let all = (all-found (IsPassedMap sel) (is_map_of id) (first_of_ids statement) some.0 (first-passed sel statement passed.maps) (find-first statement id ∙ some.1)).0 in (
-      some.0,
-      record {
-        found = some.1;
-        at = ap (λ (f : MapFacts). f.at) some.2;
-        body = ap (λ (f : MapFacts). f.body) some.2;
-        layout = ap (λ (f : MapFacts). f.layout) some.2;
-        known = all.passed.layout;
-      },
-    )
+-- ---- its check
 
 -- a table that isn't selected has no known columns, and a selected one has its map's
 unselected : (b : Bool) (r : Result Layout RowFault) → (b ≡ true → IsOk r) → None ≡ (if b then result_ok r else None) → b ≡ false
-unselected false r known h = refl
-unselected true (Ok layout) known h = absurd (cc)
-unselected true (Err fault) known h = absurd (cc (known refl))
+unselected b r known h = grind arith
 
 selected : (b : Bool) (r : Result Layout RowFault) (layout : Layout) → Some layout ≡ (if b then result_ok r else None) → (b ≡ true) × (r ≡ Ok layout)
-selected false r layout h = absurd (cc)
-selected true (Ok own) layout h = (refl, cc)
-selected true (Err fault) layout h = absurd (cc)
-
--- ---- its check
+selected b r layout h = grind arith
 
 -- a rows event of a table that isn't selected passes, and isn't kept
 pub rows-unselected : (tables : List Table) (sel : Selection) (statement : List Placed) (p : Placed) (rows : RowsKind) (v : MapSeen) (m : Placed) → IsMapHeld sel statement (table_id p.event.body) v m → v.table ≡ None
@@ -114,67 +93,88 @@ rows-refused sel statement p rows v m t cause held table read =
 
 -- alone, it decides
 pub alone : {A : Type 0} (check : Option A) → first_failing (check ∷ []) ≡ check
-alone None = refl
-alone (Some cause) = refl
+alone check = search rules
 
 -- ---- the body's fixed part
 
 -- a head that was read
-pub head-long : (version : RowsVersion) (body : List ℕ) (head : RowsHead) → Ok head ≡ head_of version body → nat_le (fixed_len version) (length body) ≡ true
-head-long version body head h = by (nat_le (fixed_len version) (length body)) refl
-  where
-    by : (b : Bool) → nat_le (fixed_len version) (length body) ≡ b → nat_le (fixed_len version) (length body) ≡ true
-    by true e = e
-    by false e = let bad : ◌≡◌ {A = Result RowsHead RowFault} (Ok head) (Err row.BadBody) = rw e at h in absurd (cc)
+head-long : (version : RowsVersion) (body : List ℕ) (head : RowsHead) → Ok head ≡ head_of version body → nat_le (fixed_len version) (length body) ≡ true
+head-long version body head h = grind arith
 
 -- is longer than an id
-pub long-id : (version : RowsVersion) (body : List ℕ) → nat_le (fixed_len version) (length body) ≡ true → 6 ≤ length body
-long-id One body h = let long : 8 ≤ length body = leb-true 8 (length body) h in omega arith
-long-id Two body h = let long : 10 ≤ length body = leb-true 10 (length body) h in omega arith
-
--- what decides of a rows event inside a transaction whose fixed part is there
-pub rows-fault : (sel : Selection) (p : Placed) (earlier : List Placed) (rows : RowsKind) → kind_at p ≡ kind.Rows rows → is_inside (place earlier) ≡ true → nat_le (fixed_len rows.version) (length p.event.body) ≡ true
-    → event_fault sel earlier p ≡ rows_check sel rows p.event.body (map_in (reverse (since earlier)) (table_id p.event.body))
-rows-fault sel p earlier rows is inside long = rw (is, inside, long) (alone (rows_check sel rows p.event.body (map_in (reverse (since earlier)) (table_id p.event.body))))
+long-id : (version : RowsVersion) (body : List ℕ) → nat_le (fixed_len version) (length body) ≡ true → 6 ≤ length body
+long-id version body h = let long = leb-true (fixed_len version) (length body) h in grind arith
 
 -- ---- what is known after it
 
+-- what the map under the number of its id tells of it
+pub record GoesBy {A : Type 0} (sel : Selection) (p : Placed) (earlier : List Placed) (checker : Checker A) (rows : RowsKind) (v : MapSeen) : Type 0 where
+  pub map : Placed
+  pub held : IsMapHeld sel (since earlier) (table_id p.event.body) v map
+  pub numbered : IsNumbered (tables_known checker.layouts) v
+  pub check : event_fault sel earlier p ≡ rows_check sel rows p.event.body (map_in (reverse (since earlier)) (table_id p.event.body))
+  pub id : IsId (table_id p.event.body)
+
 -- what all values have, the one that is looked up has
-pub value-all : (P : MapSeen → Type 0) (test : ℕ → Bool) (es : List (ℕ × MapSeen)) (v : MapSeen) → AllByRecursion P (map (λ e. e.1) es) → lookup test es ≡ Some v → P v
+value-all : (P : MapSeen → Type 0) (test : ℕ → Bool) (es : List (ℕ × MapSeen)) (v : MapSeen) → AllByRecursion P (map (λ e. e.1) es) → lookup test es ≡ Some v → P v
 value-all P test [] v all found = absurd (cc)
-value-all P test (e ∷ es) v all found = by (test e.0) refl (value-all P test es v all.1)
-  where
-    by : (b : Bool) → test e.0 ≡ b → (lookup test es ≡ Some v → P v) → P v
-    by true is later = let here : Some e.1 ≡ Some v = rw is at found in let own : e.1 ≡ v = cc in subst P own all.0
-    by false is later = later (rw is at found)
+value-all P test (e ∷ es) v all found = let later = value-all P test es v all.1 in grind arith
 
 -- and all have it where one is written that has it
 written-all : (P : MapSeen → Type 0) (test : ℕ → Bool) (es : List (ℕ × MapSeen)) (w : MapSeen) → AllByRecursion P (map (λ e. e.1) es) → P w → AllByRecursion P (map (λ e. e.1) (set_value test es w))
-written-all P test [] w all new = tt
-written-all P test (e ∷ es) w all new = by (test e.0) refl (written-all P test es w all.1 new)
-  where
-    by : (b : Bool) → test e.0 ≡ b → AllByRecursion P (map (λ x. x.1) (set_value test es w)) → AllByRecursion P (map (λ x. x.1) (set_value test (e ∷ es) w))
-    by true is later = rw is (new, all.1)
-    by false is later = rw is (all.0, later)
+written-all P test es w all new = recursion_from_All P (values_of (set_value test es w)) (All-values-set_value test P es w (All-from_recursion P (values_of es) all) new)
 
-pub knows-rows : {A : Type 0} (sel : Selection) (p : Placed) (earlier : List Placed) (checker after : Checker A) (rows : RowsKind) (k : ℕ) (v w : MapSeen) (m : Placed) → kind_at p ≡ kind.Rows rows
-    → IsId (table_id p.event.body) → k ≡ little_number 6 (table_id p.event.body) → IsMapHeld sel (since earlier) (table_id p.event.body) v m
+-- ---- a rows event inside a transaction, whose head was read
+
+module _ {A : Type 0} (sel : Selection) (p : Placed) (earlier : List Placed) (checker : Checker A) (rows : RowsKind) (head : RowsHead) (k : ℕ) (is : kind_at p ≡ kind.Rows rows)
+    (inside : is_inside checker.place ≡ true) (bytes : AreBytes p.event.body) (read : Ok head ≡ head_of rows.version p.event.body) (k_is : k ≡ little_number 6 (table_id p.event.body))
+    (h : HasChecked sel (since earlier) earlier checker) where
+  id : IsId (table_id p.event.body)
+  id = body-id p.event.body (long-id rows.version p.event.body (head-long rows.version p.event.body head read)) bytes
+
+  -- its map decides
+  check-is : event_fault sel earlier p ≡ rows_check sel rows p.event.body (map_in (reverse (since earlier)) (table_id p.event.body))
+  check-is = rw (is, ap is_inside (sym h.place_is) ∙ inside, head-long rows.version p.event.body head read) (alone (rows_check sel rows p.event.body (map_in (reverse (since earlier)) (table_id p.event.body))))
+
+  pub no-map : lookup (nat_eq k) checker.maps.entries ≡ None → event_fault sel earlier p ≡ Some NoMap
+  no-map none = check-is ∙ ap (rows_check sel rows p.event.body) (held-none sel (since earlier) (table_id p.event.body) k checker.maps.entries id k_is h.passed h.maps_are none)
+
+  -- the map under whose number one is held
+  pub goes-by : (v : MapSeen) → lookup (nat_eq k) checker.maps.entries ≡ Some v → GoesBy sel p earlier checker rows v
+  goes-by v found =
+      let some = held-some sel (since earlier) (table_id p.event.body) k v checker.maps.entries id k_is h.passed h.maps_are found in
+      let all = (all-found (IsPassedMap sel) (is_map_of (table_id p.event.body)) (first_of_ids (since earlier)) some.0 (first-passed sel (since earlier) h.passed.maps) (find-first (since earlier) (table_id p.event.body) ∙ some.1)).0 in
+      record {
+        map = some.0;
+        held = record {
+          found = some.1;
+          at = ap (λ (f : MapFacts). f.at) some.2;
+          body = ap (λ (f : MapFacts). f.body) some.2;
+          layout = ap (λ (f : MapFacts). f.layout) some.2;
+          known = all.passed.layout;
+        };
+        numbered = value-all (IsNumbered (tables_known checker.layouts)) (nat_eq k) checker.maps.entries v h.numbered found;
+        check = check-is;
+        id = id;
+      }
+
+pub knows-rows : {A : Type 0} (sel : Selection) (p : Placed) (earlier : List Placed) (checker after : Checker A) (rows : RowsKind) (k : ℕ) (v w : MapSeen) → kind_at p ≡ kind.Rows rows
+    → k ≡ little_number 6 (table_id p.event.body) → GoesBy sel p earlier checker rows v
     → IsDistinct nat_eq (keys_of checker.maps.entries) → lookup (nat_eq k) checker.maps.entries ≡ Some v → w ≡ record v { used = is_some v.table }
     → after.place ≡ checker.place → after.has_rows ≡ true → after.maps.entries ≡ set_value (nat_eq k) checker.maps.entries w → after.layouts ≡ checker.layouts
     → HasChecked sel (since earlier) earlier checker → HasChecked sel (p ∷ since earlier) (p ∷ earlier) after
-knows-rows sel p earlier checker after rows k v w m is is_id k_is held distinct found w_is place_same has_rows marked layouts_same h =
+knows-rows sel p earlier checker after rows k v w is k_is by distinct found w_is place_same has_rows marked layouts_same h =
     let no_map : is_map p ≡ false = rw is refl in
     let is_one : is_rows p ≡ true = rw is refl in
-    let there : list_any (is_map_of (table_id p.event.body)) (since earlier) ≡ true = sym (map-there (since earlier) (table_id p.event.body)) ∙ ap is_some held.found in
+    let there : list_any (is_map_of (table_id p.event.body)) (since earlier) ≡ true = sym (map-there (since earlier) (table_id p.event.body)) ∙ ap is_some by.held.found in
     record {
       place_is = place_same ∙ h.place_is ∙ rw is refl;
       open_is = has_rows ∙ rw is_one refl;
-      maps_are = maps-marked sel p (since earlier) k v w checker.maps.entries after.maps.entries is_id k_is no_map is_one h.passed h.maps_are distinct found w_is marked;
+      maps_are = maps-marked sel p (since earlier) k v w checker.maps.entries after.maps.entries by.id k_is no_map is_one h.passed h.maps_are distinct found w_is marked;
       passed = passed-rows sel p (since earlier) no_map is_one there h.passed;
       layouts_agree = subst (λ l. LayoutsAgree sel (p ∷ earlier) l) (sym layouts_same) (layouts-quiet sel p earlier checker.layouts no_map h.layouts_agree);
       numbered =
-          let own : IsNumbered (tables_known checker.layouts) v = value-all (IsNumbered (tables_known checker.layouts)) (nat_eq k) checker.maps.entries v h.numbered found in
-          let new : IsNumbered (tables_known checker.layouts) w = subst (IsNumbered (tables_known checker.layouts)) (sym w_is) (record { number = own.number; selected = λ used. used }) in
+          let new : IsNumbered (tables_known checker.layouts) w = subst (IsNumbered (tables_known checker.layouts)) (sym w_is) (record { number = by.numbered.number; selected = λ used. used }) in
           subst (λ l. AllByRecursion (IsNumbered (tables_known l)) (map (λ e. e.1) after.maps.entries)) (sym layouts_same)
           (subst (λ es. AllByRecursion (IsNumbered (tables_known checker.layouts)) (map (λ e. e.1) es)) (sym marked)
           (written-all (IsNumbered (tables_known checker.layouts)) (nat_eq k) checker.maps.entries w h.numbered new));

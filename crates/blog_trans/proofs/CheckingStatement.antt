@@ -1,8 +1,10 @@
 -- What one more event makes of an open statement. `statement` has its events so far, the latest first.
-use Rattle.std.proofs.Common.{◌≡◌, ℕ, Bool, true, false, List, [], ◌∷◌, map, reverse, Option, Some, None, refl, sym, ap, ◌∙◌}
+use Rattle.std.proofs.Common.{◌≡◌, ℕ, Bool, true, false, List, [], ◌∷◌, map, reverse, Option, Some, None, refl, sym, ap, ◌∙◌, rules, arith}
 use Rattle.std.specs.Prelude.{◌&&◌, ◌||◌, not, if◌then◌else◌, is_some, bytes_eq}
 use Rattle.std.specs.Option.{option_map_or, option_or}
 use Rattle.std.specs.List.{list_any}
+use Rattle.std.proofs.Math.Bool.{or-false}
+use Rattle.std.proofs.lemmas.Bool.{or_parts, not-false}
 use Rattle.std.proofs.lemmas.List.{reverse-append}
 use Rattle.std.proofs.lemmas.List.Folds.{find-append}
 use Rattle.std.proofs.lemmas.Slice.Eq.{bytes_eq-Decides}
@@ -22,18 +24,14 @@ pub map-first : (p : Placed) (statement : List Placed) (id : List ℕ)
 map-first p statement id = ap (λ events. map_in events id) (reverse-append (p ∷ []) statement) ∙ find-append (is_map_of id) (reverse statement) (p ∷ [])
 
 pub or-none : {A : Type 0} (o : Option A) → option_or o None ≡ o
-or-none None = refl
-or-none (Some x) = refl
+or-none o = search rules
 
 -- an event that isn't a map of the id
 pub map-same : (p : Placed) (statement : List Placed) (id : List ℕ) → is_map_of id p ≡ false → map_in (reverse (p ∷ statement)) id ≡ map_in (reverse statement) id
 map-same p statement id h = map-first p statement id ∙ rw h (or-none (map_in (reverse statement) id))
 
 some-or : {A : Type 0} (o : Option A) (x : A) (b any : Bool) → is_some o ≡ any → is_some (option_or o (if b then Some x else None)) ≡ (b || any)
-some-or None x true any h = refl
-some-or None x false any h = h
-some-or (Some y) x true any h = refl
-some-or (Some y) x false any h = h
+some-or o x b any h = grind arith
 
 -- there is a first one where there is one
 pub map-there : (statement : List Placed) (id : List ℕ) → is_some (map_in (reverse statement) id) ≡ list_any (is_map_of id) statement
@@ -83,22 +81,9 @@ passed-rows sel p statement no_map is there h = record {
 
 -- ---- a map
 
-right-false : (a b : Bool) → (a || b) ≡ false → b ≡ false
-right-false true b h = absurd (cc)
-right-false false b h = h
-
 -- tests joined
 pub twice : (a b : Bool) → a ≡ b → (a || b) ≡ b
-twice true b h = h
-twice false b h = refl
-
-pub or-false : (a : Bool) → (a || false) ≡ a
-or-false true = refl
-or-false false = refl
-
-not-false : (a : Bool) → not a ≡ false → a ≡ true
-not-false true h = refl
-not-false false h = absurd (cc)
+twice a b h = grind arith
 
 -- another map's body is compared with the first one's
 agree-first : (q m : Placed) (o : Option Placed) → option_map_or (differs m) o false ≡ false
@@ -125,7 +110,7 @@ pub passed-map : (sel : Selection) (m : Placed) (statement : List Placed) → is
     → IsPassedStatement sel statement → IsPassedStatement sel (m ∷ statement)
 passed-map sel m statement is no_rows own none h = record {
   maps = ((λ i. own), h.maps);
-  mapped = λ id free. rw no_rows (h.mapped id (right-false (is_map_of id m) (list_any (is_map_of id) statement) free));
+  mapped = λ id free. rw no_rows (h.mapped id (or_parts (is_map_of id m) (list_any (is_map_of id) statement) free).1);
   agree = λ q.
       let first = map-first m statement (table_id q.event.body) in
       let step = agree-step q m statement (bytes_eq (table_id m.event.body) (table_id q.event.body)) is refl none h.agree in

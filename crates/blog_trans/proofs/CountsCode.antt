@@ -1,7 +1,7 @@
 -- How what the counts hold changes with room for more tables, with one more rows event and with one more kept map.
-use Rattle.std.proofs.Common.{◌≡◌, ◌≢◌, ℕ, zero, suc, ◌+◌, ◌/◌, ◌<◌, ◌≤◌, Bool, true, false, cond, if◌then◌else◌, ◌||◌, List, [], ◌∷◌, ◌++◌, map, length, get_or, slice_get, slice_set, replicate, take, take_all, Option, Some, None, option_map, refl, sym, ap, ◌∙◌, subst, arith, count_by, length-set, append-nil, append_assoc, add-zero}
+use Rattle.std.proofs.Common.{rules, ◌≡◌, ◌≢◌, ℕ, zero, suc, ◌+◌, ◌/◌, ◌<◌, ◌≤◌, Bool, true, false, cond, if◌then◌else◌, ◌||◌, List, [], ◌∷◌, ◌++◌, map, length, slice_get, slice_set, replicate, take, take_all, Option, Some, None, option_map, refl, sym, ap, ◌∙◌, subst, arith, count_by, length-set, append-nil, append_assoc}
 use Rattle.std.specs.List.{list_any, position_or_len, AllByRecursion, IsDistinct}
-use Rattle.std.proofs.lemmas.Bool.{false≢true}
+use Rattle.std.proofs.Math.Bool.{or-false, or-true}
 use Rattle.std.proofs.lemmas.List.{length-map, map-append}
 use Rattle.std.proofs.lemmas.List.Elements.{filter-append}
 use Rattle.std.proofs.lemmas.List.Folds.{list_any-append}
@@ -21,7 +21,6 @@ use Rattle.blog_trans.specs.Changes.{Change, Inserted, Deleted, Updated, TableCo
 use Rattle.blog_trans.specs.CountsView.{with_images, AreCounts, counted, is_kept, told_of, facts_of}
 use Rattle.blog_trans.specs.StatementMaps.{used_maps}
 use Rattle.blog_trans.proofs.Tables.{same-table, own-table, table-laws, first_tables-more}
-use Rattle.blog_trans.proofs.CheckingStatement.{or-false}
 use Rattle.blog_trans.proofs.PlacedParts.{all-at}
 
 -- ---- the place of an element
@@ -63,15 +62,12 @@ number-at (u ∷ tables) (suc k) t distinct at =
 number-other : (tables : List Table) (k : ℕ) (t u : Table) → slice_get tables k ≡ Some u → is_same_table t u ≡ false → position_or_len (is_same_table t) tables ≢ k
 number-other tables k t u at other same =
     let passes = passes_at_first (is_same_table t) tables u (omega (arith, same, slice_get_within tables k u at)) in
-    false≢true (sym other ∙ ap (is_same_table t) (sym (get_or_from_slice_get tables k u u at)) ∙ ap (λ n. is_same_table t (get_or tables n u)) (sym same) ∙ passes)
+    let here = get_or_from_slice_get tables k u u at in
+    grind arith
 
 -- whether a table is among them with one more
 any-more : (t u : Table) (ts : List Table) (b : Bool) → is_same_table t u ≡ b → list_any (is_same_table t) (ts ++ u ∷ []) ≡ (list_any (is_same_table t) ts || b)
 any-more t u ts b same = list_any-append (is_same_table t) ts (u ∷ []) ∙ ap (λ c. list_any (is_same_table t) ts || c) (or-false (is_same_table t u) ∙ same)
-
-or-true : (b : Bool) → (b || true) ≡ true
-or-true true = refl
-or-true false = refl
 
 -- ---- numbers of changes
 
@@ -80,27 +76,17 @@ count-append p cs ds = sum_by-append (λ x. cond (p x) 1 0) cs ds
 
 -- where the test answers the same for each
 count-all : (p : Change → Bool) (f : Row → Change) (b : Bool) → ((row : Row) → p (f row) ≡ b) → (rows : List Row) → count_by p (map f rows) ≡ cond b (length rows) 0
-count-all p f true same [] = refl
-count-all p f false same [] = refl
-count-all p f b same (row ∷ rows) = sum_by-cons (λ x. cond (p x) 1 0) (f row) (map f rows) ∙ more b (p (f row)) (count_by p (map f rows)) (same row) (count-all p f b same rows)
-  where
-    more : (b c : Bool) (n : ℕ) → c ≡ b → n ≡ cond b (length rows) 0 → cond c 1 0 + n ≡ cond b (suc (length rows)) 0
-    more true c n e f = ap (λ x. cond x 1 0 + n) e ∙ omega (arith, f)
-    more false c n e f = ap (λ x. cond x 1 0 + n) e ∙ omega (arith, f)
+count-all p f b same [] = grind arith
+count-all p f b same (row ∷ rows) = let others = count-all p f b same rows in let one = same row in let sum = sum_by-cons (λ x. cond (p x) 1 0) (f row) (map f rows) in grind arith
 
 count-updates : (p : Change → Bool) (u : Table) (b : Bool) → ((x y : Row) → p (Updated u x y) ≡ b) → (rows : List Row) → count_by p (updates u rows) ≡ cond b (length rows) 0 / 2
-count-updates p u true same [] = refl
-count-updates p u false same [] = refl
-count-updates p u true same (x ∷ []) = refl
-count-updates p u false same (x ∷ []) = refl
-count-updates p u b same (x ∷ y ∷ rows) = sum_by-cons (λ z. cond (p z) 1 0) (Updated u x y) (updates u rows) ∙ more b (p (Updated u x y)) (count_by p (updates u rows)) (same x y) (count-updates p u b same rows)
-  where
-    halved : (n : ℕ) → 1 + n / 2 ≡ suc (suc n) / 2
-    halved n = omega arith
-
-    more : (b c : Bool) (n : ℕ) → c ≡ b → n ≡ cond b (length rows) 0 / 2 → cond c 1 0 + n ≡ cond b (suc (suc (length rows))) 0 / 2
-    more true c n e f = ap (λ x. cond x 1 0 + n) e ∙ omega (arith, f, halved (length rows))
-    more false c n e f = ap (λ x. cond x 1 0 + n) e ∙ omega (arith, f)
+count-updates p u b same [] = grind arith
+count-updates p u b same (x ∷ []) = grind arith
+count-updates p u b same (x ∷ y ∷ rows) =
+    let others = count-updates p u b same rows in
+    let one = same x y in
+    let sum = sum_by-cons (λ z. cond (p z) 1 0) (Updated u x y) (updates u rows) in
+    grind arith
 
 -- equal numbers, kind by kind
 same-counts : (t : Table) (i u d j v e : ℕ) → i ≡ j → u ≡ v → d ≡ e → ◌≡◌ {A = TableCount} (record { table = t; inserts = i; updates = u; deletes = d }) (record { table = t; inserts = j; updates = v; deletes = e })
@@ -135,9 +121,7 @@ counts-with Delete t u b same rows c cs e =
 
 -- no rows are none
 no-images : (kind : RowsAction) (t : Table) (c : Count) → counted t (Some c) ≡ counted t (Some (with_images kind 0 c))
-no-images Write t c = same-counts t _ _ _ _ _ _ (sym (add-zero c.inserts)) refl refl
-no-images Update t c = same-counts t _ _ _ _ _ _ refl (omega arith) refl
-no-images Delete t c = same-counts t _ _ _ _ _ _ refl refl (sym (add-zero c.deletes))
+no-images kind t c = grind arith
 
 -- ---- what the counts hold
 
@@ -210,9 +194,7 @@ counts-more tables cs ts r i c before after at had rows same are =
         ∙ counts-with kind table table true (own-table table) images c cs (ap (λ (x : TableCount × Bool). x.0) was)
 
     stays : (kind : RowsAction) (k : ℕ) → (with_images kind k c).kept ≡ c.kept
-    stays Write k = refl
-    stays Update k = refl
-    stays Delete k = refl
+    stays kind k = search rules
 
     -- the numbers of another table
     held : Table → Count
@@ -289,8 +271,7 @@ used-more now maps m b ts used =
     ∙ map-append (λ (x : MapSeen). table_of x.body.now) (used_maps (map now maps)) (if b then now m ∷ [] else []) ∙ ap (λ us. tables_used (map now maps) ++ us) (at b)))
   where
     at : (b : Bool) → map (λ x. table_of x.body.now) (if b then now m ∷ [] else []) ≡ (if b then table_of (now m).body.now ∷ [] else [])
-    at true = refl
-    at false = refl
+    at b = search rules
 
 -- what all of a list with one more have
 pub all-last : {A B : Type 0} (P : A → Type 0) (now : B → A) (xs : List B) (x : B) → AllByRecursion P (map now (xs ++ x ∷ [])) → AllByRecursion P (map now xs) × P (now x)

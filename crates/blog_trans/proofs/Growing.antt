@@ -1,5 +1,5 @@
 -- One more table among the selected ones changes no number of the others.
-use Rattle.std.proofs.Common.{◌≡◌, inl, inr, ℕ, zero, suc, ◌≤◌, ◌+◌, Bool, true, false, cond, not, List, [], ◌∷◌, ◌++◌, map, length, slice_get, Option, Some, refl, sym, ap, ◌∙◌, subst, arith, length-append}
+use Rattle.std.proofs.Common.{◌≡◌, inl, inr, ℕ, zero, suc, ◌≤◌, ◌+◌, List, [], ◌∷◌, ◌++◌, map, length, slice_get, Option, Some, refl, sym, ap, ◌∙◌, subst, arith, length-append}
 use Rattle.std.specs.List.{position_or_len}
 use Rattle.std.proofs.lemmas.Map.Keys.{IsDistinct-push}
 use Rattle.std.proofs.lemmas.Option.{none-some}
@@ -17,6 +17,10 @@ front-place [] x y n at = absurd (none-some y at)
 front-place (z ∷ xs) x y zero at = at
 front-place (z ∷ xs) x y (suc n) at = front-place xs x y n at
 
+-- what stands one place behind the first stands there without it
+pub get-behind : {X : Type 0} (x : X) (xs : List X) (n : ℕ) → slice_get (x ∷ xs) (1 + n) ≡ slice_get xs n
+get-behind x xs n = let next : 1 + n ≡ suc n = omega arith in ap (slice_get (x ∷ xs)) next
+
 -- numbers that are found stay so
 found-again : {X : Type 0} (f g : ℕ → Option X) → ((n : ℕ) (x : X) → f n ≡ Some x → g n ≡ Some x) → (ns : List ℕ) (xs : List X) → map f ns ≡ map Some xs → map g ns ≡ map Some xs
 found-again f g goes [] [] are = refl
@@ -32,15 +36,7 @@ same-row : {X : Type 0} (rows : List X) (tables : List Table) (t u : Table) → 
     → slice_get rows (position_or_len (is_same_table u) (tables ++ t ∷ [])) ≡ slice_get rows (position_or_len (is_same_table u) tables)
 same-row [] tables t u few = refl
 same-row (x ∷ rows) [] t u few = absurd (omega arith)
-same-row (x ∷ rows) (v ∷ tables) t u few = by (is_same_table u v) (same-row rows tables t u (omega arith))
-  where
-    behind : (n : ℕ) → slice_get (x ∷ rows) (1 + n) ≡ slice_get rows n
-    behind n = let next : 1 + n ≡ suc n = omega arith in ap (slice_get (x ∷ rows)) next
-
-    by : (b : Bool) → slice_get rows (position_or_len (is_same_table u) (tables ++ t ∷ [])) ≡ slice_get rows (position_or_len (is_same_table u) tables)
-        → slice_get (x ∷ rows) (cond (not b) (1 + position_or_len (is_same_table u) (tables ++ t ∷ [])) 0) ≡ slice_get (x ∷ rows) (cond (not b) (1 + position_or_len (is_same_table u) tables) 0)
-    by true later = refl
-    by false later = behind _ ∙ later ∙ sym (behind _)
+same-row (x ∷ rows) (v ∷ tables) t u few = let later = same-row rows tables t u (omega arith) in let next = get-behind x rows in grind arith
 
 pub counts-grown : {A : Type 0} (before after : List Table) (cs : List Change) (ts : List Table) (counts : Counts A) → HaveGrown before after
     → AreCounts before cs ts counts → AreCounts after cs ts counts

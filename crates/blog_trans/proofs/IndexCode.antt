@@ -1,5 +1,5 @@
 -- A log that was walked through: its fault, and what the builder kept of it.
-use Rattle.std.proofs.Common.{◌≡◌, ℕ, zero, suc, not, ◌&&◌, nat_lt, List, [], ◌∷◌, length, reverse, take, drop, Option, Some, None, refl, sym, ap, ◌∙◌, inl, inr}
+use Rattle.std.proofs.Common.{◌≡◌, ℕ, zero, suc, not, ◌&&◌, nat_lt, List, [], ◌∷◌, length, reverse, take, drop, Option, None, refl, sym, ap, ◌∙◌, inl, inr, rules, arith}
 use Rattle.blog_event.specs.declared.fault.Fault.{Fault}
 use Rattle.blog_event.specs.declared.fault.Fault.TheVariants.{CutEvent, NoEventAt, Unended}
 use Rattle.blog_event.specs.Fault.{needs, first_failing, fault_at}
@@ -13,6 +13,7 @@ use Rattle.blog_trans.specs.Groups.{placed_groups}
 use Rattle.blog_trans.specs.Progress.{progress}
 use Rattle.blog_trans.proofs.ProgressGroups.{none-open}
 use Rattle.blog_trans.proofs.Opening.{opening-lines}
+use Rattle.blog_trans.proofs.CheckingRows.{alone}
 use Rattle.blog_trans.proofs.ProgressAccepted.{accepted-groups, accepted-outside}
 use Rattle.blog_trans.specs.WalkView.{walk_fault, end_fault}
 
@@ -20,16 +21,11 @@ use Rattle.blog_trans.specs.WalkView.{walk_fault, end_fault}
 front-passes : (n : ℕ) (checks : List (Option Fault)) → first_failing (take n checks) ≡ None → first_failing checks ≡ first_failing (drop n checks)
 front-passes zero checks none = refl
 front-passes (suc n) [] none = refl
-front-passes (suc n) (None ∷ checks) none = front-passes n checks none
-front-passes (suc n) (Some f ∷ checks) none = absurd (cc)
+front-passes (suc n) (check ∷ checks) none = let later = front-passes n checks in grind arith
 
 -- four checks, two by two
 in-twos : (a b c d : Option Fault) → first_failing (a ∷ b ∷ c ∷ d ∷ []) ≡ first_failing (first_failing (a ∷ b ∷ []) ∷ first_failing (c ∷ d ∷ []) ∷ [])
-in-twos (Some f) b c d = refl
-in-twos None (Some f) c d = refl
-in-twos None None (Some f) d = refl
-in-twos None None None (Some f) = refl
-in-twos None None None None = refl
+in-twos a b c d = search rules
 
 -- the fault at the end of what is read
 abbrev pub last_fault : List ℕ → Selection → Option Fault
@@ -53,11 +49,7 @@ walk-refused bytes sel f opened (inl memory) = inl memory
 walk-refused bytes sel f opened (inr is) = inr (opened-fault bytes sel opened ∙ ap (λ c. first_failing (c ∷ last_fault bytes sel ∷ [])) is)
 
 pub end-refused : (bytes : List ℕ) (sel : Selection) → opening_fault bytes ≡ None → walk_fault bytes sel ≡ None → fault bytes sel ≡ last_fault bytes sel
-end-refused bytes sel opened walked = opened-fault bytes sel opened ∙ ap (λ c. first_failing (c ∷ last_fault bytes sel ∷ [])) walked ∙ one (last_fault bytes sel)
-  where
-    one : (o : Option Fault) → first_failing (o ∷ []) ≡ o
-    one None = refl
-    one (Some f) = refl
+end-refused bytes sel opened walked = opened-fault bytes sel opened ∙ ap (λ c. first_failing (c ∷ last_fault bytes sel ∷ [])) walked ∙ alone (last_fault bytes sel)
 
 -- the fault at the end, as the code computes it
 pub last-is : (bytes : List ℕ) (sel : Selection) (end at : ℕ) (last : Place) → end ≡ length bytes → at ≡ end_of 4 (read bytes sel.stop)

@@ -1,18 +1,22 @@
 -- What an index shows of a rows event by its entry.
-use Rattle.std.proofs.Common.{◌≡◌, ℕ, drop, get_or, Option, Some, Result, Ok, IfSome, sym, ap, ap₂, subst, ◌∙◌}
+use Rattle.std.proofs.Common.{◌≡◌, ℕ, drop, get_or, Bool, true, false, List, [], ◌∷◌, Option, Some, None, Result, Ok, IfSome, refl, sym, ap, ap₂, subst, ◌∙◌}
+use Rattle.std.specs.Prelude.{◌==◌, ◌||◌, if◌then◌else◌, bytes_eq, codes}
+use Rattle.std.specs.Option.{option_map_or}
+use Rattle.std.proofs.lemmas.Option.{none-some, same_Some}
 use Rattle.blog_event.specs.declared.event.Event as told
 use Rattle.blog_event.specs.Event.{Event, event_at, event_of}
 use Rattle.blog_event.specs.File.{Placed}
 use Rattle.blog_row.specs.declared.fault.RowFault.{RowFault}
 use Rattle.blog_row.specs.declared.kind.RowsKind.{RowsKind}
-use Rattle.blog_row.specs.Column.{Layout}
+use Rattle.blog_row.specs.Column.{Layout, is_one_of}
+use Rattle.blog_row.specs.RowsKind.{rows_kind_of}
 use Rattle.blog_row.specs.TableMap.{layout_of}
 use Rattle.blog_row.specs.RowsEvent.{RowsBody, rows_of}
 use Rattle.blog_trans.specs.declared.lists.Entry.{Entry}
 use Rattle.blog_trans.specs.declared.groups.Index.{Index}
 use Rattle.blog_trans.specs.declared.kind.EventKind.{EventKind}
 use Rattle.blog_trans.specs.declared.kind.EventKind.TheVariants as kind
-use Rattle.blog_trans.specs.Kinds.{kind_of}
+use Rattle.blog_trans.specs.Kinds.{begins_with, kind_of, other_kind, query_kind, query_text, rows_of_kind}
 use Rattle.blog_trans.specs.Places.{kind_at}
 use Rattle.blog_trans.specs.Acceptance.{rows_under, rows_by_map}
 use Rattle.blog_trans.specs.Groups.{PlacedRows}
@@ -41,8 +45,42 @@ map_told P index n e r is item told =
 
 -- ---- what it says
 
-pub kind_same : (r : PlacedRows) (event : told.Event) (k : RowsKind) → kind_at r.event ≡ kind.Rows r.kind → placed event ≡ r.event → kind.Rows k ≡ kind_of (event_of event) → k ≡ r.kind
-kind_same r event k kind_is same told = let both : ◌≡◌ {A = EventKind} (kind.Rows k) (kind.Rows r.kind) = told ∙ ap kind_at same ∙ kind_is in cc
+-- of two kinds of which the first isn't one of rows events
+past : (b : Bool) (x y : EventKind) (k : RowsKind) → rows_of_kind x ≡ None → rows_of_kind (if b then x else y) ≡ Some k → rows_of_kind y ≡ Some k
+past true x y k none is = absurd (none-some k (sym none ∙ is))
+past false x y k none is = is
+
+neither : (b : Bool) (x y : EventKind) → rows_of_kind x ≡ None → rows_of_kind y ≡ None → rows_of_kind (if b then x else y) ≡ None
+neither true x y first second = first
+neither false x y first second = second
+
+no_query : (o : Option (List ℕ)) → rows_of_kind (option_map_or query_kind o kind.BadQuery) ≡ None
+unfolding query_kind
+no_query None = refl
+no_query (Some text) =
+    neither (bytes_eq text (codes "BEGIN")) kind.Begin _ refl (neither (bytes_eq text (codes "COMMIT")) kind.Commit _ refl
+    (neither (bytes_eq text (codes "ROLLBACK") || begins_with (codes "ROLLBACK TO ") text) kind.Rollback _ refl (neither (begins_with (codes "SAVEPOINT ") text) kind.Savepoint kind.OtherQuery refl refl)))
+
+by_number : (o : Option RowsKind) (other : EventKind) (k : RowsKind) → rows_of_kind other ≡ None → rows_of_kind (option_map_or kind.Rows o other) ≡ Some k → o ≡ Some k
+by_number None other k none is = absurd (none-some k (sym none ∙ is))
+by_number (Some own) other k none is = is
+
+-- the type of a rows event tells its kind
+pub kind_by_type : (e : Event) (k : RowsKind) → kind_of e ≡ kind.Rows k → rows_kind_of e.kind ≡ Some k
+unfolding kind_of
+kind_by_type e k is =
+    by_number (rows_kind_of e.kind) (other_kind e.kind e.flags) k (neither _ kind.Skippable kind.Unknown refl refl)
+    (past (e.kind == 39) kind.PartialRows _ k refl (past (e.kind == 19) kind.TableMap _ k refl (past (e.kind == 15) kind.SecondFormat _ k refl
+    (past (is_one_of (1 ∷ 5 ∷ 6 ∷ 7 ∷ 8 ∷ 9 ∷ 10 ∷ 11 ∷ 12 ∷ 13 ∷ 14 ∷ 17 ∷ 18 ∷ []) e.kind) kind.StatementChange _ k refl (past (e.kind == 29) kind.RowsQuery _ k refl
+    (past (is_one_of (3 ∷ 4 ∷ 35 ∷ []) e.kind) kind.Between _ k refl (past (is_one_of (33 ∷ 34 ∷ []) e.kind) kind.Announcement _ k refl
+    (past (e.kind == 16) kind.Xid _ k refl (past (e.kind == 2) (option_map_or query_kind (query_text e.body) kind.BadQuery) _ k (no_query (query_text e.body)) (ap rows_of_kind is))))))))))
+
+-- so the event of an entry has the kind of its rows event
+pub type_known : (r : PlacedRows) (event : told.Event) → kind_at r.event ≡ kind.Rows r.kind → placed event ≡ r.event → rows_kind_of event.header.kind ≡ Some r.kind
+type_known r event kind_is same = ap (λ (p : Placed). rows_kind_of p.event.kind) same ∙ kind_by_type r.event.event r.kind kind_is
+
+pub kind_same : (r : PlacedRows) (event : told.Event) (k : RowsKind) → kind_at r.event ≡ kind.Rows r.kind → placed event ≡ r.event → Some k ≡ rows_kind_of event.header.kind → k ≡ r.kind
+kind_same r event k kind_is same told = same_Some k r.kind (told ∙ type_known r event kind_is same)
 
 -- the body is read by the map's layout
 pub body_read : (r : PlacedRows) (event map : told.Event) (k : RowsKind) (columns : Layout) → rows_by_map r.kind r.map.event.body r.event.event.body ≡ Ok r.body → placed event ≡ r.event → placed map ≡ r.map

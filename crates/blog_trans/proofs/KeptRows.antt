@@ -1,5 +1,5 @@
 -- What is known of a rows event that is kept: its map is the first of its id, of a selected table, and its body is read.
-use Rattle.std.proofs.Common.{◌≡◌, ℕ, Bool, true, false, if◌then◌else◌, List, Option, Some, None, Result, Ok, Err, refl, subst}
+use Rattle.std.proofs.Common.{◌≡◌, ℕ, Bool, true, if◌then◌else◌, List, Option, Some, None, Result, Ok, Err, refl, subst, arith}
 use Rattle.std.proofs.lemmas.Option.{none-some, same_Some, option_and_then_some}
 use Rattle.blog_event.specs.File.{Placed}
 use Rattle.blog_row.specs.declared.fault.RowFault.{RowFault}
@@ -23,8 +23,7 @@ pub record IsKeptOf (sel : Selection) (events : List Placed) (p : Placed) (r : P
 
 -- where a test chooses a value, it holds
 chosen : {A : Type 0} (b : Bool) (o : Option A) (x : A) → (if b then o else None) ≡ Some x → (b ≡ true) × (o ≡ Some x)
-chosen true o x e = (refl, e)
-chosen false o x e = absurd (none-some x e)
+chosen b o x e = grind arith
 
 -- a body is read by a layout
 pub under-found : (k : RowsKind) (l : Result Layout RowFault) (body : List ℕ) (b : RowsBody) → rows_under k l body ≡ Ok b → (c : Layout) × (l ≡ Ok c) × (rows_of k c body ≡ Ok b)

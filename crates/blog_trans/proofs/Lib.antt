@@ -1,5 +1,4 @@
 pub mod Opening
-pub mod KindCode
 pub mod PlacedParts
 pub mod Tables
 mod CountsCode

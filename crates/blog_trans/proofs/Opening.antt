@@ -1,5 +1,5 @@
 -- Opening a log asks the first four lines of its fault.
-use Rattle.std.proofs.Common.{◌≡◌, ℕ, zero, suc, true, List, [], ◌∷◌, take, drop, bytes_eq, Option, Some, None, is_some, refl, sym, ap, ap₂, ◌∙◌}
+use Rattle.std.proofs.Common.{◌≡◌, ℕ, zero, suc, true, List, [], ◌∷◌, take, drop, bytes_eq, Option, Some, None, is_some, refl, sym, ap, ◌∙◌, arith}
 use Rattle.std.specs.Option.{option_map_or}
 use Rattle.std.proofs.lemmas.Option.{none-some}
 use Rattle.std.proofs.lemmas.Slice.Eq.{bytes_eq-Decides}
@@ -40,16 +40,13 @@ first-read bytes stop mark = by_event (event_at (drop 4 bytes)) refl
 
 -- four checks, the last two of which are asked only where the second finds no fault, and may be said in another way there
 same-front : (a b c d p q : Option Fault) → (b ≡ None → (c ≡ p) × (d ≡ q)) → first_failing (a ∷ b ∷ c ∷ d ∷ []) ≡ first_failing (a ∷ b ∷ p ∷ q ∷ [])
-same-front (Some f) b c d p q same = refl
-same-front None (Some f) c d p q same = refl
-same-front None None c d p q same = let are = same refl in ap₂ (λ third fourth. first_failing (third ∷ fourth ∷ [])) are.0 are.1
+same-front a b c d p q same = grind arith
 
 -- a fault among the first checks decides
 front-decides : (n : ℕ) (checks : List (Option Fault)) (f : Fault) → first_failing (take n checks) ≡ Some f → first_failing checks ≡ Some f
 front-decides zero checks f said = absurd (none-some f said)
 front-decides (suc n) [] f said = said
-front-decides (suc n) (None ∷ checks) f said = front-decides n checks f said
-front-decides (suc n) (Some x ∷ checks) f said = said
+front-decides (suc n) (check ∷ checks) f said = let later = front-decides n checks f in grind arith
 
 -- ---- opening
 

@@ -1,8 +1,8 @@
 -- The facts of each group of events.
-use Rattle.std.proofs.Common.{◌≡◌, ℕ, Bool, true, false, ◌&&◌, ◌||◌, not, if◌then◌else◌, List, [], ◌∷◌, map, reverse, Option, Some, None, bytes_eq, refl, sym, ap, subst, ◌∙◌}
+use Rattle.std.proofs.Common.{◌≡◌, ℕ, Bool, true, false, ◌&&◌, ◌||◌, not, if◌then◌else◌, List, [], ◌∷◌, map, reverse, Option, Some, bytes_eq, refl, sym, ap, subst, ◌∙◌, arith}
 use Rattle.std.specs.Option.{option_map_or}
 use Rattle.std.specs.List.{AllByRecursion, IsDistinct, filter_map, list_any, Contains}
-use Rattle.std.proofs.lemmas.Bool.{and_parts, or_left, or_right, false≢true}
+use Rattle.std.proofs.lemmas.Bool.{not-true, and_parts, or_left, or_right, false≢true}
 use Rattle.std.proofs.lemmas.List.{reverse-reverse}
 use Rattle.std.proofs.lemmas.List.Elements.{All-contains_itself, recursion_from_All}
 use Rattle.std.proofs.lemmas.Option.{none-some, same_Some}
@@ -13,7 +13,6 @@ use Rattle.blog_trans.specs.Places.{is_map, is_map_of, map_in}
 use Rattle.blog_trans.specs.Groups.{PlacedRows, PlacedStatement, PlacedTransaction, Span, spans, statements_of, kept_rows, first_maps, statement_if, kept_statement, transaction_if, kept_transaction, placed_groups_in}
 use Rattle.blog_trans.specs.StatementMaps.{first_of_ids}
 use Rattle.blog_trans.specs.PlacedFacts.{IsPlacedMap, IsPlacedRows, IsPlacedStatement, IsPlacedTransaction}
-use Rattle.blog_trans.proofs.ProgressSteps.{not-holds}
 use Rattle.blog_trans.proofs.ProgressFirsts.{id_at, ids_of, is_id_among, without_id, IsFirst, bytes-own, bytes-same, among-without, first-filter, first-found}
 use Rattle.blog_trans.proofs.KeptRows.{IsKeptOf, under-found, kept-facts}
 use Rattle.blog_trans.proofs.PlacedParts.{all-by, all-both, all-map, all-filter, all-found, all-given, any-map, IsSpanOf, spans-all, statements-all}
@@ -22,8 +21,7 @@ use Rattle.blog_trans.proofs.PlacedParts.{all-by, all-both, all-map, all-filter,
 
 -- where the test of an option holds, it has a value
 tested : {A : Type 0} (o : Option A) (test : A → Bool) → option_map_or test o false ≡ true → (x : A) × (o ≡ Some x)
-tested None test e = absurd (false≢true e)
-tested (Some x) test e = (x, refl)
+tested o test e = grind arith
 
 -- the map by which a kept rows event of such events goes
 map-placed : (Member : Placed → Type 0) (sel : Selection) (events : List Placed) (p : Placed) (r : PlacedRows) → AllByRecursion Member events → IsKeptOf sel events p r → IsPlacedMap Member sel r.map
@@ -55,19 +53,14 @@ firsts-distinct : (ids : List (List ℕ)) (events : List Placed) → IsDistinct 
 unfolding IsDistinct
 firsts-distinct ids [] = tt
 firsts-distinct ids (p ∷ ps) =
-    by_case (is_map p && is_id_among ids (id_at p)) (first-asked others ps) (firsts-distinct others ps) (firsts-distinct ids ps)
+    let others : List (List ℕ) = without_id (id_at p) ids in
+    let apart : AllByRecursion (λ id. bytes_eq (id_at p) id ≡ false) (map id_at (first_maps others ps)) = all-map _ (λ id. bytes_eq (id_at p) id ≡ false) id_at differs (first_maps others ps) (first-asked others ps) in
+    let rest = firsts-distinct others ps in
+    let without = firsts-distinct ids ps in
+    grind arith
   where
-    others : List (List ℕ)
-    others = without_id (id_at p) ids
-
-    differs : (m : Placed) → (map_in ps (id_at m) ≡ Some m) × (is_id_among others (id_at m) ≡ true) → bytes_eq (id_at p) (id_at m) ≡ false
-    differs m h = not-holds (bytes_eq (id_at p) (id_at m)) (and_parts (not (bytes_eq (id_at p) (id_at m))) (is_id_among ids (id_at m)) (sym (among-without (id_at p) (id_at m) ids) ∙ h.1)).0
-
-    by_case : (b : Bool) → AllByRecursion (λ m. (map_in ps (id_at m) ≡ Some m) × (is_id_among others (id_at m) ≡ true)) (first_maps others ps)
-        → IsDistinct bytes_eq (map id_at (first_maps others ps)) → IsDistinct bytes_eq (map id_at (first_maps ids ps))
-        → IsDistinct bytes_eq (map id_at (if b then p ∷ first_maps others ps else first_maps ids ps))
-    by_case true asked rest without = (all-map _ (λ id. bytes_eq (id_at p) id ≡ false) id_at differs (first_maps others ps) asked, rest)
-    by_case false asked rest without = without
+    differs : (m : Placed) → (map_in ps (id_at m) ≡ Some m) × (is_id_among (without_id (id_at p) ids) (id_at m) ≡ true) → bytes_eq (id_at p) (id_at m) ≡ false
+    differs m h = not-true (bytes_eq (id_at p) (id_at m)) (and_parts (not (bytes_eq (id_at p) (id_at m))) (is_id_among ids (id_at m)) (sym (among-without (id_at p) (id_at m) ids) ∙ h.1)).0
 
 -- the map of an id that is asked for is among those that are kept
 asked-found : (ids : List (List ℕ)) (events : List Placed) (id : List ℕ) (p : Placed) → is_id_among ids id ≡ true → map_in events id ≡ Some p → map_in (first_maps ids events) id ≡ Some p
@@ -109,12 +102,10 @@ rows-own Member sel events all = all-given Member (IsOwn Member sel events) (kep
 -- the rows event of an id
 row-of : (P : PlacedRows → Type 0) (rows : List PlacedRows) (id : List ℕ) → is_id_among (ids_of rows) id ≡ true → AllByRecursion P rows → (r : PlacedRows) × (id ≡ id_at r.event) × P r
 row-of P [] id e all = absurd (false≢true e)
-row-of P (r ∷ rows) id e all = by_case (bytes_eq id (id_at r.event)) refl (λ more. row-of P rows id more all.1) e
-  where
-    by_case : (b : Bool) → bytes_eq id (id_at r.event) ≡ b → (is_id_among (ids_of rows) id ≡ true → (r : PlacedRows) × (id ≡ id_at r.event) × P r)
-        → (b || is_id_among (ids_of rows) id) ≡ true → (r : PlacedRows) × (id ≡ id_at r.event) × P r
-    by_case true same more h = (r, bytes-same id (id_at r.event) same, all.0)
-    by_case false differs more h = more h
+row-of P (r ∷ rows) id e all = elim (bytes_eq id (id_at r.event)) as (λ b. bytes_eq id (id_at r.event) ≡ b → (b || is_id_among (ids_of rows) id) ≡ true → (x : PlacedRows) × (id ≡ id_at x.event) × P x) [
+  | true ↦ λ same h. (r, bytes-same id (id_at r.event) same, all.0)
+  | false ↦ λ differs h. row-of P rows id h all.1
+] refl e
 
 -- each rows event has its own table id
 rows-asked : (rows : List PlacedRows) → AllByRecursion (λ (r : PlacedRows). is_id_among (ids_of rows) (id_at r.event) ≡ true) rows

@@ -1,11 +1,11 @@
 -- What holds of each of some events holds of those of their spans and statements.
-use Rattle.std.proofs.Common.{◌≡◌, ℕ, zero, suc, Bool, true, false, not, ◌||◌, if◌then◌else◌, List, [], ◌∷◌, map, filter, find, flat_map, Option, Some, None, option_map, refl, sym, ap, subst, ◌∙◌}
-use Rattle.std.specs.List.{AllByRecursion, filter_map, cons_option, slice_get, list_any}
+use Rattle.std.proofs.Common.{◌≡◌, ℕ, zero, suc, Bool, true, false, not, ◌||◌, if◌then◌else◌, List, [], ◌∷◌, map, filter, find, flat_map, Option, Some, None, option_map, refl, ap, subst, arith}
+use Rattle.std.specs.List.{AllByRecursion, filter_map, slice_get, list_any}
 use Rattle.std.proofs.lemmas.Option.{none-some, same_Some}
 use Rattle.blog_event.specs.File.{Placed}
 use Rattle.blog_event.specs.Format.{front_while}
 use Rattle.blog_row.proofs.ReversedRows.{all-append}
-use Rattle.blog_trans.specs.Places.{is_begin, is_end, is_last_rows}
+use Rattle.blog_trans.specs.Places.{is_begin, is_end}
 use Rattle.blog_trans.specs.Groups.{Span, cons_if, spans, onto_first, statements_of}
 
 -- ---- lists
@@ -33,39 +33,22 @@ all-joined P Q f by (x ∷ xs) all = all-append Q (f x) (flat_map f xs) (by x al
 -- of the elements that pass a test, and the test too
 pub all-filter : {A : Type 0} (P : A → Type 0) (test : A → Bool) (xs : List A) → AllByRecursion P xs → AllByRecursion (λ x. P x × (test x ≡ true)) (filter test xs)
 all-filter P test [] all = tt
-all-filter P test (x ∷ xs) all = by_case (test x) refl (all-filter P test xs all.1)
-  where
-    by_case : (b : Bool) → test x ≡ b → AllByRecursion (λ y. P y × (test y ≡ true)) (filter test xs)
-        → AllByRecursion (λ y. P y × (test y ≡ true)) (if b then x ∷ filter test xs else filter test xs)
-    by_case true passes more = ((all.0, passes), more)
-    by_case false passes more = more
+all-filter P test (x ∷ xs) all = let others = all-filter P test xs all.1 in grind arith
 
 -- of those in front of the first that fails a test
 pub all-while : {A : Type 0} (P : A → Type 0) (test : A → Bool) (xs : List A) → AllByRecursion P xs → AllByRecursion P (front_while test xs)
 all-while P test [] all = tt
-all-while P test (x ∷ xs) all = by_case (test x) (all-while P test xs all.1)
-  where
-    by_case : (b : Bool) → AllByRecursion P (front_while test xs) → AllByRecursion P (if b then x ∷ front_while test xs else [])
-    by_case true more = (all.0, more)
-    by_case false more = tt
+all-while P test (x ∷ xs) all = let others = all-while P test xs all.1 in grind arith
 
 -- of the first that passes it
 pub all-found : {A : Type 0} (P : A → Type 0) (test : A → Bool) (xs : List A) (y : A) → AllByRecursion P xs → find test xs ≡ Some y → P y × (test y ≡ true)
 all-found P test [] y all e = absurd (none-some y e)
-all-found P test (x ∷ xs) y all e = by_case (test x) refl (all-found P test xs y all.1) e
-  where
-    by_case : (b : Bool) → test x ≡ b → (find test xs ≡ Some y → P y × (test y ≡ true)) → (if b then Some x else find test xs) ≡ Some y → P y × (test y ≡ true)
-    by_case true passes more h = let same = same_Some x y h in (subst P same all.0, ap test (sym same) ∙ passes)
-    by_case false passes more h = more h
+all-found P test (x ∷ xs) y all e = let others = all-found P test xs y all.1 in grind arith
 
 -- of all that a function gives of them
 pub all-given : {A B : Type 0} (P : A → Type 0) (Q : B → Type 0) (f : A → Option B) → ((x : A) (y : B) → P x → f x ≡ Some y → Q y) → (xs : List A) → AllByRecursion P xs → AllByRecursion Q (filter_map f xs)
 all-given P Q f by [] all = tt
-all-given P Q f by (x ∷ xs) all = by_case (f x) refl (all-given P Q f by xs all.1)
-  where
-    by_case : (o : Option _) → f x ≡ o → AllByRecursion Q (filter_map f xs) → AllByRecursion Q (cons_option o (filter_map f xs))
-    by_case None is more = more
-    by_case (Some y) is more = (by x y all.0 is, more)
+all-given P Q f by (x ∷ xs) all = let others = all-given P Q f by xs all.1 in let own : (y : _) → f x ≡ Some y → Q y = λ y. by x y all.0 in grind arith
 
 -- of the one at a place
 pub all-at : {A : Type 0} (P : A → Type 0) (xs : List A) (k : ℕ) (x : A) → AllByRecursion P xs → slice_get xs k ≡ Some x → P x
@@ -110,9 +93,4 @@ onto-first-all P p (s ∷ ss) own all = ((own, all.0), all.1)
 -- the statements of such events
 pub statements-all : (P : Placed → Type 0) (ps : List Placed) → AllByRecursion P ps → AllByRecursion (AllByRecursion P) (statements_of ps)
 statements-all P [] all = tt
-statements-all P (p ∷ ps) all = by_case (is_last_rows p) (statements-all P ps all.1)
-  where
-    by_case : (b : Bool) → AllByRecursion (AllByRecursion P) (statements_of ps)
-        → AllByRecursion (AllByRecursion P) (if b then (p ∷ []) ∷ statements_of ps else onto_first p (statements_of ps))
-    by_case true more = ((all.0, tt), more)
-    by_case false more = onto-first-all P p (statements_of ps) all.0 more
+statements-all P (p ∷ ps) all = let others = statements-all P ps all.1 in let joined = onto-first-all P p (statements_of ps) all.0 others in grind arith

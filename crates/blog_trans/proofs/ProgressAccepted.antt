@@ -1,5 +1,5 @@
 -- The progress over the range of an accepted log has the log's groups.
-use Rattle.std.proofs.Common.{◌≡◌, ℕ, Bool, true, false, if◌then◌else◌, List, [], ◌∷◌, not, reverse, Option, Some, None, refl}
+use Rattle.std.proofs.Common.{◌≡◌, ℕ, Bool, true, false, if◌then◌else◌, List, [], ◌∷◌, not, reverse, Option, None, arith}
 use Rattle.std.specs.List.{AllByRecursion}
 use Rattle.blog_event.specs.declared.fault.Fault.{Fault}
 use Rattle.blog_event.specs.declared.fault.Fault.TheVariants.{NoEventAt, Unended}
@@ -16,24 +16,20 @@ use Rattle.blog_trans.proofs.ProgressGroups.{progress-is-groups}
 -- where no check fails, each passes
 pub none-failing : {A : Type 0} (checks : List (Option A)) → first_failing checks ≡ None → AllByRecursion (λ c. c ≡ None) checks
 none-failing [] e = tt
-none-failing (None ∷ checks) e = (refl, none-failing checks e)
-none-failing (Some failure ∷ checks) e = absurd (cc)
+none-failing (check ∷ checks) e = let others = none-failing checks in grind arith
 
 -- a check with no fault at a position has none
 pub no-fault-at : (pos : ℕ) (check : Option Cause) → fault_at pos check ≡ None → check ≡ None
-no-fault-at pos None e = refl
-no-fault-at pos (Some cause) e = absurd (cc)
+no-fault-at pos check e = grind arith
 
 -- a check that passes has its test
 pub needed : (b : Bool) (cause : Cause) → needs b cause ≡ None → b ≡ true
-needed true cause e = refl
-needed false cause e = absurd (cc)
+needed b cause e = grind arith
 
 -- one more event, in the range or not
 passes-by-range : (sel : Selection) (b : Bool) (earlier ps : List Placed) (p : Placed) → (if b then fault_at p.pos (event_fault sel earlier p) else None) ≡ None
     → Passes sel (if b then p ∷ earlier else earlier) ps → Passes sel earlier (if b then p ∷ ps else ps)
-passes-by-range sel true earlier ps p e others = (no-fault-at p.pos (event_fault sel earlier p) e, others)
-passes-by-range sel false earlier ps p e others = others
+passes-by-range sel b earlier ps p e others = let none = no-fault-at p.pos (event_fault sel earlier p) in grind arith
 
 -- the events of the range pass, where no event that is read has a fault
 pub read-passes : (sel : Selection) (earlier ps : List Placed) → first_read_fault sel earlier ps ≡ None → Passes sel (range sel earlier) (range sel ps)

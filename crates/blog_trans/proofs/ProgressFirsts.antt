@@ -1,8 +1,9 @@
 -- The first maps of table ids. `statement` has the events of a statement, the latest first.
-use Rattle.std.proofs.Common.{◌≡◌, ℕ, Bool, true, false, ◌&&◌, ◌||◌, not, if◌then◌else◌, List, [], ◌∷◌, ◌++◌, map, filter, find, reverse, Some, None, bytes_eq, refl, sym, ap, ◌∙◌, append-nil}
+use Rattle.std.proofs.Common.{◌≡◌, ℕ, Bool, true, false, ◌&&◌, ◌||◌, not, if◌then◌else◌, List, [], ◌∷◌, ◌++◌, map, filter, find, reverse, Some, None, bytes_eq, refl, sym, ap, ◌∙◌, append-nil, rules, arith}
 use Rattle.std.specs.Option.{option_or}
 use Rattle.std.specs.List.{AllByRecursion, list_any}
-use Rattle.std.proofs.lemmas.Bool.{false≢true, false_from_ne_true}
+pub use Rattle.std.proofs.Math.Bool.{and-false}
+use Rattle.std.proofs.Math.Bool.{and-true}
 use Rattle.std.proofs.lemmas.List.Elements.{filter-append}
 use Rattle.std.proofs.lemmas.List.Folds.{find-append}
 use Rattle.std.proofs.lemmas.List.Sorted.{list_any-IsPermutation, IsPermutation-reverse}
@@ -44,10 +45,6 @@ bytes-own xs = (bytes_eq-Decides xs xs).1 refl
 pub bytes-same : (xs ys : List ℕ) → bytes_eq xs ys ≡ true → xs ≡ ys
 bytes-same xs ys = (bytes_eq-Decides xs ys).0
 
--- bytes that differ differ the other way too
-pub bytes-differ : (xs ys : List ℕ) → bytes_eq xs ys ≡ false → bytes_eq ys xs ≡ false
-bytes-differ xs ys differ = false_from_ne_true (bytes_eq ys xs) (λ e. false≢true (sym differ ∙ ap (bytes_eq xs) (bytes-same ys xs e) ∙ bytes-own xs))
-
 -- another one of them is still among them
 pub among-without : (id other : List ℕ) (ids : List (List ℕ)) → is_id_among (without_id id ids) other ≡ (not (bytes_eq id other) && is_id_among ids other)
 among-without id other ids =
@@ -55,26 +52,11 @@ among-without id other ids =
 
 -- ---- tests
 
-and-true : (a : Bool) → (a && true) ≡ a
-and-true true = refl
-and-true false = refl
-
-pub and-false : (a : Bool) → (a && false) ≡ false
-and-false true = refl
-and-false false = refl
-
 and-apart : (a d y : Bool) → ((not d && a) && not y) ≡ (a && not (d || y))
-and-apart a true y = sym (and-false a)
-and-apart a false y = refl
+and-apart a d y = search rules
 
 pub or-swap : (a b c : Bool) → (a || (b || c)) ≡ (b || (a || c))
-or-swap true true c = refl
-or-swap true false c = refl
-or-swap false b c = refl
-
-pub and-spread : (s e y : Bool) → (s && (e || y)) ≡ ((s && e) || (s && y))
-and-spread true e y = refl
-and-spread false e y = refl
+or-swap a b c = search rules
 
 -- ---- the first maps of ids
 
@@ -128,18 +110,12 @@ first-filter ids (p ∷ statement) =
     firsts = first_of_ids statement
 
     by_case : (b d : Bool) → filter asked firsts ++ (if b && (asked p && not d) then p ∷ [] else []) ≡ filter asked (if b && not d then firsts ++ p ∷ [] else firsts)
-    by_case true true = ap (λ t. filter asked firsts ++ (if t then p ∷ [] else [])) (and-false (asked p)) ∙ append-nil (filter asked firsts)
-    by_case true false = ap (λ t. filter asked firsts ++ (if t then p ∷ [] else [])) (and-true (asked p)) ∙ sym (filter-append asked firsts (p ∷ []))
-    by_case false d = append-nil (filter asked firsts)
+    by_case b d = let more = filter-append asked firsts (p ∷ []) in let same = append-nil (filter asked firsts) in grind arith
 
 -- nothing is found that isn't there
 find-none : {A : Type 0} (test : A → Bool) (xs : List A) → list_any test xs ≡ false → find test xs ≡ None
 find-none test [] e = refl
-find-none test (x ∷ xs) e = by_case (test x) e (find-none test xs)
-  where
-    by_case : (b : Bool) → (b || list_any test xs) ≡ false → (list_any test xs ≡ false → find test xs ≡ None) → (if b then Some x else find test xs) ≡ None
-    by_case true h more = absurd (false≢true (sym h))
-    by_case false h more = more h
+find-none test (x ∷ xs) e = let more = find-none test xs in grind arith
 
 -- each is found by its id
 abbrev pub IsFirst : List Placed → Placed → Type 0

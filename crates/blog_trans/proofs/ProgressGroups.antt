@@ -1,23 +1,21 @@
 -- Of events that pass and end outside of a transaction, what the progress keeps are the groups.
-use Rattle.std.proofs.Common.{◌≡◌, false, List, [], ◌∷◌, ◌++◌, reverse, Option, Some, None, is_some, refl, sym, ap, subst, ◌∙◌, append-nil}
-use Rattle.std.proofs.lemmas.Bool.{false≢true}
+use Rattle.std.proofs.Common.{rules, ◌≡◌, false, List, [], ◌∷◌, ◌++◌, reverse, Option, None, is_some, sym, ap, subst, ◌∙◌, append-nil}
 use Rattle.std.proofs.lemmas.List.{reverse-reverse}
 use Rattle.blog_event.specs.File.{Placed}
 use Rattle.blog_trans.specs.Selection.{Selection}
 use Rattle.blog_trans.specs.Places.{place, is_inside, since}
 use Rattle.blog_trans.specs.Groups.{placed_groups_in}
-use Rattle.blog_trans.specs.Progress.{Open, progress}
+use Rattle.blog_trans.specs.Progress.{progress}
 use Rattle.blog_trans.specs.Acceptance.{HavePassed, Passes}
 use Rattle.blog_trans.proofs.ProgressSteps.{reverse-behind}
 use Rattle.blog_trans.proofs.ProgressState.{groups_left, state-of, open-inside}
 
+none-there : {A : Type 0} (o : Option A) → is_some o ≡ false → o ≡ None
+none-there o none = search rules
+
 -- outside of a transaction none is open
 pub none-open : (sel : Selection) (earlier : List Placed) → HavePassed sel earlier → is_inside (place earlier) ≡ false → (progress sel earlier).current ≡ None
-none-open sel earlier passed out = by_case (progress sel earlier).current (open-inside sel earlier passed ∙ out)
-  where
-    by_case : (c : Option Open) → is_some c ≡ false → c ≡ None
-    by_case None e = refl
-    by_case (Some o) e = absurd (false≢true (sym e))
+none-open sel earlier passed out = none-there (progress sel earlier).current (open-inside sel earlier passed ∙ out)
 
 -- and the transactions that are done are the groups of the events so far
 pub done-groups : (sel : Selection) (earlier : List Placed) → HavePassed sel earlier → is_inside (place earlier) ≡ false → placed_groups_in sel (reverse earlier) ≡ (progress sel earlier).done

@@ -1,7 +1,8 @@
 -- The maps of a kept statement are the first maps that are used. `statement` has its events, the latest first.
-use Rattle.std.proofs.Common.{◌≡◌, ℕ, Bool, true, false, ◌&&◌, ◌||◌, if◌then◌else◌, List, [], ◌∷◌, ◌++◌, filter, reverse, Option, Some, None, is_some, bytes_eq, refl, sym, ap, ◌∙◌, append-nil}
+use Rattle.std.proofs.Common.{◌≡◌, ℕ, Bool, true, false, ◌&&◌, ◌||◌, List, [], ◌∷◌, ◌++◌, filter, reverse, Option, Some, None, is_some, bytes_eq, refl, sym, ap, ◌∙◌, append-nil, arith}
 use Rattle.std.specs.Option.{option_map_or}
 use Rattle.std.specs.List.{AllByRecursion, list_any}
+use Rattle.std.proofs.Math.Bool.{and-or_distrib_left}
 use Rattle.std.proofs.lemmas.Bool.{and_from, and_parts, false≢true}
 use Rattle.std.proofs.lemmas.Option.{same_Some}
 use Rattle.blog_event.specs.File.{Placed}
@@ -15,7 +16,7 @@ use Rattle.blog_trans.specs.StatementMaps.{first_of_ids, is_used}
 use Rattle.blog_trans.proofs.ProgressSteps.{reverse-behind, IsChecked}
 use Rattle.blog_trans.proofs.ProgressRows.{AreChecked, kept_so_far, with-checked, found-stays}
 use Rattle.blog_trans.proofs.ProgressState.{open-kept}
-use Rattle.blog_trans.proofs.ProgressFirsts.{id_at, ids_of, is_id_among, IsFirst, bytes-own, bytes-same, and-false, or-swap, and-spread, first-filter, first-found}
+use Rattle.blog_trans.proofs.ProgressFirsts.{id_at, ids_of, is_id_among, IsFirst, bytes-own, bytes-same, and-false, or-swap, first-filter, first-found}
 use Rattle.blog_trans.proofs.KeptRows.{kept-facts}
 
 -- ---- used maps
@@ -33,9 +34,7 @@ among-appended (x ∷ rows) (Some r) id =
 
 -- two tests that hold together
 both-ways : (a b : Bool) → (a ≡ true → b ≡ true) → (b ≡ true → a ≡ true) → a ≡ b
-both-ways true b to from = sym (to refl)
-both-ways false true to from = from refl
-both-ways false false to from = refl
+both-ways a b to from = grind arith
 
 -- a map is used by a rows event that is its statement's and of its id, if this is kept
 used-latest : (sel : Selection) (m : Placed) (statement later : List Placed) (p : Placed) → (is_rows p ≡ true → IsChecked sel statement p)
@@ -75,7 +74,7 @@ used-is sel m [] checked later found = and-false (is_selected sel m.event.body)
 used-is sel m (p ∷ statement) checked later found =
     let behind = ap (λ l. map_in l (id_at m)) (sym (reverse-behind p statement later)) ∙ found in
     rw (
-      and-spread (is_selected sel m.event.body) (is_rows p && bytes_eq (id_at p) (id_at m)) (list_any (λ q. is_rows q && bytes_eq (id_at q) (id_at m)) statement),
+      and-or_distrib_left (is_selected sel m.event.body) (is_rows p && bytes_eq (id_at p) (id_at m)) (list_any (λ q. is_rows q && bytes_eq (id_at q) (id_at m)) statement),
       used-latest sel m statement later p checked.0 behind,
       used-is sel m statement checked.1 (p ∷ later) behind,
     )
@@ -84,8 +83,7 @@ used-is sel m (p ∷ statement) checked later found =
 -- two tests that answer alike leave the same
 filter-same : {A : Type 0} (P : A → Type 0) (f g : A → Bool) → ((x : A) → P x → f x ≡ g x) → (xs : List A) → AllByRecursion P xs → filter f xs ≡ filter g xs
 filter-same P f g each [] all = refl
-filter-same P f g each (x ∷ xs) all =
-    ap (λ t. if t then x ∷ filter f xs else filter f xs) (each x all.0) ∙ ap (λ l. if g x then x ∷ l else l) (filter-same P f g each xs all.1)
+filter-same P f g each (x ∷ xs) all = let others = filter-same P f g each xs all.1 in let same = each x all.0 in grind arith
 
 -- the first maps of the ids of the kept rows events are the first maps that are used
 pub used-maps : (sel : Selection) (statement : List Placed) → AreChecked sel statement
@@ -105,8 +103,7 @@ used_statement sel statement (r ∷ rows) = Some (record { maps = filter (is_use
 
 statement-by : (sel : Selection) (statement : List Placed) (rows : List PlacedRows) → first_maps (ids_of rows) (reverse statement) ≡ filter (is_used sel statement) (first_of_ids statement)
     → statement_if (reverse statement) rows ≡ used_statement sel statement rows
-statement-by sel statement [] maps = refl
-statement-by sel statement (r ∷ rows) maps = ap (λ ms. Some (record { maps = ms; rows = r ∷ rows })) maps
+statement-by sel statement rows maps = grind arith
 
 -- the kept rows events of the open statement and one more event that passed
 pub taken-rows : (sel : Selection) (earlier : List Placed) (p : Placed) (o : Open) → HavePassed sel (p ∷ earlier) → (progress sel earlier).current ≡ Some o

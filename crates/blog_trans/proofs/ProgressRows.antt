@@ -1,16 +1,15 @@
 -- The kept rows events of a statement: those that were kept as they came are those that the whole statement keeps.
 -- `statement` has its events, the latest first.
-use Rattle.std.proofs.Common.{◌≡◌, ℕ, Bool, true, false, ◌||◌, not, if◌then◌else◌, List, [], ◌∷◌, ◌++◌, reverse, Option, Some, None, is_some, option_and_then, refl, sym, ap, ◌∙◌, append_assoc, append-nil}
+use Rattle.std.proofs.Common.{◌≡◌, ℕ, Bool, true, false, if◌then◌else◌, List, [], ◌∷◌, ◌++◌, reverse, Option, Some, None, is_some, option_and_then, refl, sym, ap, ◌∙◌, append_assoc, append-nil, arith}
 use Rattle.std.specs.Option.{option_or}
 use Rattle.std.specs.List.{list_any, filter_map, cons_option}
-use Rattle.std.proofs.lemmas.Bool.{false≢true}
 use Rattle.std.proofs.lemmas.List.Elements.{filter_map-append}
 use Rattle.std.proofs.lemmas.List.Folds.{find-append}
 use Rattle.blog_event.specs.File.{Placed}
 use Rattle.blog_row.specs.RowsEvent.{table_id}
 use Rattle.blog_trans.specs.Selection.{Selection}
 use Rattle.blog_trans.specs.Kinds.{rows_of_kind}
-use Rattle.blog_trans.specs.Places.{kind_at, is_begin, is_rows, is_last_rows, since, is_map_of, map_in}
+use Rattle.blog_trans.specs.Places.{kind_at, is_rows, since, is_map_of, map_in}
 use Rattle.blog_trans.specs.Acceptance.{is_selected, HavePassed}
 use Rattle.blog_trans.specs.Groups.{PlacedRows, rows_by_kind, kept_rows}
 use Rattle.blog_trans.specs.Progress.{appended_if}
@@ -32,11 +31,7 @@ kept_so_far sel (p ∷ statement) = appended_if (kept_so_far sel statement) (kep
 -- the rows events of the open statement
 pub since-checked : (sel : Selection) (earlier : List Placed) → HavePassed sel earlier → AreChecked sel (since earlier)
 since-checked sel [] passed = tt
-since-checked sel (p ∷ earlier) passed = by_case (is_begin p || is_last_rows p) (since-checked sel earlier passed.1)
-  where
-    by_case : (b : Bool) → AreChecked sel (since earlier) → AreChecked sel (if not b then p ∷ since earlier else [])
-    by_case true others = tt
-    by_case false others = (rows-checked sel earlier p passed.0, others)
+since-checked sel (p ∷ earlier) passed = let others = since-checked sel earlier passed.1 in let own = rows-checked sel earlier p passed.0 in grind arith
 
 -- and those of the open statement with one more event
 pub with-checked : (sel : Selection) (earlier : List Placed) (p : Placed) → HavePassed sel (p ∷ earlier) → AreChecked sel (p ∷ since earlier)
@@ -46,11 +41,9 @@ with-checked sel earlier p passed = (rows-checked sel earlier p passed.0, since-
 
 -- nothing of an event that is no rows event
 pub no-rows-kept : (sel : Selection) (events : List Placed) (p : Placed) → is_rows p ≡ false → kept_rows sel events p ≡ None
-no-rows-kept sel events p none = by_case (kept_rows sel events p) refl
-  where
-    by_case : (o : Option PlacedRows) → kept_rows sel events p ≡ o → o ≡ None
-    by_case None is = refl
-    by_case (Some r) is = absurd (false≢true (sym none ∙ ap (λ k. is_some (rows_of_kind k)) (kept-facts sel events p r is).kind_is))
+no-rows-kept sel events p none =
+    let kept : (r : PlacedRows) → kept_rows sel events p ≡ Some r → is_rows p ≡ true = λ r e. ap (λ k. is_some (rows_of_kind k)) (kept-facts sel events p r e).kind_is in
+    grind arith
 
 -- the first map of an id stays the first behind which others come
 pub found-stays : (xs ys : List Placed) (id : List ℕ) (m : Placed) → map_in xs id ≡ Some m → map_in (xs ++ ys) id ≡ Some m
@@ -92,9 +85,4 @@ statement-keeps sel statement checked =
 -- none, if there is none
 pub none-kept : (sel : Selection) (statement : List Placed) → list_any is_rows statement ≡ false → kept_so_far sel statement ≡ []
 none-kept sel [] none = refl
-none-kept sel (p ∷ statement) none = by_case (is_rows p) refl none (none-kept sel statement)
-  where
-    by_case : (b : Bool) → is_rows p ≡ b → (b || list_any is_rows statement) ≡ false → (list_any is_rows statement ≡ false → kept_so_far sel statement ≡ [])
-        → appended_if (kept_so_far sel statement) (kept_rows sel (reverse statement) p) ≡ []
-    by_case true is none more = absurd (false≢true (sym none))
-    by_case false is none more = ap (appended_if (kept_so_far sel statement)) (no-rows-kept sel (reverse statement) p is) ∙ more none
+none-kept sel (p ∷ statement) none = let more = none-kept sel statement in let own = no-rows-kept sel (reverse statement) p in grind arith

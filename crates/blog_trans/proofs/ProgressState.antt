@@ -1,8 +1,8 @@
 -- The progress over the events so far: its open transaction, and that what it keeps and what is left give the groups.
-use Rattle.std.proofs.Common.{◌≡◌, ℕ, ◌+◌, ◌≤◌, Bool, true, false, not, List, [], ◌∷◌, ◌++◌, length, reverse, find, Option, Some, None, option_map, is_some, option_and_then, nat_le, ◌==◌, refl, sym, ap, ap₂, subst, ◌∙◌, append_assoc, append-nil, arith}
+use Rattle.std.proofs.Common.{◌≡◌, ℕ, ◌+◌, ◌≤◌, Bool, true, false, not, List, [], ◌∷◌, ◌++◌, length, reverse, find, Option, Some, None, option_map, is_some, option_and_then, nat_le, ◌==◌, refl, sym, ap, ap₂, subst, ◌∙◌, append-nil, arith, rules}
 use Rattle.std.specs.Option.{option_map_or}
-use Rattle.std.specs.List.{filter_map, cons_option, list_any}
-use Rattle.std.proofs.lemmas.Bool.{and_from, and_left, and_right, false≢true}
+use Rattle.std.specs.List.{filter_map, list_any}
+use Rattle.std.proofs.lemmas.Bool.{not-true, and_from, and_left, and_right, false≢true}
 use Rattle.blog_event.specs.declared.fault.Fault.TheVariants.{OutOfPlace, Unended, BadBody}
 use Rattle.blog_event.specs.Fault.{Cause, needs, first_failing}
 use Rattle.blog_event.specs.File.{Placed}
@@ -17,7 +17,7 @@ use Rattle.blog_trans.specs.Places.{kind_at, is_begin, is_end, is_rows, is_last_
 use Rattle.blog_trans.specs.Groups.{PlacedRows, PlacedStatement, PlacedTransaction, Span, cons_if, spans, statements_of, kept_rows, statement_if, kept_statement, transaction_if, kept_transaction, placed_groups_in}
 use Rattle.blog_trans.specs.Progress.{Open, Progress, appended_if, with_rows, closed, ended_if, rows_taken, advance, advance_by, progress}
 use Rattle.blog_trans.specs.Acceptance.{HavePassed, checks, end_checks, rows_check}
-use Rattle.blog_trans.proofs.ProgressSteps.{reverse-behind, needs-passed, not-holds, outside-not-inside}
+use Rattle.blog_trans.proofs.ProgressSteps.{reverse-behind, needs-passed, outside-not-inside}
 use Rattle.blog_trans.proofs.ProgressRows.{AreChecked, kept_so_far, kept-before, no-rows-kept, none-kept, statement-keeps, with-checked}
 use Rattle.blog_trans.proofs.Sums.{sum_of, sum-reverse}
 use Rattle.blog_trans.proofs.Apart.{transaction_sum, open_sum, statement-fits, transaction-fits}
@@ -39,23 +39,12 @@ groups_left sel statement (Some o) left = cons_if (coming sel o.begin o.statemen
 -- ---- lists
 
 kept-first : {A B : Type 0} (f : A → Option B) (o : Option A) (xs : List A) → filter_map f (cons_if o xs) ≡ cons_if (option_and_then f o) (filter_map f xs)
-kept-first f None xs = refl
-kept-first f (Some x) xs = by_case (f x)
-  where
-    by_case : (y : Option _) → cons_option y (filter_map f xs) ≡ cons_if y (filter_map f xs)
-    by_case None = refl
-    by_case (Some y) = refl
-
--- one more, if there is one, stands before what follows
-appended-before : {A : Type 0} (xs ys : List A) (o : Option A) → xs ++ cons_if o ys ≡ appended_if xs o ++ ys
-appended-before xs ys None = refl
-appended-before xs ys (Some x) = sym (append_assoc xs (x ∷ []) ys)
+kept-first f o xs = search rules
 
 -- a transaction is made of its begin, its statements and its end
 transaction-same : (begin end : Placed) (inside others : List Placed) (ss : List PlacedStatement)
     → transaction_if (record { begin = begin; inside = inside; end = end }) ss ≡ transaction_if (record { begin = begin; inside = others; end = end }) ss
-transaction-same begin end inside others [] = refl
-transaction-same begin end inside others (s ∷ ss) = refl
+transaction-same begin end inside others ss = search rules
 
 -- ---- one more event
 
@@ -156,7 +145,7 @@ ends-state sel earlier p done (Some o) begin end after before state = record {
   rows = tt;
   groups = λ left. onward sel earlier p (record { done = done; current = Some o }) state left
       ∙ ap₂ (λ x l. done ++ cons_if x l) (coming-end sel o.begin o.statements earlier left p end) (groups-skip sel p left begin)
-      ∙ appended-before done (placed_groups_in sel left) (transaction_if (record { begin = o.begin; inside = []; end = p }) o.statements);
+      ∙ kept-before done (placed_groups_in sel left) (transaction_if (record { begin = o.begin; inside = []; end = p }) o.statements);
   fits = λ w. let before = state.fits w in omega (arith, transaction-fits w o.begin p o.statements done);
 }
 
@@ -246,7 +235,7 @@ state-step sel earlier p k passed state = by_kind (kind_at p) refl passed.0
 
     by_kind : (j : EventKind) → kind_at p ≡ j → first_failing (checks sel earlier p j) ≡ None → IsState sel (p ∷ earlier) (advance_by j sel earlier p k)
     by_kind kind.Begin is h =
-        begins-state sel earlier p k.done k.current is (not-holds (is_inside (place earlier)) (needs-passed (not (is_inside (place earlier))) OutOfPlace [] h).0) state
+        begins-state sel earlier p k.done k.current is (not-true (is_inside (place earlier)) (needs-passed (not (is_inside (place earlier))) OutOfPlace [] h).0) state
     by_kind kind.Commit is h = ends_by kind.Commit is refl refl refl h
     by_kind kind.Xid is h = ends_by kind.Xid is refl refl refl (needs-passed (length p.event.body == 8) BadBody (end_checks earlier) h).1
     by_kind kind.Announcement is h = plain kind.Announcement is refl refl refl (sym (outside-not-inside (place earlier) (needs-passed (is_outside (place earlier)) OutOfPlace [] h).0))

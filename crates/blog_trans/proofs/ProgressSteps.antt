@@ -1,5 +1,5 @@
 -- What is known of events that passed their checks.
-use Rattle.std.proofs.Common.{◌≡◌, Bool, true, false, not, List, [], ◌∷◌, ◌++◌, length, reverse, nat_le, Option, Some, None, Result, Ok, Err, is_some, refl, ap, ◌∙◌, append_assoc}
+use Rattle.std.proofs.Common.{◌≡◌, Bool, true, false, List, [], ◌∷◌, ◌++◌, length, reverse, nat_le, Option, Some, None, Result, Ok, Err, is_some, refl, ap, ◌∙◌, append_assoc, rules}
 use Rattle.std.proofs.lemmas.Bool.{false≢true}
 use Rattle.std.proofs.lemmas.List.{reverse-append}
 use Rattle.blog_event.specs.declared.fault.Fault.TheVariants.{OutOfPlace, BadBody}
@@ -11,7 +11,6 @@ use Rattle.blog_row.specs.RowsEvent.{RowsBody, table_id, fixed_len}
 use Rattle.blog_trans.specs.declared.kind.EventKind.{EventKind}
 use Rattle.blog_trans.specs.declared.kind.EventKind.TheVariants as kind
 use Rattle.blog_trans.specs.declared.place.Place.{Place}
-use Rattle.blog_trans.specs.declared.place.Place.TheVariants.{Outside, Announced, Inside}
 use Rattle.blog_trans.specs.Selection.{Selection}
 use Rattle.blog_trans.specs.Kinds.{is_begin_kind, rows_of_kind}
 use Rattle.blog_trans.specs.Places.{kind_at, is_rows, place, is_inside, is_outside, since, map_in}
@@ -32,29 +31,19 @@ reverse-behind x xs ys = ap (λ l. l ++ ys) (reverse-latest x xs) ∙ append_ass
 
 -- where no check fails, the first holds, and no other fails
 pub needs-passed : (b : Bool) (cause : Cause) (others : List (Option Cause)) → first_failing (needs b cause ∷ others) ≡ None → (b ≡ true) × (first_failing others ≡ None)
-needs-passed true cause others e = (refl, e)
-needs-passed false cause others e = absurd (cc)
+needs-passed b cause others e = search rules
 
 -- the first check finds nothing, and no other does
 pub first-passed : (check : Option Cause) (others : List (Option Cause)) → first_failing (check ∷ others) ≡ None → (check ≡ None) × (first_failing others ≡ None)
-first-passed None others e = (refl, e)
-first-passed (Some cause) others e = absurd (cc)
-
--- a test that doesn't hold
-pub not-holds : (b : Bool) → not b ≡ true → b ≡ false
-not-holds false e = refl
-not-holds true e = absurd (false≢true e)
+first-passed check others e = search rules
 
 -- the kind of a `BEGIN`
 pub begin-kind : (k : EventKind) → is_begin_kind k ≡ true → k ≡ kind.Begin
-begin-kind kind.Begin e = refl
-begin-kind k e = absurd (false≢true e)
+begin-kind k e = search rules
 
 -- what lies outside isn't inside
 pub outside-not-inside : (at : Place) → is_outside at ≡ true → is_inside at ≡ false
-outside-not-inside Outside e = refl
-outside-not-inside Announced e = refl
-outside-not-inside Inside e = absurd (false≢true e)
+outside-not-inside at e = search rules
 
 -- ---- rows events
 

@@ -1,13 +1,11 @@
 -- Groups have events of the range, and none of them twice.
-use Rattle.std.proofs.Common.{◌≡◌, ℕ, ◌+◌, ◌≤◌, ◌<◌, Bool, true, false, if◌then◌else◌, List, [], ◌∷◌, ◌++◌, length, map, take, reverse, Option, Some, None, refl, sym, ap, ◌∙◌, subst, arith}
+use Rattle.std.proofs.Common.{◌≡◌, ℕ, ◌+◌, ◌≤◌, ◌<◌, Bool, true, false, if◌then◌else◌, List, [], ◌∷◌, ◌++◌, length, map, take, reverse, None, refl, sym, ap, ◌∙◌, subst, arith}
 use Rattle.std.specs.Prelude.{◌==◌, Contains}
 use Rattle.std.specs.List.{AllByRecursion, IsDistinct, flat_map}
 use Rattle.std.proofs.lemmas.Bool.{eqb-true, eq-eqb}
-use Rattle.std.proofs.lemmas.Option.{none-some}
 use Rattle.std.proofs.lemmas.List.{length-map, map-append}
 use Rattle.std.proofs.lemmas.Simd.{map-map}
 use Rattle.std.proofs.lemmas.List.Recursion.{is_sum_by}
-use Rattle.blog_event.specs.declared.fault.Fault.{Fault}
 use Rattle.blog_event.specs.Event.{Event, event_size}
 use Rattle.blog_event.specs.File.{Placed, placed_from, end_of, read}
 use Rattle.blog_event.specs.Going.{ReadsOn}
@@ -66,11 +64,7 @@ one-at pos at (e ∷ es) =
 -- where none stands at a position, each position is another
 none-at : (pos : ℕ) (ps : List Placed) → sum_of (at_pos pos) ps ≤ 0 → AllByRecursion (λ y. (pos == y) ≡ false) (map (λ (p : Placed). p.pos) ps)
 none-at pos [] none = tt
-none-at pos (p ∷ ps) none = (by_case (pos == p.pos) none, none-at pos ps (omega arith))
-  where
-    by_case : (b : Bool) → (if b then 1 else 0) + sum_of (at_pos pos) ps ≤ 0 → b ≡ false
-    by_case true none = absurd (omega arith)
-    by_case false none = refl
+none-at pos (p ∷ ps) none = let others = none-at pos ps (omega arith) in grind arith
 
 -- where at most one stands at each position, the positions are distinct
 positions-distinct : (ps : List Placed) → ((pos : ℕ) → sum_of (at_pos pos) ps ≤ 1) → IsDistinct (λ a b. a == b) (map (λ (p : Placed). p.pos) ps)
@@ -99,11 +93,7 @@ range-fits sel format rest = sum-filter own_size (is_in_range sel) (placed_from 
 
 -- an accepted log is opened
 pub accepted-opens : (bytes : List ℕ) (sel : Selection) → IsAccepted bytes sel → opening_fault bytes ≡ None
-accepted-opens bytes sel accepted = by_case (opening_fault bytes) refl
-  where
-    by_case : (o : Option Fault) → opening_fault bytes ≡ o → o ≡ None
-    by_case None is = refl
-    by_case (Some f) is = absurd (none-some f (sym accepted ∙ opening-refused bytes sel f is))
+accepted-opens bytes sel accepted = let refused = opening-refused bytes sel in grind arith
 
 -- whatever number each event has, the sum over the groups is no larger than that over the range
 shown-sum : (w : Placed → ℕ) (bytes : List ℕ) (sel : Selection) → IsAccepted bytes sel → sum_of w (shown bytes sel) ≤ sum_of w (events_in_range bytes sel)

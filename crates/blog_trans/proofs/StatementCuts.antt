@@ -1,7 +1,7 @@
 -- Statements are cut going forward, and seen looking back: both are the same.
-use Rattle.std.proofs.Common.{◌≡◌, Bool, true, false, ◌||◌, not, if◌then◌else◌, List, [], ◌∷◌, ◌++◌, reverse, refl, sym, ap, ap₂, ◌∙◌, append_assoc, append-nil}
+use Rattle.std.proofs.Common.{◌≡◌, Bool, true, false, List, [], ◌∷◌, ◌++◌, reverse, refl, sym, ap, ap₂, ◌∙◌, append_assoc, append-nil, arith}
 use Rattle.std.specs.List.{AllByRecursion, flat_map}
-use Rattle.std.proofs.lemmas.Bool.{false≢true}
+use Rattle.std.proofs.Math.Bool.{or-true}
 use Rattle.std.proofs.lemmas.Grind.{flat_map-append}
 use Rattle.blog_event.specs.File.{Placed}
 use Rattle.blog_trans.specs.Places.{is_begin, is_last_rows, since}
@@ -17,12 +17,7 @@ IsNoLast p = is_last_rows p ≡ false
 -- no event of the open statement ends it
 pub since-no-last : (earlier : List Placed) → AllByRecursion IsNoLast (since earlier)
 since-no-last [] = tt
-since-no-last (p ∷ earlier) = by_case (is_begin p) (is_last_rows p) refl (since-no-last earlier)
-  where
-    by_case : (b c : Bool) → is_last_rows p ≡ c → AllByRecursion IsNoLast (since earlier) → AllByRecursion IsNoLast (if not (b || c) then p ∷ since earlier else [])
-    by_case true c is others = tt
-    by_case false true is others = tt
-    by_case false false is others = (is, others)
+since-no-last (p ∷ earlier) = let others = since-no-last earlier in grind arith
 
 -- such events, with no end of a statement behind them, are in no statement
 pub cut-none : (statement left : List Placed) → AllByRecursion IsNoLast statement → statements_of left ≡ [] → statements_of (reverse statement ++ left) ≡ []
@@ -52,12 +47,7 @@ IsNoBegin p = is_begin p ≡ false
 
 -- behind the last event of a statement none is open
 pub since-cut : (earlier : List Placed) (p : Placed) → is_last_rows p ≡ true → since (p ∷ earlier) ≡ []
-since-cut earlier p is = by_case (is_begin p) (is_last_rows p) is
-  where
-    by_case : (b c : Bool) → c ≡ true → (if not (b || c) then p ∷ since earlier else []) ≡ []
-    by_case true c e = refl
-    by_case false true e = refl
-    by_case false false e = absurd (false≢true e)
+since-cut earlier p is = rw (is, or-true (is_begin p)) refl
 
 -- the open one goes on with another event
 pub since-on : (earlier : List Placed) (p : Placed) → is_begin p ≡ false → is_last_rows p ≡ false → since (p ∷ earlier) ≡ p ∷ since earlier

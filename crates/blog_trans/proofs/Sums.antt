@@ -1,6 +1,5 @@
 -- Sums over lists.
-use Rattle.std.proofs.Common.{◌≡◌, ℕ, ◌+◌, ◌≤◌, Bool, true, false, List, [], ◌∷◌, ◌++◌, length, map, filter, reverse, refl, ap, ap₂, ◌∙◌, arith}
-use Rattle.std.specs.Prelude.{if◌then◌else◌}
+use Rattle.std.proofs.Common.{◌≡◌, ℕ, ◌+◌, ◌≤◌, Bool, List, [], ◌∷◌, ◌++◌, length, map, filter, reverse, refl, ap, ap₂, ◌∙◌, arith}
 use Rattle.std.specs.List.{flat_map}
 use Rattle.std.proofs.lemmas.List.{reverse-append}
 
@@ -27,11 +26,7 @@ sum-joined f g h each (x ∷ xs) = sum-append f (g x) (flat_map g xs) ∙ ap₂ 
 -- a filter adds nothing
 pub sum-filter : {A : Type 0} (f : A → ℕ) (test : A → Bool) (xs : List A) → sum_of f (filter test xs) ≤ sum_of f xs
 sum-filter f test [] = omega arith
-sum-filter f test (x ∷ xs) = one (test x) (sum-filter f test xs)
-  where
-    one : (b : Bool) → sum_of f (filter test xs) ≤ sum_of f xs → sum_of f (if b then x ∷ filter test xs else filter test xs) ≤ f x + sum_of f xs
-    one true others = omega arith
-    one false others = omega arith
+sum-filter f test (x ∷ xs) = let others = sum-filter f test xs in grind arith
 
 -- the order doesn't matter
 pub sum-reverse : {A : Type 0} (f : A → ℕ) (xs : List A) → sum_of f (reverse xs) ≡ sum_of f xs

@@ -1,5 +1,5 @@
 -- The numbers of the selected tables: their places among the tables whose layouts are known.
-use Rattle.std.proofs.Common.{◌≡◌, ℕ, Bool, true, false, ◌||◌, ◌+◌, suc, arith, List, [], ◌∷◌, ◌++◌, map, slice_get, Option, Some, None, option_map, is_some, refl, sym, ap, ◌∙◌, inl, inr}
+use Rattle.std.proofs.Common.{rules, ◌≡◌, ℕ, false, ◌||◌, List, [], ◌∷◌, ◌++◌, map, slice_get, Option, Some, None, option_map, is_some, refl, sym, ap, ◌∙◌, inl, inr, arith}
 use Rattle.std.specs.Prelude.{IfSome, option_and_then}
 use Rattle.std.specs.List.{list_any, position_or_len, AllByRecursion}
 use Rattle.std.specs.Map.{keys_of}
@@ -18,7 +18,7 @@ use Rattle.blog_trans.specs.Acceptance.{is_same_table}
 use Rattle.blog_trans.specs.Changes.{table_of}
 use Rattle.blog_trans.specs.CheckerView.{is_same_name}
 use Rattle.blog_trans.specs.TablesView.{table_named, tables_known, HaveGrown, IsNumbered}
-use Rattle.blog_trans.proofs.Growing.{front-place}
+use Rattle.blog_trans.proofs.Growing.{front-place, get-behind}
 use Rattle.blog_trans.proofs.Tables.{same-table}
 
 -- ---- the number of a name
@@ -32,24 +32,17 @@ named_at layouts n e at =
     ∙ named e
   where
     named : (o : Option (TableName × Layout)) → option_map table_named (option_map (λ x. x.0) o) ≡ option_map (λ x. table_named x.0) o
-    named (Some x) = refl
-    named None = refl
-
--- what stands one place behind the first stands there without it
-behind : (t : Table) (ts : List Table) (n : ℕ) → slice_get (t ∷ ts) (1 + n) ≡ slice_get ts n
-behind t ts n = let next : 1 + n ≡ suc n = omega arith in ap (slice_get (t ∷ ts)) next
+    named o = search rules
 
 -- in a list of entries a name that is inserted stands where it was found, or else at the end
 placed : (es : List (TableName × Layout)) (name : TableName) (layout : Layout)
     → slice_get (map table_named (keys_of (insert_entry is_same_name es name layout))) (position_or_len (is_same_name name) (keys_of es)) ≡ Some (table_named name)
 placed [] name layout = refl
-placed (e ∷ es) name layout = by (is_same_name name e.0) refl (placed es name layout)
-  where
-    by : (b : Bool) → is_same_name name e.0 ≡ b
-        → slice_get (map table_named (keys_of (insert_entry is_same_name es name layout))) (position_or_len (is_same_name name) (keys_of es)) ≡ Some (table_named name)
-        → slice_get (map table_named (keys_of (insert_entry is_same_name (e ∷ es) name layout))) (position_or_len (is_same_name name) (keys_of (e ∷ es))) ≡ Some (table_named name)
-    by true same rest = rw same (ap Some (sym (same-table (table_named name) (table_named e.0) same)))
-    by false other rest = rw other (behind (table_named e.0) (map table_named (keys_of (insert_entry is_same_name es name layout))) (position_or_len (is_same_name name) (keys_of es)) ∙ rest)
+placed (e ∷ es) name layout =
+    let rest = placed es name layout in
+    let same = same-table (table_named name) (table_named e.0) in
+    let next = get-behind (table_named e.0) (map table_named (keys_of (insert_entry is_same_name es name layout))) in
+    grind arith
 
 -- a name stands where it was inserted
 pub inserted-number : {S : Type 0} (layouts after : IndexMap TableName Layout S) (name : TableName) (layout : Layout) → after.entries ≡ insert_entry is_same_name layouts.entries name layout

@@ -1,8 +1,8 @@
 -- Names of tables, and tables in the order in which each comes first.
-use Rattle.std.proofs.Common.{◌≡◌, Bool, true, false, if◌then◌else◌, ◌||◌, List, [], ◌∷◌, ◌++◌, refl, sym, ap, ◌∙◌, Decides}
+use Rattle.std.proofs.Common.{arith, rules, ◌≡◌, Bool, true, false, if◌then◌else◌, ◌||◌, List, [], ◌∷◌, ◌++◌, refl, sym, ap, ◌∙◌, Decides}
 use Rattle.std.specs.Cmp.{IsEquivalence}
 use Rattle.std.specs.List.{list_any}
-use Rattle.std.proofs.lemmas.Bool.{false≢true}
+use Rattle.std.proofs.Math.Bool.{or-false}
 use Rattle.std.proofs.lemmas.Bool.Decides.{Decides-and, Decides-like, same_from_decides}
 use Rattle.std.proofs.lemmas.Slice.Eq.{bytes_eq-Decides}
 use Rattle.blog_row.specs.TableMap.{Table}
@@ -31,11 +31,7 @@ table-laws = record {
 -- one more table is taken where it is none of those before
 pub first_tables-more : (seen ts : List Table) (t : Table)
     → first_tables seen (ts ++ t ∷ []) ≡ first_tables seen ts ++ (if list_any (is_same_table t) seen || list_any (is_same_table t) ts then [] else t ∷ [])
-first_tables-more seen [] t = at (list_any (is_same_table t) seen)
-  where
-    at : (b : Bool) → (if b then [] else t ∷ []) ≡ (if b || false then [] else t ∷ [])
-    at true = refl
-    at false = refl
+first_tables-more seen [] t = rw (or-false (list_any (is_same_table t) seen)) refl
 first_tables-more seen (u ∷ ts) t = by_case (list_any (is_same_table u) seen) refl (first_tables-more seen ts t) (first_tables-more (u ∷ seen) ts t)
   where
     any : List Table → Bool
@@ -45,14 +41,10 @@ first_tables-more seen (u ∷ ts) t = by_case (list_any (is_same_table u) seen) 
     if_none b = if b then [] else t ∷ []
 
     known : (x s a : Bool) → (x ≡ true → s ≡ true) → (s || a) ≡ (s || (x || a))
-    known x true a was = refl
-    known true false a was = absurd (false≢true (was refl))
-    known false false a was = refl
+    known x s a was = grind arith
 
     turned : (x s a : Bool) → ((x || s) || a) ≡ (s || (x || a))
-    turned true true a = refl
-    turned true false a = refl
-    turned false s a = refl
+    turned x s a = search rules
 
     by_case : (b : Bool) → list_any (is_same_table u) seen ≡ b → first_tables seen (ts ++ t ∷ []) ≡ first_tables seen ts ++ if_none (any seen || any ts)
         → first_tables (u ∷ seen) (ts ++ t ∷ []) ≡ first_tables (u ∷ seen) ts ++ if_none (any (u ∷ seen) || any ts)

@@ -208,5 +208,4 @@ pub below-the-end : {b : Bool} (n m : ℕ) → b ≡ true → (n ≡ m → ⊥) 
 below-the-end n m below ne = rw (below, ne_eqb n m ne) refl
 
 pub at-the-end : (b : Bool) (n m : ℕ) → n ≡ m → b && not (n == m) ≡ false
-at-the-end true n m is = ap not (eq-eqb n m is)
-at-the-end false n m is = refl
+at-the-end b n m is = let same = eq-eqb n m is in grind arith

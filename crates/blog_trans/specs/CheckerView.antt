@@ -72,12 +72,6 @@ LayoutsAgree sel earlier layouts =
     (p : Placed) (name : TableName) → is_selected sel p.event.body ≡ true → option_map (λ names. names.table) (names_of p.event.body) ≡ Some (table_named name)
     → list_any (clashes_by_layout p) earlier ≡ has_other_layout (get is_same_name layouts name) p.event.body
 
--- what is told of the map of a selected table: its columns, or why it is refused
-abbrev pub AreSelectedColumns : {S : Type 0} → Selection → List Placed → Placed → Result SelectedTable Fault → IndexMap TableName told.Layout S → Type 0
-AreSelectedColumns sel earlier p result layouts =
-    MatchResult result (λ table. (layout_of p.event.body ≡ Ok (layout_columns table.layout)) × (first_failing (selected_map_checks earlier p) ≡ None) × LayoutsAgree sel (p ∷ earlier) layouts)
-    (λ fault. IsRefusal (fault_at p.pos (first_failing (selected_map_checks earlier p))) fault)
-
 -- the checks of a map's columns
 abbrev pub column_checks : Selection → List Placed → Placed → List (Option Cause)
 column_checks sel earlier p = if is_selected sel p.event.body then selected_map_checks earlier p else []

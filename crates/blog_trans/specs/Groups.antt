@@ -1,7 +1,7 @@
 -- The groups of a log under a selection: transactions of statements of table maps and rows events. First as they stand
 -- in the log, each event with its place; then as values, without what the text of the groups doesn't copy.
 use Rattle.std.specs.Prelude.{ℕ, ◌&&◌, not, if◌then◌else◌, List, [], ◌∷◌, map, filter, find, Option, Some, None, Result, Ok, Err, option_and_then, option_map, bytes_eq}
-use Rattle.std.specs.List.{list_any, filter_map}
+use Rattle.std.specs.List.{cons_option, list_any, filter_map}
 use Rattle.blog_event.specs.Event.{Event, unplaced}
 use Rattle.blog_event.specs.File.{Placed, placed_from, read}
 use Rattle.blog_event.specs.Format.{front_while}
@@ -42,8 +42,7 @@ pub record Span : Type 0 where
   pub end : Placed
 
 abbrev pub cons_if : {A : Type 0} → Option A → List A → List A
-cons_if None xs = xs
-cons_if (Some x) xs = x ∷ xs
+cons_if o xs = cons_option o xs
 
 -- the transactions of events; a `BEGIN` without an end behind it begins none
 abbrev pub spans : List Placed → List Span

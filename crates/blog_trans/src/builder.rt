@@ -155,10 +155,7 @@ impl<'a, A: Allocator + Copy> IndexBuilder<'a, A> {
 pub(crate) fn is_below(at: u32, stop: Option<u32>) -> bool
     ensures { result ≡ is_below at stop }
 {
-    match stop {
-        Some(stop) => at < stop,
-        None => true,
-    }
+    stop.is_none_or(|stop| at < stop)
 }
 
 /// Whether the start lies strictly inside an event, and below the stop.
@@ -211,10 +208,8 @@ pub(crate) fn walk<'a, A: Allocator + Copy>(
         let Ok(event) = log.event_at(at) else {
             return Err(Fault::CutEvent { pos: at });
         };
-        match read(builder, sel, &event) {
-            Ok(()) => at += event.header.size,
-            Err(fault) => return Err(fault),
-        }
+        read(builder, sel, &event)?;
+        at += event.header.size;
     }
     Ok(at)
 }
@@ -233,10 +228,12 @@ fn end_fault(end: u32, sel: &Selection<'_>, place: Place, at: u32) -> Option<Fau
     None
 }
 
-/// Goes through a log once, and answers its groups under a selection. Nothing is copied from the log: the index has 16
-/// bytes for each event of the groups, and for each selected table where its names and columns lie, and its
-/// numbers of rows. The groups have events of the range, none of them twice. Fails with the first fault of the log, at its position; with `OutOfMemory` where a
-/// growth is refused, whatever later events would tell.
+/// Goes through a log once, and answers its groups under a selection. Nothing is copied from the log: the index has 8 bytes
+/// for each event of the groups, for each statement and for each transaction; and for each selected table where its names and
+/// columns lie, and its numbers of rows. The groups have events of the range, none of them twice.
+///
+/// Fails with the first fault of the log, at its position; with `OutOfMemory` where memory is refused, whatever later events
+/// would tell.
 pub fn index<'a, 's, A: Allocator + Copy>(
     alloc: A,
     log: &Log<'a>,
@@ -254,8 +251,8 @@ pub fn index<'a, 's, A: Allocator + Copy>(
     index_from(alloc, log, sel, log.first())
 }
 
-/// The same of a log that is read from a position behind its format description on: nothing is asked of the events in front
-/// of it. So each of many ranges of a log is gone through without those before it.
+/// The same of a log that is read from a byte position behind its format description on: nothing is asked of the events in
+/// front of it. So each of many ranges of a log is gone through without those before it. Its errors are those of `index`.
 pub fn index_from<'a, 's, A: Allocator + Copy>(
     alloc: A,
     log: &Log<'a>,
@@ -270,10 +267,7 @@ pub fn index_from<'a, 's, A: Allocator + Copy>(
     ensures refused { IfErr result (IsRefusal (fault (log_bytes log.now) (selection_of sel.now))) }
 {
     let mut builder = IndexBuilder::new(alloc);
-    let at = match walk(&mut builder, log, sel, from) {
-        Ok(at) => at,
-        Err(fault) => return Err(fault),
-    };
+    let at = walk(&mut builder, log, sel, from)?;
     if let Some(fault) = end_fault(log.end(), sel, builder.checker.place, at) {
         return Err(fault);
     }

@@ -203,9 +203,7 @@ impl<'a, A: Allocator + Copy> Checker<'a, A> {
                 table,
                 used: false,
             };
-            let Ok(_) = self.maps.insert(map.id(), seen) else {
-                return Err(Fault::OutOfMemory);
-            };
+            self.maps.insert(map.id(), seen)?;
         }
         Ok(())
     }

@@ -42,27 +42,17 @@ impl Count {
         kept: false,
     };
 
-    /// These, and the rows of one more rows event, which has so many images.
-    fn with(self, action: RowsAction, images: usize) -> Count
-        requires inserts { self.inserts + images < 2 ^ 64 }
-        requires updates { self.updates + images < 2 ^ 64 }
-        requires deletes { self.deletes + images < 2 ^ 64 }
-        ensures { result ≡ with_images action images self }
+    /// Adds the rows of one more rows event, which has so many images.
+    fn add(&mut self, action: RowsAction, images: u64)
+        requires inserts { self.old.inserts + images < 2 ^ 64 }
+        requires updates { self.old.updates + images < 2 ^ 64 }
+        requires deletes { self.old.deletes + images < 2 ^ 64 }
+        ensures { self.new ≡ with_images action images self.old }
     {
-        let images = images as u64;
         match action {
-            RowsAction::Write => Count {
-                inserts: self.inserts + images,
-                ..self
-            },
-            RowsAction::Update => Count {
-                updates: self.updates + images / 2,
-                ..self
-            },
-            RowsAction::Delete => Count {
-                deletes: self.deletes + images,
-                ..self
-            },
+            RowsAction::Write => self.inserts += images,
+            RowsAction::Update => self.updates += images / 2,
+            RowsAction::Delete => self.deletes += images,
         }
     }
 }
@@ -100,9 +90,7 @@ impl<A: Allocator + Copy> Counts<A> {
     {
         let len = table as usize + 1;
         if self.rows.len() < len {
-            let Ok(_) = self.rows.resize(len, Count::NONE) else {
-                return Err(Fault::OutOfMemory);
-            };
+            self.rows.resize(len, Count::NONE)?;
         }
         Ok(())
     }
@@ -117,9 +105,9 @@ impl<A: Allocator + Copy> Counts<A> {
         ensures refused { IfErr result (λ fault. fault ≡ OutOfMemory) }
     {
         self.reach(kept.table)?;
-        self.images += kept.images as u64;
-        let before = self.rows[kept.table as usize];
-        self.rows[kept.table as usize] = before.with(kept.action, kept.images);
+        let images = kept.images as u64;
+        self.images += images;
+        self.rows[kept.table as usize].add(kept.action, images);
         Ok(())
     }
 
@@ -132,9 +120,7 @@ impl<A: Allocator + Copy> Counts<A> {
     {
         self.reach(table)?;
         if !self.rows[table as usize].kept {
-            let Ok(_) = self.tables.push(table) else {
-                return Err(Fault::OutOfMemory);
-            };
+            self.tables.push(table)?;
             self.rows[table as usize].kept = true;
         }
         Ok(())

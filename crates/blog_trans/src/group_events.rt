@@ -142,6 +142,7 @@ impl<'i, 'a, 's, A: Allocator> GroupEvents<'i, 'a, 's, A> {
     ghost use Rattle.blog_trans.specs.GroupEventsView.{GivesEvent, events_left};
 
     /// Begins the next transaction, if any is left.
+    #[inline(always)]
     fn begin(&mut self) -> Option<GroupEvent<'a>>
         requires { self.old.is_open ≡ false }
         ensures { GivesEvent self.old result self.new }
@@ -159,6 +160,7 @@ impl<'i, 'a, 's, A: Allocator> GroupEvents<'i, 'a, 's, A> {
     }
 
     /// Opens the next statement.
+    #[inline(always)]
     fn open_statement(&mut self)
         requires open { self.old.is_open ≡ true }
         requires some { self.old.statements.start < self.old.statements.end }
@@ -176,6 +178,7 @@ impl<'i, 'a, 's, A: Allocator> GroupEvents<'i, 'a, 's, A> {
     }
 
     /// The next map of the open statement.
+    #[inline(always)]
     fn map(&mut self) -> GroupEvent<'a>
         requires open { self.old.is_open ≡ true }
         requires some { self.old.maps.start < self.old.maps.end }
@@ -187,6 +190,7 @@ impl<'i, 'a, 's, A: Allocator> GroupEvents<'i, 'a, 's, A> {
     }
 
     /// The next rows event of the open statement.
+    #[inline(always)]
     fn rows(&mut self) -> GroupEvent<'a>
         requires open { self.old.is_open ≡ true }
         requires no_maps { self.old.maps.end ≤ self.old.maps.start }
@@ -206,6 +210,7 @@ impl<'i, 'a, 's, A: Allocator> GroupEvents<'i, 'a, 's, A> {
     }
 
     /// Ends the open transaction.
+    #[inline(always)]
     fn end(&mut self) -> GroupEvent<'a>
         requires open { self.old.is_open ≡ true }
         requires no_maps { self.old.maps.end ≤ self.old.maps.start }
@@ -228,6 +233,7 @@ impl<'i, 'a, 's, A: Allocator> Iterator for GroupEvents<'i, 'a, 's, A> {
 
     ghost remaining = { λ events. at_most (length (events_left events)) };
 
+    #[inline(always)]
     fn next(&mut self) -> Option<GroupEvent<'a>> {
         if !self.is_open {
             return self.begin();

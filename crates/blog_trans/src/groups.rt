@@ -15,16 +15,16 @@ ghost use Rattle.blog_trans.specs.TablesView.{tables_known};
 ghost use Rattle.blog_trans.specs.Entries.{entries_of, statement_starts, statements_in, transaction_starts};
 
 use crate::counts::Counts;
-use crate::kind::{EventKind, event_kind};
 use crate::layouts::Layouts;
 use crate::lists::{Entry, IndexLists, StatementStart, TransactionStart};
 use crate::selection::Selection;
 use blog_event::{Event, Log};
-use blog_row::{Layout, RowsEvent, TableMap};
+use blog_row::{Layout, RowsEvent, RowsKind, TableMap};
 use std::alloc::{Allocator, Global};
 
 /// The groups of a log under a selection: what is kept of it. Transactions are numbered from 0, and so are the
-/// statements of a transaction, the maps and the rows events of a statement. Nothing is copied from the log.
+/// statements of a transaction, the maps and the rows events of a statement. A call that takes such numbers asks for
+/// those of what is there. Nothing is copied from the log.
 #[derive(Drop)]
 pub struct Index<'a, 's, A: Allocator = Global> {
     log: Log<'a>,
@@ -123,6 +123,7 @@ impl<'a, 's, A: Allocator> Index<'a, 's, A> {
 
     /// The entry at which transaction `t` begins, and how many statements stand before it. Behind the last transaction
     /// these are all entries and all statements.
+    #[inline(always)]
     fn transaction(&self, t: usize) -> (usize, usize)
         requires { t ≤ length (index_groups self.now) }
         ensures entry { result.0 ≡ transaction_place (index_groups self.now) t }
@@ -192,6 +193,7 @@ impl<'a, 's, A: Allocator> Index<'a, 's, A> {
     }
 
     /// Where statement `s` of transaction `t` begins.
+    #[inline(always)]
     fn statement(&self, t: usize, s: usize) -> StatementStart
         requires { IsSome (statement_at (index_groups self.now) t s) }
         ensures entry { result.entry ≡ statement_place (index_groups self.now) t s }
@@ -222,6 +224,7 @@ impl<'a, 's, A: Allocator> Index<'a, 's, A> {
     }
 
     /// The table map that begins at a position. It isn't read again where it is the one that was `read` before.
+    #[inline(always)]
     fn map_at(&self, at: u32, read: Option<MapRead<'a>>) -> MapRead<'a>
         requires some { IsSome (event_at (drop at (index_bytes self.now))) }
         requires named { IfSome (event_at (drop at (index_bytes self.now))) (λ e. IsSome (names_of e.body)) }
@@ -273,6 +276,7 @@ impl<'a, 's, A: Allocator> Index<'a, 's, A> {
 
     /// The rows event of an entry, the map that it goes by, and the rows. The map isn't read again where it is the one that
     /// was `read` before.
+    #[inline(always)]
     pub(crate) fn group_rows(
         &self,
         n: usize,
@@ -289,7 +293,7 @@ impl<'a, 's, A: Allocator> Index<'a, 's, A> {
         let entry = self.entries[n];
         let event = self.event_at(entry.at);
         let map = self.map_at(entry.map, read);
-        let EventKind::Rows(kind) = event_kind(&event) else {
+        let Some(kind) = RowsKind::of_type(event.header.kind) else {
             unreachable!();
         };
         (event, map, RowsEvent::known(kind, event.body, &map.layout))

@@ -61,6 +61,7 @@ const LOG_EVENT_IGNORABLE_F: u16 = 0x80;
 
 /// The text of a query, if the body has its layout: 13 fixed bytes, status bytes, schema, a zero byte, the text
 /// (MySQL Internals manual, "Query_event").
+#[tactic(auto, unfolding(crate::specs::Kinds::query_text))]
 pub fn query_text(body: &[u8]) -> Option<&[u8]>
     ensures { option_map (λ text. text.now) result ≡ query_text body.now }
 {
@@ -91,6 +92,7 @@ fn is_rollback(text: &[u8]) -> bool
 }
 
 /// What a query of this text is.
+#[tactic(auto, unfolding(crate::specs::Kinds::query_kind))]
 fn query_kind(text: &[u8]) -> EventKind
     ensures { result ≡ query_kind text.now }
 {
@@ -130,6 +132,7 @@ fn other_kind(number: u8, flags: u16) -> EventKind
 }
 
 /// What an event is.
+#[tactic(auto, unfolding(crate::specs::Kinds::kind_of))]
 pub fn event_kind(event: &Event<'_>) -> EventKind
     ensures { result ≡ kind_of (event_of event.now) }
 {

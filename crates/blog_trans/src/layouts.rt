@@ -1,15 +1,15 @@
 //! The columns of the selected tables of the range.
 
-ghost use Rattle.std.specs.Prelude.{◌≡◌, ◌&&◌, ◌+◌, ◌<◌, ◌≤◌, ◌^◌, true, List, Some, None, IfOk, IfSome, OnOk, option_map, slice_get};
+ghost use Rattle.std.specs.Prelude.{◌≡◌, ◌&&◌, ◌+◌, ◌<◌, ◌≤◌, ◌^◌, List, Some, None, IfOk, IfSome, OnOk, option_map, slice_get};
 ghost use Rattle.indexmap.specs.IndexMap.{index_map_len};
 ghost use Rattle.blog_event.specs.Event.{Event as Fields};
 ghost use Rattle.blog_event.specs.File.{Placed};
 ghost use Rattle.blog_row.specs.TableMap.{names_of, map_names};
-ghost use Rattle.blog_trans.specs.Acceptance.{cause_of_row, is_selected};
-ghost use Rattle.blog_trans.specs.CheckerView.{LayoutsAgree, AreSelectedColumns, AreColumns};
+ghost use Rattle.blog_trans.specs.Acceptance.{cause_of_row};
+ghost use Rattle.blog_trans.specs.CheckerView.{LayoutsAgree, AreColumns};
 ghost use Rattle.blog_trans.specs.Kinds.{kind_of};
 ghost use Rattle.blog_trans.specs.declared.kind.EventKind.TheVariants as kind;
-ghost use Rattle.blog_trans.specs.Selection.{Selection as Sel, selection_of, is_wanted};
+ghost use Rattle.blog_trans.specs.Selection.{selection_of, is_wanted};
 ghost use Rattle.blog_trans.specs.TablesView.{table_named, tables_known, HaveGrown};
 
 use crate::selection::Selection;
@@ -53,10 +53,7 @@ pub(crate) fn body_fault(fault: RowFault, pos: u32) -> Fault
 fn is_wanted(wanted: Option<&[u8]>, name: &[u8]) -> bool
     ensures { result ≡ is_wanted (option_map (λ w. w.now) wanted.entry) name.now }
 {
-    match wanted {
-        Some(wanted) => name == wanted,
-        None => true,
-    }
+    wanted.is_none_or(|wanted| name == wanted)
 }
 
 /// Whether a table is selected.
@@ -66,37 +63,7 @@ fn is_selected(sel: &Selection<'_>, name: &TableName<'_>) -> bool
     is_wanted(sel.database, name.schema) && is_wanted(sel.table, name.table)
 }
 
-/// Takes a selected table's map: its columns are those of the table's earlier maps in the range.
-fn take_selected<'a, A: Allocator>(
-    layouts: &mut Layouts<'a, A>,
-    name: TableName<'a>,
-    map: &TableMap<'a>,
-    pos: u32,
-) -> Result<SelectedTable<'a>, Fault>
-    requires name { table_named name ≡ (map_names map.now).table }
-    requires few { index_map_len layouts.old < 2 ^ 32 }
-    ensures columns { (sel : Sel) (e : Fields) (earlier : List Placed) → kind_of e ≡ kind.TableMap → names_of e.body ≡ Some (map_names map.now) → is_selected sel e.body ≡ true → LayoutsAgree sel earlier layouts.old → AreSelectedColumns sel earlier (record { pos = pos; event = e }) result layouts.new }
-    ensures number { IfOk result (λ table. slice_get (tables_known layouts.new) table.number ≡ Some (table_named name.entry)) }
-    ensures grown { OnOk result (HaveGrown (tables_known layouts.old) (tables_known layouts.new)) }
-    ensures few { OnOk result (index_map_len layouts.new ≤ index_map_len layouts.old + 1) }
-{
-    let layout = match map.layout() {
-        Ok(layout) => layout,
-        Err(fault) => return Err(body_fault(fault, pos)),
-    };
-    let Ok((number, known)) = layouts.insert_full(name, layout) else {
-        return Err(Fault::OutOfMemory);
-    };
-    match known {
-        Some(known) if !known.same(&layout) => Err(Fault::MapClash { pos }),
-        _ => Ok(SelectedTable {
-            number: number as u32,
-            layout,
-        }),
-    }
-}
-
-/// Takes a table map's table, where it is selected.
+/// Takes a table map's table, where it is selected: its columns are those of the table's earlier maps in the range.
 pub(crate) fn take_table<'a, A: Allocator>(
     layouts: &mut Layouts<'a, A>,
     sel: &Selection<'_>,
@@ -114,6 +81,16 @@ pub(crate) fn take_table<'a, A: Allocator>(
     if !is_selected(sel, &name) {
         return Ok(None);
     }
-    let table = take_selected(layouts, name, map, pos)?;
-    Ok(Some(table))
+    let layout = match map.layout() {
+        Ok(layout) => layout,
+        Err(fault) => return Err(body_fault(fault, pos)),
+    };
+    let (number, known) = layouts.insert_full(name, layout)?;
+    match known {
+        Some(known) if !known.same(&layout) => Err(Fault::MapClash { pos }),
+        _ => Ok(Some(SelectedTable {
+            number: number as u32,
+            layout,
+        })),
+    }
 }

@@ -99,7 +99,7 @@ impl<A: Allocator> IndexLists<A> {
     {
         self.transaction_start = self.entries.len() as u32;
         self.first_statement = self.statements.len() as u32;
-        push(&mut self.entries, Entry { at, map: 0 })?;
+        self.entries.push(Entry { at, map: 0 })?;
         self.statement_start = self.entries.len() as u32;
         Ok(())
     }
@@ -114,7 +114,8 @@ impl<A: Allocator> IndexLists<A> {
         ensures capacity { vec_capacity self.old.entries ≤ vec_capacity self.new.entries }
         ensures statements { self.new.statements ≡ self.old.statements }
     {
-        push(&mut self.entries, Entry { at, map })
+        self.entries.push(Entry { at, map })?;
+        Ok(())
     }
 
     /// The open statement ends: the maps that its rows events use come in front of these.
@@ -133,7 +134,7 @@ impl<A: Allocator> IndexLists<A> {
         }
         let maps = put_maps(&mut self.entries, maps, start)?;
         let entry = self.statement_start;
-        push(&mut self.statements, StatementStart { entry, maps })?;
+        self.statements.push(StatementStart { entry, maps })?;
         self.statement_start = self.entries.len() as u32;
         Ok(())
     }
@@ -154,30 +155,12 @@ impl<A: Allocator> IndexLists<A> {
             self.entries.truncate(entry as usize);
             return Ok(());
         }
-        push(&mut self.entries, Entry { at, map: 0 })?;
-        push(
-            &mut self.transactions,
-            TransactionStart { entry, statement },
-        )?;
+        self.entries.push(Entry { at, map: 0 })?;
+        self.transactions
+            .push(TransactionStart { entry, statement })?;
         self.transaction_start = self.entries.len() as u32;
         Ok(())
     }
-}
-
-/// Adds an element to a list. That is refused only where there is no room for it.
-fn push<T: Copy, A: Allocator>(list: &mut Vec<T, A>, item: T) -> Result<(), Fault>
-    ensures items { OnOk result (list.new.items ≡ list.old.items ++ item ∷ []) }
-    ensures refused { IfErr result (λ fault. fault ≡ OutOfMemory) }
-    ensures least { vec_len list.old ≤ vec_len list.new }
-    ensures few { vec_len list.new ≤ vec_len list.old + 1 }
-    ensures same { OnErr result (vec_len list.new ≡ vec_len list.old) }
-    ensures room { vec_len list.old < vec_capacity list.old → IsOk result }
-    ensures capacity { vec_capacity list.old ≤ vec_capacity list.new }
-{
-    let Ok(_) = list.push(item) else {
-        return Err(Fault::OutOfMemory);
-    };
-    Ok(())
 }
 
 /// Adds an entry for each map that is used.
@@ -191,7 +174,7 @@ fn push_maps<'a, A: Allocator>(entries: &mut Vec<Entry, A>, maps: &Maps<'a, A>) 
 {
     for map in maps.values() {
         if map.used {
-            push(entries, Entry { at: map.at, map: 0 })?;
+            entries.push(Entry { at: map.at, map: 0 })?;
         }
     }
     Ok(())

@@ -5,11 +5,11 @@
 pub struct Selection<'s> {
     /// The byte position of the first event of the range; one below 4 counts as 4.
     pub start: u32,
-    /// Events that start at this byte position or after it aren't read.
+    /// Events that start at this byte position or behind it aren't read; None where all are.
     pub stop: Option<u32>,
-    /// The name of the tables' schema, compared byte by byte.
+    /// The name of the tables' schema, compared byte by byte; None for any.
     pub database: Option<&'s [u8]>,
-    /// The name of the tables, compared byte by byte.
+    /// The name of the tables, compared byte by byte; None for any.
     pub table: Option<&'s [u8]>,
 }
 

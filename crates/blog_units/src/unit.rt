@@ -15,7 +15,7 @@ use blog_trans::{Index, Selection, event_kind, index_from};
 use byteorder::{ByteOrder, LittleEndian};
 use std::alloc::{Allocator, Global};
 
-/// A global transaction id.
+/// A global transaction id (MySQL Internals manual, "Gtid_event").
 #[derive(Clone, Copy, Debug, PartialEq, Eq)]
 pub struct GlobalId<'a> {
     /// The 16 bytes of the id of the server that began the transaction.
@@ -39,7 +39,8 @@ pub struct Unit<'a, A: Allocator = Global> {
     /// Whether it is whole: no transaction without an end, and no Gtid event without a transaction or a statement. The log goes
     /// on behind such a unit with another one, or ends there.
     pub whole: bool,
-    /// What it changes: the groups of the range from its start to its stop; or why that range is refused.
+    /// What it changes: the groups of the range from its start to its stop; or the fault of that range, or `OutOfMemory` where
+    /// memory for them was refused.
     pub groups: Result<Index<'a, 'static, A>, Fault>,
 }
 

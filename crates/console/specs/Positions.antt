@@ -1,4 +1,4 @@
--- Byte positions among the words.
+-- Byte positions among the values of options.
 use Rattle.std.specs.Prelude.{◌≡◌, ℕ, ◌<◌, ◌^◌, List, Option, Some, None}
 use Rattle.std.specs.Str.Parse.{IsNumeral, digits_value}
 

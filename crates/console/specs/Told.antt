@@ -1,4 +1,4 @@
--- What the parser of words answers in place of matches.
+-- What the parser of arguments answers in place of matches.
 use Rattle.std.specs.Prelude.{◌≡◌, ◌⊎◌}
 use Rattle.clap.specs.declared.error.kind.ErrorKind.{ErrorKind}
 use Rattle.clap.specs.declared.error.kind.ErrorKind.TheVariants.{DisplayHelp, DisplayVersion}

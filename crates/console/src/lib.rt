@@ -1,5 +1,5 @@
-//! What the programs have in common at their edge: the lines on standard error, the words that have no value and those that
-//! have one, byte positions among them, and what the parser of words answers in place of matches.
+//! What the programs have in common at their edge: the lines on standard error, the options that have no value and those
+//! that have one, byte positions among their values, and what the parser of arguments answers in place of matches.
 #![tactic(auto)]
 
 mod lines;

@@ -1,4 +1,4 @@
-//! Byte positions among the words, and what is told of a wrong value.
+//! Byte positions among the values of options, and what is told of a wrong value.
 
 ghost use Rattle.std.specs.Prelude.{SomeIff};
 ghost use Rattle.std.specs.Str.Parse.{digits_value};
@@ -8,10 +8,10 @@ use clap::Command;
 use clap::error::ErrorKind;
 use std::alloc::{AllocError, Allocator};
 
-/// What a wrong position isn't.
+/// What a position is, as it is told of a value that is none.
 pub const POSITION: &str = "a position: decimal digits, 0 to 4294967295";
 
-/// The byte position that a word means, which is decimal digits and nothing else.
+/// The byte position that a value means: decimal digits and nothing else, below 2^32. None of any other value.
 pub fn position_of(word: &str) -> Option<u32>
     ensures { SomeIff result (IsPosition word.now) (digits_value 10 word.now) }
 {
@@ -22,7 +22,7 @@ pub fn position_of(word: &str) -> Option<u32>
     }
 }
 
-/// What the parser of words tells of an option's wrong value, such as `--name <POS>`, which isn't what it has to be.
+/// What the parser of arguments tells of a wrong value of an option, such as `name <POS>`; `has_to_be` says what a value is.
 pub fn wrong_value<A: Allocator + Copy>(
     alloc: A,
     command: &mut Command<'_>,

@@ -1,4 +1,4 @@
-//! Words, and what their parser answers.
+//! Options, and what the parser of arguments answers.
 
 ghost use Rattle.std.specs.Prelude.{◌≡◌, IsErr, IfOk};
 ghost use Rattle.clap.specs.Words.{kind_of};
@@ -8,12 +8,12 @@ use clap::error::ErrorKind;
 use clap::{Arg, ArgAction, Error};
 use std::alloc::{AllocError, Allocator, Global};
 
-/// A word `--name` that takes no value.
+/// An option `--name` that takes no value.
 pub fn flag<'w>(alloc: Global, name: &'w str) -> Arg<'w> {
     Arg::new(alloc, name).long(name).action(ArgAction::SetTrue)
 }
 
-/// A word `--name` that takes a value, whatever that begins with, as `mysqlbinlog` does.
+/// An option `--name` that takes a value, whatever that begins with, as `mysqlbinlog` does.
 pub fn option<'w>(alloc: Global, name: &'w str, value: &'w str) -> Arg<'w> {
     Arg::new(alloc, name)
         .long(name)
@@ -26,7 +26,7 @@ pub fn option<'w>(alloc: Global, name: &'w str, value: &'w str) -> Arg<'w> {
 pub enum Told<A: Allocator> {
     /// The help or the version, which was asked for.
     Asked(String<A>),
-    /// What is wrong with the words.
+    /// What is wrong with the arguments.
     Wrong(String<A>),
 }
 

@@ -29,7 +29,7 @@ RefusesPosition value OutOfMemory = ⊤
 
 -- ---- modes
 
--- a flag is among the words
+-- a flag is among the arguments
 abbrev pub is_given : Found → List ℕ → Bool
 is_given found flag = option_map_or (λ text. bytes_eq text (codes "true")) (one_text found flag) false
 
@@ -69,7 +69,7 @@ RefusesRun found OutOfMemory = ⊤
 
 -- ---- the parser's answer
 
--- what is asked for by it: the run by what it found, a text where that is its answer, and else the words are wrong or
+-- what is asked for by it: the run by what it found, a text where that is its answer, and else the arguments are wrong or
 -- memory was refused
 abbrev pub IsRead : {A : Type 0} → Result ArgMatches Error → Result (Asked A) (WordsFault A) → Type 0
 IsRead (Ok matches) (Ok (Run task)) = IsAsked (found_of matches) task

@@ -4,7 +4,7 @@ use Rattle.flashback.specs.declared.commands.Failure.{Failure}
 use Rattle.flashback.specs.declared.commands.Failure.TheVariants.{Words, NoLog, NoResultFile, Run}
 use Rattle.flashback.specs.declared.words.WordsFault.TheVariants.{Wrong, Mode, NotText, OutOfMemory}
 
--- 2 where the words are wrong, else 1
+-- 2 where the arguments are wrong, else 1
 abbrev pub status_of : {A : Type 0} → Failure A → ℕ
 status_of (Words (Wrong text)) = 2
 status_of (Words (Mode fault)) = 2

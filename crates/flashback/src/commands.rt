@@ -1,4 +1,4 @@
-//! One run of the program, from its words to its exit status.
+//! One run of the program, from its arguments to its exit status.
 
 ghost use Rattle.std.specs.Prelude.{◌≡◌, ◌≤◌, ◌||◌, IfErr, IsErr, IsOk, IsSome, OnErr, false, true};
 ghost use Rattle.std.specs.Process.{exit_status};
@@ -18,10 +18,10 @@ use std::io::{Read, Write};
 use std::process::ExitCode;
 use std::rt::Files;
 
-/// Why the program didn't do what its words ask for.
+/// Why the program didn't do what its arguments ask for.
 #[derive(Drop)]
 pub enum Failure<A: Allocator> {
-    /// The words ask for nothing.
+    /// The arguments ask for nothing.
     Words(WordsFault<A>),
     /// The log can't be opened.
     NoLog,
@@ -32,7 +32,7 @@ pub enum Failure<A: Allocator> {
 }
 
 impl<A: Allocator> Failure<A> {
-    /// The exit status: 2 where the words are wrong, else 1.
+    /// The exit status: 2 where the arguments are wrong, else 1.
     pub fn status(&self) -> u8
         ensures { result ≡ status_of self.now }
     {
@@ -52,7 +52,7 @@ impl<A: Allocator> From<WordsFault<A>> for Failure<A> {
     }
 }
 
-/// The system's answer where it gives no words.
+/// The system's answer where it gives no arguments.
 impl<A: Allocator> From<io::Error> for Failure<A> {
     fn from(error: io::Error) -> Failure<A> {
         Failure::Words(if error.kind() == io::ErrorKind::OutOfMemory {
@@ -71,11 +71,11 @@ impl<A: Allocator> From<RunFault> for Failure<A> {
     }
 }
 
-/// Does what the words ask for, and answers the exit status: 0 where it is done, 1 where the log is
-/// refused or something failed, 2 where the words are wrong. `words` is the system's answer, whose
-/// first word is the program's name. Where the status isn't 0 the reason is printed to `errors`.
+/// Does what the arguments ask for, and answers the exit status: 0 where it is done, 1 where the log is
+/// refused or something failed, 2 where the arguments are wrong. `words` is the system's answer, which
+/// begins with the program's name. Where the status isn't 0 the reason is printed to `errors`.
 ///
-/// Memory is taken from `alloc`; the parser of the words takes it from the system.
+/// Memory is taken from `alloc`; the parser of the arguments takes it from the system.
 pub fn command<R: Files + AllocGlobal, A: Allocator + Copy, O: Write, E: Write>(
     rt: &R,
     alloc: A,
@@ -85,8 +85,8 @@ pub fn command<R: Files + AllocGlobal, A: Allocator + Copy, O: Write, E: Write>(
 ) -> ExitCode
     ensures status { exit_status result ≤ 2 }
 
-    // Nothing is printed where all is done, and nothing is written where the words are wrong or
-    // aren't there.
+    // Nothing is printed where all is done, and nothing is written where the arguments are wrong
+    // or aren't there.
     ensures quiet { exit_status result ≡ 0 → errors.new ≡ errors.old }
     ensures unwritten { exit_status result ≡ 2 → output.new ≡ output.old }
     ensures unread { IsErr words → (1 ≤ exit_status result) × (output.new ≡ output.old) }

@@ -1,4 +1,4 @@
-//! Every word that the program knows, and the help.
+//! Every option that the program knows, and the help.
 
 use clap::{Arg, Command};
 use console::{VERSION, flag, option};
@@ -22,13 +22,13 @@ pub const DATABASE: &str = "database";
 pub const TABLE: &str = "table";
 /// The name of `-r`.
 pub const RESULT_FILE: &str = "result-file";
-/// The name of the word without an option.
+/// The name of the argument without an option.
 pub const LOG: &str = "LOG";
 
 const ABOUT: &str = "\
 Undoes the changes of a MySQL binary log: writes another binary log,
 which takes the changes of LOG back, the last one first.
-LOG has rows with full images and no checksums. A log that can't be undone whole is refused,
+LOG has rows with full images and no checksums. A range that can't be undone is refused,
 and then nothing is written.";
 
 const USAGE: &str = "\
@@ -45,7 +45,7 @@ Examples:
   flashback --forward binlog.000042 > same.binlog
       write the changes as they were made, and no other events
   flashback -B --sql binlog.000042
-      show what would be undone, as pseudo-SQL; --sql goes with --forward too
+      show the changes that would undo it, as pseudo-SQL; --sql goes with --forward too
   flashback --summary binlog.000042
       count rows by table
   flashback -B -j 4021 binlog.000042 > undo.binlog
@@ -59,7 +59,7 @@ Examples:
 
 Exit status: 0 done, 1 the log is refused or something failed, 2 the arguments are wrong.";
 
-/// Every word that the program knows.
+/// Every option that the program knows, and its argument LOG.
 pub fn all_words<'w>(alloc: Global) -> Result<Command<'w>, AllocError> {
     let command = Command::new(alloc, "flashback")
         .version(VERSION)
@@ -77,7 +77,7 @@ pub fn all_words<'w>(alloc: Global) -> Result<Command<'w>, AllocError> {
         .arg(log.required(true))
 }
 
-/// Adds the words that choose a mode and its form.
+/// Adds the options that choose a mode and its form.
 fn mode_words<'w>(alloc: Global, command: Command<'w>) -> Result<Command<'w>, AllocError> {
     let undo = flag(alloc, FLASHBACK).help("Write the log that undoes the changes of LOG");
     let forward = flag(alloc, FORWARD).help("Write a log of the changes as LOG makes them");
@@ -90,7 +90,7 @@ fn mode_words<'w>(alloc: Global, command: Command<'w>) -> Result<Command<'w>, Al
         .arg(sql)
 }
 
-/// Adds the words that select changes.
+/// Adds the options that select changes.
 fn selecting_words<'w>(alloc: Global, command: Command<'w>) -> Result<Command<'w>, AllocError> {
     let start = option(alloc, START, "POS").help(
         "Begin at POS, an event's start or the end of LOG [default: 4]",

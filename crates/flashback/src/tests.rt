@@ -40,6 +40,11 @@ impl Outcome {
         self.errors.device().as_slice()
     }
 
+    /// Whether nothing but the words was wrong: some text was printed, and nothing was written.
+    fn is_wrong(&self) -> bool {
+        self.status == ExitCode::from(2) && self.output().is_empty() && !self.errors().is_empty()
+    }
+
     /// Whether the run did what was asked for, wrote this, and printed nothing.
     fn is_done(&self, output: &[u8]) -> bool {
         self.status == ExitCode::SUCCESS && self.output() == output && self.errors().is_empty()
@@ -53,13 +58,18 @@ impl Outcome {
     }
 }
 
-/// The words of a run, of which the first is the program's name.
-fn words_of(rt: &HostRuntime, words: &[&str]) -> Result<Vec<String>, AllocError> {
-    let mut all = Vec::new(rt.alloc());
-    all.push(String::from_str(rt.alloc(), "flashback")?)?;
+fn push_words(all: &mut Vec<String>, words: &[&str]) -> Result<(), AllocError> {
     for word in words {
-        all.push(String::from_str(rt.alloc(), word)?)?;
+        all.push(String::from_str(*all.allocator(), word)?)?;
     }
+    Ok(())
+}
+
+/// The words of a run, of which the first is the program's name.
+pub fn words_of(rt: &HostRuntime, words: &[&str]) -> Result<Vec<String>, AllocError> {
+    let mut all = Vec::new(rt.alloc());
+    push_words(&mut all, &["flashback"])?;
+    push_words(&mut all, words)?;
     Ok(all)
 }
 
@@ -85,6 +95,29 @@ fn path_of(rt: &HostRuntime, name: &str) -> io::Result<PathBuf> {
     Ok(env::temp_dir(rt)?.join(rt.alloc(), file.as_str())?)
 }
 
+/// Fails where something doesn't hold of a run with these words.
+pub fn check(holds: bool, what: &str, words: &[&str]) -> Result<(), Fail> {
+    if holds {
+        Ok(())
+    } else {
+        Err(Fail::new(format_args!("{what}: {words:?}")))
+    }
+}
+
+/// The run with these words did what was asked for, and wrote this.
+fn check_done(rt: &HostRuntime, words: &[&str], output: &[u8]) -> Result<(), Fail> {
+    let done = run_words(rt, words)?.is_done(output);
+    check(done, "not done", words)?;
+    Ok(())
+}
+
+/// The run with these words ended with this status and this line.
+fn check_refusal(rt: &HostRuntime, words: &[&str], status: u8, line: &str) -> Result<(), Fail> {
+    let refused = run_words(rt, words)?.is_refusal(status, line);
+    check(refused, "not refused", words)?;
+    Ok(())
+}
+
 /// Runs the program with these words over a file of these bytes.
 fn run_log(rt: &HostRuntime, name: &str, log: &[u8], words: &[&str]) -> Result<Outcome, Fail> {
     run_all(rt, name, log, words_of(rt, words)?)
@@ -99,58 +132,72 @@ fn run_log_to(
     file: &str,
 ) -> Result<Outcome, Fail> {
     let mut all = words_of(rt, words)?;
-    all.push(String::from_str(rt.alloc(), "-r")?)?;
-    all.push(String::from_str(rt.alloc(), file)?)?;
+    push_words(&mut all, &["-r", file])?;
     run_all(rt, name, log, all)
 }
 
 /// Runs the program with all of these words over a file of these bytes.
-fn run_all(
+fn run_all(rt: &HostRuntime, name: &str, log: &[u8], words: Vec<String>) -> Result<Outcome, Fail> {
+    let path = path_of(rt, name)?;
+    run_path(rt, path.as_str(), log, words)
+}
+
+/// The same over a file of this path, which is made for it.
+fn run_path(
     rt: &HostRuntime,
-    name: &str,
+    path: &str,
     log: &[u8],
     mut words: Vec<String>,
 ) -> Result<Outcome, Fail> {
-    let path = path_of(rt, name)?;
-    fs::write(rt, path.as_path(), log)?;
-    words.push(String::from_str(rt.alloc(), path.as_str())?)?;
+    push_words(&mut words, &[path])?;
+    fs::write(rt, path, log)?;
     let outcome = run_given(rt, Ok(words));
-    fs::remove_file(rt, path.as_path())?;
+    fs::remove_file(rt, path)?;
     Ok(outcome)
+}
+
+/// The run with these words over a file of these bytes ended with the status 1 and this line.
+fn check_log_refused(
+    rt: &HostRuntime,
+    name: &str,
+    log: &[u8],
+    words: &[&str],
+    line: &str,
+) -> Result<(), Fail> {
+    let refused = run_log(rt, name, log, words)?.is_refusal(1, line);
+    check(refused, "not refused", words)?;
+    Ok(())
 }
 
 #[test]
 fn undoes_an_insert(rt: HostRuntime) -> Result<(), Fail> {
-    let outcome = run_log(&rt, "insert", INSERT_ONE_ROW.as_slice(), &["-B"])?;
     let wanted = with_byte(rt.alloc(), ROWS_TYPE, 0x20)?;
+    let outcome = run_log(&rt, "insert", INSERT_ONE_ROW.as_slice(), &["-B"])?;
     assert!(rt; outcome.is_done(wanted.as_slice()));
     Ok(())
 }
 
 #[test]
 fn refuses_logs(rt: HostRuntime) -> Result<(), Fail> {
-    let cases = [
-        (&[] as &[u8], "flashback: NotABinlog at 0\n"),
-        (&[0xFE, 0x62, 0x69], "flashback: NotABinlog at 0\n"),
-    ];
-    for (log, line) in cases {
-        assert!(rt;
-            run_log(&rt, "refused", log, &["-B"])?.is_refusal(1, line),
-            "{line}"
-        );
-    }
+    let line = "flashback: NotABinlog at 0\n";
+    check_log_refused(&rt, "refused", &[], &["-B"], line)?;
+    check_log_refused(&rt, "refused", &[0xFE, 0x62, 0x69], &["-B"], line)
+}
+
+#[test]
+fn names_a_log_that_cannot_be_opened(rt: HostRuntime) -> Result<(), Fail> {
+    let absent = path_of(&rt, "absent")?;
+    let line = "flashback: cannot open the log\n";
+    check_refusal(&rt, &["-B", absent.as_str()], 1, line)?;
     Ok(())
 }
 
 #[test]
 fn names_a_log_that_cannot_be_read(rt: HostRuntime) -> Result<(), Fail> {
-    let absent = path_of(&rt, "absent")?;
-    let outcome = run_words(&rt, &["-B", absent.as_str()])?;
-    assert!(rt; outcome.is_refusal(1, "flashback: cannot open the log\n"));
     // a folder is opened as a file, and every read of it fails
     let folder = env::temp_dir(&rt)?;
-    let outcome = run_words(&rt, &["--flashback", folder.as_str()])?;
-    assert!(rt; outcome.is_refusal(1, "flashback: read failed\n"));
+    let line = "flashback: read failed\n";
+    check_refusal(&rt, &["--flashback", folder.as_str()], 1, line)?;
     Ok(())
 }
 
@@ -187,53 +234,81 @@ fn check_words(rt: &impl Abort, text: &str, words: &[&str]) {
     }
 }
 
-#[test]
-fn help_and_version_are_written(rt: HostRuntime) -> Result<(), Fail> {
-    let outcome = run_words(&rt, &["--help"])?;
-    assert_eq!(rt; outcome.status, ExitCode::SUCCESS);
-    assert!(rt; outcome.errors().is_empty());
+/// What a run with this word writes, which prints nothing.
+fn text_of(rt: &HostRuntime, word: &str) -> Result<String, Fail> {
+    let outcome = run_words(rt, &[word])?;
+    check(outcome.status == ExitCode::SUCCESS, "status", &[word])?;
+    check(outcome.errors().is_empty(), "errors", &[word])?;
     let text = str::from_utf8(outcome.output())?;
+    Ok(String::from_str(rt.alloc(), text)?)
+}
+
+/// The text has the usage, each option, and each option's example.
+fn check_help(rt: &impl Abort, text: &str) {
     assert!(rt; text.contains("Usage: flashback (-B | --forward | --summary) [--sql] [-j POS]"));
-    check_words(&rt, text, &OPTIONS);
+    check_words(rt, text, &OPTIONS);
     let examples = text.split_once("Examples:").map_or("", |(_, rest)| rest);
-    check_words(&rt, examples, &IN_EXAMPLES);
+    check_words(rt, examples, &IN_EXAMPLES);
+}
+
+#[test]
+fn the_help_is_written(rt: HostRuntime) -> Result<(), Fail> {
+    let text = text_of(&rt, "--help")?;
+    check_help(&rt, text.as_str());
+    Ok(())
+}
+
+#[test]
+fn the_version_is_written(rt: HostRuntime) -> Result<(), Fail> {
     for word in ["-V", "--version"] {
-        let outcome = run_words(&rt, &[word])?;
-        assert_eq!(rt; outcome.status, ExitCode::SUCCESS);
-        assert!(rt; outcome.errors().is_empty());
-        assert!(rt; str::from_utf8(outcome.output())?.starts_with("flashback 0.1.0 "));
+        let text = text_of(&rt, word)?;
+        assert!(rt; text.as_str().starts_with("flashback 0.1.0 "));
     }
+    Ok(())
+}
+
+/// The run with these words fails at its first write, and prints that.
+fn check_unwritten(rt: &HostRuntime, words: &[&str]) -> Result<(), Fail> {
+    let all = words_of(rt, words)?;
+    let mut output = Watched::new(Broken::new());
+    let mut errors = Watched::new(Vec::new(rt.alloc()));
+    let status = command(rt, rt.alloc(), Ok(all), &mut output, &mut errors);
+    check(status == ExitCode::FAILURE, "status", words)?;
+    check(output.device().writes() == 1, "writes", words)?;
+    check(
+        errors.device().as_slice() == b"flashback: write failed\n".as_slice(),
+        "errors",
+        words,
+    )?;
     Ok(())
 }
 
 #[test]
 fn a_failed_write_is_told(rt: HostRuntime) -> Result<(), Fail> {
     let path = path_of(&rt, "unwritten")?;
-    fs::write(&rt, path.as_path(), INSERT_ONE_ROW.as_slice())?;
-    let mut errors = Watched::new(Vec::new(rt.alloc()));
-    for words in [["-B", path.as_str()], ["--help", "-B"]] {
-        let mut output = Watched::new(Broken::new());
-        let words = words_of(&rt, words.as_slice())?;
-        let status = command(&rt, rt.alloc(), Ok(words), &mut output, &mut errors);
-        assert_eq!(rt; status, ExitCode::FAILURE);
-        assert_eq!(rt; output.device().writes(), 1);
-    }
-    fs::remove_file(&rt, path.as_path())?;
-    let lines = "flashback: write failed\nflashback: write failed\n";
-    assert_eq!(rt; errors.device().as_slice(), lines.as_bytes());
+    let log = path.as_str();
+    fs::write(&rt, log, INSERT_ONE_ROW.as_slice())?;
+    check_unwritten(&rt, &["-B", log])?;
+    check_unwritten(&rt, &["--help", "-B"])?;
+    fs::remove_file(&rt, log)?;
+    Ok(())
+}
+
+/// The run with these words ends with this status, though its line can't be printed.
+fn check_unprinted(rt: &HostRuntime, words: &[&str], status: u8) -> Result<(), Fail> {
+    let all = words_of(rt, words)?;
+    let mut output = Watched::new(Vec::new(rt.alloc()));
+    let mut errors = Watched::new(Broken::new());
+    let answer = command(rt, rt.alloc(), Ok(all), &mut output, &mut errors);
+    check(answer == ExitCode::from(status), "status", words)?;
+    check(output.device().is_empty(), "output", words)?;
+    check(errors.device().writes() == 1, "errors", words)?;
     Ok(())
 }
 
 #[test]
 fn a_line_that_cannot_be_printed_is_dropped(rt: HostRuntime) -> Result<(), Fail> {
-    for (words, status) in [(["-B", ""], 1), (["-B", "--no-such-word"], 2)] {
-        let mut output = Watched::new(Vec::new(rt.alloc()));
-        let mut errors = Watched::new(Broken::new());
-        let words = words_of(&rt, words.as_slice())?;
-        let answer = command(&rt, rt.alloc(), Ok(words), &mut output, &mut errors);
-        assert_eq!(rt; answer, ExitCode::from(status));
-        assert!(rt; output.device().is_empty());
-        assert_eq!(rt; errors.device().writes(), 1);
-    }
+    check_unprinted(&rt, &["-B", ""], 1)?;
+    check_unprinted(&rt, &["-B", "--no-such-word"], 2)?;
     Ok(())
 }

@@ -1,4 +1,4 @@
-//! Which words mean what.
+//! Which arguments mean what.
 
 ghost use Rattle.std.specs.Prelude.{◌≡◌, Err, IfErr, IfOk};
 ghost use Rattle.clap.specs.Words.{first_value, found_of, kind_of};
@@ -15,10 +15,10 @@ use clap::{ArgMatches, Command, Error};
 use console::{POSITION, Told, position_of, wrong_value};
 use std::alloc::{AllocError, Allocator, Global};
 
-/// What the words ask for.
+/// What the arguments ask for.
 #[derive(Drop)]
 pub enum Asked<'w, A: Allocator> {
-    /// The text of the help.
+    /// The text of the help, or of the version.
     Help(String<A>),
     /// A run over a log.
     Run(Task<'w>),
@@ -37,25 +37,25 @@ pub struct Task<'w> {
     pub result_file: Option<&'w str>,
 }
 
-/// Why the words choose no mode.
+/// Why the arguments choose no mode.
 #[derive(Clone, Copy, Debug)]
 pub enum ModeFault {
-    /// None of the words for a mode is there, or several are.
+    /// None of the options for a mode is there, or several are.
     NotOneMode,
     /// A summary is asked for as pseudo-SQL.
     SqlOfSummary,
 }
 
-/// Why the words ask for nothing.
+/// Why the arguments ask for nothing.
 #[derive(Drop)]
 pub enum WordsFault<A: Allocator> {
-    /// The words are wrong, as this text tells.
+    /// The arguments are wrong, as this text tells.
     Wrong(String<A>),
     /// They choose no mode.
     Mode(ModeFault),
-    /// A word isn't UTF-8.
+    /// An argument isn't UTF-8.
     NotText,
-    /// A growth was refused.
+    /// Memory was refused.
     OutOfMemory,
 }
 
@@ -77,7 +77,7 @@ impl<A: Allocator> From<AllocError> for WordsFault<A> {
     }
 }
 
-/// Answers what the words ask for, of which the first is the program's name. The parser takes its
+/// Answers what the arguments ask for, of which the first is the program's name. The parser takes its
 /// memory from `global`.
 pub fn read_words<'w, A: Allocator + Copy>(
     global: Global,
@@ -103,7 +103,7 @@ fn read_parsed<'w, A: Allocator + Copy>(
     }
 }
 
-/// The mode that the words choose, where they choose exactly one, and one that can be pseudo-SQL
+/// The mode that the arguments choose, where they choose exactly one, and one that can be pseudo-SQL
 /// where that is asked for.
 fn only_mode(matches: &ArgMatches<'_>) -> Result<Mode, ModeFault>
     ensures { result ≡ asked_mode (found_of matches.now) }
@@ -122,7 +122,7 @@ fn only_mode(matches: &ArgMatches<'_>) -> Result<Mode, ModeFault>
     }
 }
 
-/// Whether this flag is among the words.
+/// Whether this flag is among the arguments.
 fn has_flag(matches: &ArgMatches<'_>, flag: &str) -> bool
     ensures { result ≡ is_given (found_of matches.now) flag.now }
 {
@@ -147,7 +147,7 @@ fn read_task<'w, A: Allocator + Copy>(
     Ok(Task {
         mode: only_mode(matches)?,
         selection,
-        // the parser has refused words without a LOG
+        // the parser has refused arguments without a LOG
         log: matches.get_str(LOG).unwrap_or(""),
         result_file: matches.get_str(RESULT_FILE),
     })

@@ -1,71 +1,64 @@
 //! Selections: what of a log they keep.
 
-use crate::group_tests::{FIRST, ONE_INSERT, SECOND};
+use crate::group_tests::{FIRST, ONE_INSERT, SECOND, check_tables};
 use blog_row::RowsAction::Write;
-use blog_trans::{Selection, TableCount};
+use blog_trans::Selection;
+use std::alloc::AllocError;
+use std::process::Abort;
 use std::test::Fail;
 use worked_logs::builder::{DROP_TABLE, with_bytes};
 use worked_logs::index_view::Shown::{Begin, End, Map, Rows, Statement};
-use worked_logs::index_view::{groups_of, tables_of};
+use worked_logs::index_view::{Shown, groups_of};
 use worked_logs::logs::{one_insert, two_tables, two_transactions, with_last};
 use worked_logs::selections::{from, of_schema, of_table, up_to};
 
+type Built = Result<Vec<u8>, AllocError>;
+
+/// What is selected of a log has these groups.
+fn check_groups<R: AllocGlobal + Abort>(rt: &R, log: Built, sel: &Selection<'_>, groups: &[Shown]) {
+    let log = log.expect(rt, "memory for a log");
+    let shown = groups_of(rt, &log, sel).expect(rt, "an accepted log");
+    assert_eq!(rt; shown.as_slice(), groups, "under {sel:?}");
+}
+
 #[test]
-fn a_start_and_a_stop_cut_the_range(rt: HostRuntime) -> Result<(), Fail> {
-    let one = one_insert(&rt)?;
-    let two = two_transactions(&rt)?;
-    let dropped = with_last(&rt, DROP_TABLE)?;
+fn a_start_cuts_the_range(rt: HostRuntime) {
+    check_groups(&rt, one_insert(&rt), &from(0), ONE_INSERT);
+    check_groups(&rt, one_insert(&rt), &from(3), ONE_INSERT);
+    check_groups(&rt, one_insert(&rt), &from(120), ONE_INSERT);
+    check_groups(&rt, one_insert(&rt), &from(259), &[]);
+    check_groups(&rt, two_transactions(&rt), &from(316), SECOND);
+    check_groups(&rt, two_transactions(&rt), &from(360), SECOND);
+}
+
+#[test]
+fn a_stop_cuts_the_range(rt: HostRuntime) {
     let past_the_stop = Selection {
         stop: Some(100),
         ..from(160)
     };
-    for (log, sel, groups) in [
-        (&one, from(0), ONE_INSERT),
-        (&one, from(3), ONE_INSERT),
-        (&one, from(120), ONE_INSERT),
-        (&one, from(259), &[]),
-        (&one, past_the_stop, &[]),
-        (&one, up_to(0), &[]),
-        (&one, up_to(259), ONE_INSERT),
-        (&one, up_to(233), ONE_INSERT),
-        (&two, from(316), SECOND),
-        (&two, from(360), SECOND),
-        (&two, up_to(316), FIRST),
-        (&dropped, up_to(259), ONE_INSERT),
-    ] {
-        assert_eq!(rt;
-            groups_of(&rt, log, &sel)?.as_slice(),
-            groups,
-            "under {sel:?}"
-        );
-    }
-    Ok(())
+    check_groups(&rt, one_insert(&rt), &past_the_stop, &[]);
+    check_groups(&rt, one_insert(&rt), &up_to(0), &[]);
+    check_groups(&rt, one_insert(&rt), &up_to(259), ONE_INSERT);
+    check_groups(&rt, one_insert(&rt), &up_to(233), ONE_INSERT);
+    check_groups(&rt, two_transactions(&rt), &up_to(316), FIRST);
+    let dropped = with_last(&rt, DROP_TABLE);
+    check_groups(&rt, dropped, &up_to(259), ONE_INSERT);
 }
 
 #[test]
-fn other_schemas_and_other_cases_of_a_name_are_left_out(rt: HostRuntime) -> Result<(), Fail> {
-    let log = one_insert(&rt)?;
-    for (sel, groups) in [
-        (of_schema(b"d"), ONE_INSERT),
-        (of_table(b"t"), ONE_INSERT),
-        (of_schema(b"e"), &[]),
-        (of_schema(b"D"), &[]),
-        (of_table(b"T"), &[]),
-        (of_table(b"tt"), &[]),
-        (of_table(b""), &[]),
-    ] {
-        assert_eq!(rt;
-            groups_of(&rt, &log, &sel)?.as_slice(),
-            groups,
-            "under {sel:?}"
-        );
-    }
-    Ok(())
+fn other_schemas_and_other_cases_of_a_name_are_left_out(rt: HostRuntime) {
+    check_groups(&rt, one_insert(&rt), &of_schema(b"d"), ONE_INSERT);
+    check_groups(&rt, one_insert(&rt), &of_table(b"t"), ONE_INSERT);
+    check_groups(&rt, one_insert(&rt), &of_schema(b"e"), &[]);
+    check_groups(&rt, one_insert(&rt), &of_schema(b"D"), &[]);
+    check_groups(&rt, one_insert(&rt), &of_table(b"T"), &[]);
+    check_groups(&rt, one_insert(&rt), &of_table(b"tt"), &[]);
+    check_groups(&rt, one_insert(&rt), &of_table(b""), &[]);
 }
 
 #[test]
 fn one_table_of_a_statement_is_kept(rt: HostRuntime) -> Result<(), Fail> {
-    let log = two_tables(&rt)?;
     let groups = [
         Begin(120),
         Statement,
@@ -73,27 +66,19 @@ fn one_table_of_a_statement_is_kept(rt: HostRuntime) -> Result<(), Fail> {
         Rows(271, 2, Write, 1),
         End(343),
     ];
-    let sel = of_table(b"t2");
-    assert_eq!(rt; groups_of(&rt, &log, &sel)?.as_slice(), groups.as_slice());
-    let count = TableCount {
-        schema: b"d",
-        table: b"t2",
-        inserts: 1,
-        updates: 0,
-        deletes: 0,
-    };
-    assert_eq!(rt; tables_of(&rt, &log, &sel)?.as_slice(), [count].as_slice());
+    check_groups(&rt, two_tables(&rt), &of_table(b"t2"), &groups);
+    let log = two_tables(&rt)?;
+    check_tables(&rt, &log, &of_table(b"t2"), &[(b"t2", [1, 0, 0])]);
     Ok(())
 }
 
 #[test]
 fn columns_and_rows_of_other_tables_are_not_judged(rt: HostRuntime) -> Result<(), Fail> {
     let log = one_insert(&rt)?;
-    let sel = of_schema(b"e");
     // The column's type, the column count and the columns present of the rows event, and the last byte of its image.
     for edit in [(193, 6), (225, 2), (226, 0), (227, 0)] {
         let log = with_bytes(&rt, &log, &[edit])?;
-        assert_eq!(rt; groups_of(&rt, &log, &sel)?.as_slice(), [].as_slice());
+        check_groups(&rt, Ok(log), &of_schema(b"e"), &[]);
     }
     Ok(())
 }

@@ -2,6 +2,7 @@
 
 use blog_trans::Selection;
 use std::alloc::AllocError;
+use std::process::Abort;
 use std::test::Fail;
 use worked_logs::builder::{
     BEGIN, COMMIT, DROP_TABLE, FRONT, Part, T, Table, XID, build, delete, insert, map_of, update,
@@ -27,69 +28,89 @@ fn second_undone(rt: &impl AllocGlobal) -> Built {
     build(rt, &[BEGIN, Part::Map(T), insert(1, &[8]), XID])
 }
 
-#[test]
-fn one_statement_is_undone(rt: HostRuntime) -> Result<(), Fail> {
-    let two_deletes = build(&rt, &[BEGIN, Part::Map(T), delete(1, &[5, 5]), XID])?;
-    let updates = build(&rt, &[BEGIN, Part::Map(T), update(1, &[3, 2, 2, 1]), XID])?;
-    let ignorable = Part::Other {
-        kind: 28,
-        flags: 0x0080,
-        body: &[],
-    };
-    for (log, text) in [
-        (no_changes(&rt)?, no_changes(&rt)?),
-        (map_alone(&rt)?, no_changes(&rt)?),
-        (one_insert(&rt)?, one_delete(&rt)?),
-        (one_delete(&rt)?, one_insert(&rt)?),
-        (map_twice(&rt)?, one_delete(&rt)?),
-        (query_inside(&rt, b"SAVEPOINT `a`")?, one_delete(&rt)?),
-        (with_last(&rt, ignorable)?, one_delete(&rt)?),
-        (two_inserts(&rt)?, two_deletes),
-        (two_updates(&rt)?, updates),
-        (newer_server(&rt)?, newer_server_undone(&rt)?),
-    ] {
-        let written = flashback(rt.alloc(), &log, &Selection::all())?;
-        assert_eq!(rt; written.as_slice(), text.as_slice());
-    }
-    Ok(())
+/// What undoes the selected changes of a log.
+fn check_undone<R: AllocGlobal + Abort>(rt: &R, log: Built, sel: &Selection<'_>, undone: Built) {
+    let log = log.expect(rt, "memory for a log");
+    let undone = undone.expect(rt, "memory for a log");
+    let written = flashback(rt.alloc(), &log, sel).expect(rt, "an accepted log");
+    assert_eq!(rt; written.as_slice(), undone.as_slice(), "under {sel:?}");
+}
+
+/// A log is undone by the other.
+fn check_all_undone<R: AllocGlobal + Abort>(rt: &R, log: Built, undone: Built) {
+    check_undone(rt, log, &Selection::all(), undone);
+}
+
+/// An event that may be ignored, of a type that isn't known.
+const IGNORABLE: Part<'static> = Part::Other {
+    kind: 28,
+    flags: 0x0080,
+    body: &[],
+};
+
+/// What undoes the two updates.
+fn two_updates_undone(rt: &impl AllocGlobal) -> Built {
+    build(rt, &[BEGIN, Part::Map(T), update(1, &[3, 2, 2, 1]), XID])
 }
 
 #[test]
-fn logs_are_undone_from_the_end(rt: HostRuntime) -> Result<(), Fail> {
-    let statements = [
-        BEGIN,
-        Part::Map(T),
-        insert(1, &[2]),
-        Part::Map(T),
-        delete(1, &[1]),
-        XID,
-    ];
-    for (log, text, len) in [
-        (two_transactions(&rt)?, two_transactions_undone(&rt)?, 411),
-        (two_tables(&rt)?, two_tables_undone(&rt)?, 370),
-        (extra_bytes(&rt)?, two_tables_undone(&rt)?, 370),
-        (two_statements(&rt)?, build(&rt, &statements)?, 332),
-    ] {
-        let written = flashback(rt.alloc(), &log, &Selection::all())?;
-        assert_eq!(rt; written.as_slice(), text.as_slice());
-        assert_eq!(rt; written.len(), len);
-    }
+fn one_statement_is_undone(rt: HostRuntime) {
+    check_all_undone(&rt, no_changes(&rt), no_changes(&rt));
+    check_all_undone(&rt, map_alone(&rt), no_changes(&rt));
+    check_all_undone(&rt, one_insert(&rt), one_delete(&rt));
+    check_all_undone(&rt, one_delete(&rt), one_insert(&rt));
+    check_all_undone(&rt, map_twice(&rt), one_delete(&rt));
+    let savepoint = query_inside(&rt, b"SAVEPOINT `a`");
+    check_all_undone(&rt, savepoint, one_delete(&rt));
+    check_all_undone(&rt, with_last(&rt, IGNORABLE), one_delete(&rt));
+    let two_deletes = build(&rt, &[BEGIN, Part::Map(T), delete(1, &[5, 5]), XID]);
+    check_all_undone(&rt, two_inserts(&rt), two_deletes);
+    check_all_undone(&rt, two_updates(&rt), two_updates_undone(&rt));
+    check_all_undone(&rt, newer_server(&rt), newer_server_undone(&rt));
+}
+
+/// A log is undone by the other, which has so many bytes.
+fn check_undone_len<R: AllocGlobal + Abort>(rt: &R, log: Built, undone: Built, len: usize) {
+    let undone = undone.expect(rt, "memory for a log");
+    assert_eq!(rt; undone.len(), len);
+    check_all_undone(rt, log, Ok(undone));
+}
+
+/// What undoes the two statements.
+fn two_statements_undone(rt: &impl AllocGlobal) -> Built {
+    let first = insert(1, &[2]);
+    let second = delete(1, &[1]);
+    build(rt, &[BEGIN, Part::Map(T), first, Part::Map(T), second, XID])
+}
+
+#[test]
+fn logs_are_undone_from_the_end(rt: HostRuntime) {
+    let undone = two_transactions_undone(&rt);
+    check_undone_len(&rt, two_transactions(&rt), undone, 411);
+    check_undone_len(&rt, two_tables(&rt), two_tables_undone(&rt), 370);
+    check_undone_len(&rt, extra_bytes(&rt), two_tables_undone(&rt), 370);
+    let undone = two_statements_undone(&rt);
+    check_undone_len(&rt, two_statements(&rt), undone, 332);
+}
+
+/// A log with a byte at a position set to 1 is undone by the other with a byte set to 1.
+fn check_bits<R: AllocGlobal + Abort>(
+    rt: &R,
+    log: Built,
+    at: usize,
+    undone: Built,
+    undone_at: usize,
+) -> Result<(), Fail> {
+    let log = with_bytes(rt, &log?, &[(at, 1)])?;
+    let undone = with_bytes(rt, &undone?, &[(undone_at, 1)])?;
+    check_all_undone(rt, Ok(log), Ok(undone));
     Ok(())
 }
 
 #[test]
 fn bitmaps_change_places_and_free_bits_are_copied(rt: HostRuntime) -> Result<(), Fail> {
-    let updates = build(&rt, &[BEGIN, Part::Map(T), update(1, &[3, 2, 2, 1]), XID])?;
-    for (log, at, text, text_at) in [
-        (two_updates(&rt)?, 227, updates, 226),
-        (one_insert(&rt)?, 226, one_delete(&rt)?, 226),
-    ] {
-        let log = with_bytes(&rt, &log, &[(at, 1)])?;
-        let text = with_bytes(&rt, &text, &[(text_at, 1)])?;
-        let written = flashback(rt.alloc(), &log, &Selection::all())?;
-        assert_eq!(rt; written.as_slice(), text.as_slice());
-    }
-    Ok(())
+    check_bits(&rt, two_updates(&rt), 227, two_updates_undone(&rt), 226)?;
+    check_bits(&rt, one_insert(&rt), 226, one_delete(&rt), 226)
 }
 
 #[test]
@@ -98,14 +119,13 @@ fn equal_rows_change_places_with_their_free_null_bits(rt: HostRuntime) -> Result
     let mut images = second.to_vec(rt.alloc())?;
     images.extend_from_slice(first)?;
     let rows = delete(1, &[]).over(9, &[0xFF, 1], &images);
-    let text = build(&rt, &[BEGIN, Part::Map(NINE_COLUMNS), rows, XID])?;
-    let written = flashback(rt.alloc(), &nine_columns(&rt)?, &Selection::all())?;
-    assert_eq!(rt; written.as_slice(), text.as_slice());
+    let undone = build(&rt, &[BEGIN, Part::Map(NINE_COLUMNS), rows, XID]);
+    check_all_undone(&rt, nine_columns(&rt), undone);
     Ok(())
 }
 
 #[test]
-fn a_deleted_row_with_a_null_comes_back(rt: HostRuntime) -> Result<(), Fail> {
+fn a_deleted_row_with_a_null_comes_back(rt: HostRuntime) {
     let two_columns = Table {
         types: &[3, 3],
         nullable: &[3],
@@ -114,88 +134,111 @@ fn a_deleted_row_with_a_null_comes_back(rt: HostRuntime) -> Result<(), Fail> {
     let image = [0xFE, 5, 0, 0, 0];
     let deleted = delete(1, &[]).over(2, &[0xFF], &image);
     let inserted = insert(1, &[]).over(2, &[0xFF], &image);
-    let log = build(&rt, &[BEGIN, Part::Map(two_columns), deleted, XID])?;
-    let text = build(&rt, &[BEGIN, Part::Map(two_columns), inserted, XID])?;
-    let written = flashback(rt.alloc(), &log, &Selection::all())?;
-    assert_eq!(rt; written.as_slice(), text.as_slice());
-    Ok(())
+    let log = build(&rt, &[BEGIN, Part::Map(two_columns), deleted, XID]);
+    let undone = build(&rt, &[BEGIN, Part::Map(two_columns), inserted, XID]);
+    check_all_undone(&rt, log, undone);
 }
 
 #[test]
 fn a_longer_format_description_is_copied(rt: HostRuntime) -> Result<(), Fail> {
-    let log = longer_format(&rt)?;
-    let text = with_bytes(&rt, &log, &[(206, 32)])?;
-    let written = flashback(rt.alloc(), &log, &Selection::all())?;
-    assert_eq!(rt; written.as_slice(), text.as_slice());
+    let undone = with_bytes(&rt, &longer_format(&rt)?, &[(206, 32)])?;
+    check_all_undone(&rt, longer_format(&rt), Ok(undone));
     Ok(())
 }
 
-#[test]
-fn only_what_is_selected_is_undone(rt: HostRuntime) -> Result<(), Fail> {
-    let two = two_transactions(&rt)?;
-    let of_two_tables = two_tables(&rt)?;
-    let dropped = with_last(&rt, DROP_TABLE)?;
-    let second_table = build(&rt, &[BEGIN, map_of(2, b"t2"), delete(2, &[2]), XID])?;
-    for (log, sel, text, len) in [
-        (&of_two_tables, of_table(b"t2"), &second_table, 260),
-        (&two, from(316), &second_undone(&rt)?, 259),
-        (&two, from(360), &second_undone(&rt)?, 259),
-        (&two, up_to(316), &first_undone(&rt)?, 272),
-        (&one_insert(&rt)?, from(0), &one_delete(&rt)?, 259),
-        (&dropped, up_to(259), &one_delete(&rt)?, 259),
-    ] {
-        let written = flashback(rt.alloc(), log, &sel)?;
-        assert_eq!(rt; written.as_slice(), text.as_slice(), "under {sel:?}");
-        assert_eq!(rt; written.len(), len);
-    }
-    Ok(())
+/// The selected changes of a log are undone by the other, which has so many bytes.
+fn check_selected<R: AllocGlobal + Abort>(
+    rt: &R,
+    log: Built,
+    sel: &Selection<'_>,
+    undone: Built,
+    len: usize,
+) {
+    let undone = undone.expect(rt, "memory for a log");
+    assert_eq!(rt; undone.len(), len);
+    check_undone(rt, log, sel, Ok(undone));
 }
 
 #[test]
-fn only_what_is_selected_is_copied(rt: HostRuntime) -> Result<(), Fail> {
-    let two = two_transactions(&rt)?;
-    let of_two_tables = two_tables(&rt)?;
-    let dropped = with_last(&rt, DROP_TABLE)?;
-    let second_table = build(&rt, &[BEGIN, map_of(2, b"t2"), insert(2, &[2]), XID])?;
-    let first = build(&rt, &[BEGIN, Part::Map(T), insert(1, &[7]), COMMIT])?;
-    let second = build(&rt, &[BEGIN, Part::Map(T), delete(1, &[8]), XID])?;
-    for (log, sel, text) in [
-        (&of_two_tables, of_table(b"t2"), &second_table),
-        (&two, from(316), &second),
-        (&two, from(360), &second),
-        (&two, up_to(316), &first),
-        (&dropped, up_to(259), &one_insert(&rt)?),
-        (
-            &two_transactions_undone(&rt)?,
-            up_to(259),
-            &second_undone(&rt)?,
-        ),
-    ] {
-        let written = forward(rt.alloc(), log, &sel)?;
-        assert_eq!(rt; written.as_slice(), text.as_slice(), "under {sel:?}");
-    }
-    Ok(())
+fn only_what_is_selected_is_undone(rt: HostRuntime) {
+    let second_table = build(&rt, &[BEGIN, map_of(2, b"t2"), delete(2, &[2]), XID]);
+    check_selected(&rt, two_tables(&rt), &of_table(b"t2"), second_table, 260);
+    check_selected(
+        &rt,
+        two_transactions(&rt),
+        &from(316),
+        second_undone(&rt),
+        259,
+    );
+    check_selected(
+        &rt,
+        two_transactions(&rt),
+        &from(360),
+        second_undone(&rt),
+        259,
+    );
+    check_selected(
+        &rt,
+        two_transactions(&rt),
+        &up_to(316),
+        first_undone(&rt),
+        272,
+    );
+    check_selected(&rt, one_insert(&rt), &from(0), one_delete(&rt), 259);
+    let dropped = with_last(&rt, DROP_TABLE);
+    check_selected(&rt, dropped, &up_to(259), one_delete(&rt), 259);
+}
+
+/// The selected changes of a log in normal form.
+fn check_copied<R: AllocGlobal + Abort>(rt: &R, log: Built, sel: &Selection<'_>, copied: Built) {
+    let log = log.expect(rt, "memory for a log");
+    let copied = copied.expect(rt, "memory for a log");
+    let written = forward(rt.alloc(), &log, sel).expect(rt, "an accepted log");
+    assert_eq!(rt; written.as_slice(), copied.as_slice(), "under {sel:?}");
+}
+
+/// The first of the two transactions, and the second.
+fn first_copied(rt: &impl AllocGlobal) -> Built {
+    build(rt, &[BEGIN, Part::Map(T), insert(1, &[7]), COMMIT])
+}
+
+fn second_copied(rt: &impl AllocGlobal) -> Built {
+    build(rt, &[BEGIN, Part::Map(T), delete(1, &[8]), XID])
+}
+
+#[test]
+fn only_what_is_selected_is_copied(rt: HostRuntime) {
+    let second_table = build(&rt, &[BEGIN, map_of(2, b"t2"), insert(2, &[2]), XID]);
+    check_copied(&rt, two_tables(&rt), &of_table(b"t2"), second_table);
+    check_copied(&rt, two_transactions(&rt), &from(316), second_copied(&rt));
+    check_copied(&rt, two_transactions(&rt), &from(360), second_copied(&rt));
+    check_copied(&rt, two_transactions(&rt), &up_to(316), first_copied(&rt));
+    let dropped = with_last(&rt, DROP_TABLE);
+    check_copied(&rt, dropped, &up_to(259), one_insert(&rt));
+    let undone = two_transactions_undone(&rt);
+    check_copied(&rt, undone, &up_to(259), second_undone(&rt));
+}
+
+/// Nothing of a log is selected.
+fn check_unwritten<R: AllocGlobal + Abort>(rt: &R, log: Built, sel: &Selection<'_>) {
+    let log = log.expect(rt, "memory for a log");
+    let undone = flashback(rt.alloc(), &log, sel).expect(rt, "an accepted log");
+    assert_eq!(rt; undone.as_slice(), FRONT.as_slice(), "under {sel:?}");
+    let normal = forward(rt.alloc(), &log, sel).expect(rt, "an accepted log");
+    assert_eq!(rt; normal.as_slice(), FRONT.as_slice(), "under {sel:?}");
 }
 
 #[test]
 fn nothing_is_written_of_what_is_not_selected(rt: HostRuntime) -> Result<(), Fail> {
-    let one = one_insert(&rt)?;
-    let unknown_type = with_bytes(&rt, &one, &[(193, 6)])?;
+    check_unwritten(&rt, one_insert(&rt), &of_schema(b"D"));
+    check_unwritten(&rt, one_insert(&rt), &of_schema(b"e"));
+    check_unwritten(&rt, one_insert(&rt), &from(259));
     let past_the_stop = Selection {
         stop: Some(100),
         ..from(160)
     };
-    for (log, sel) in [
-        (&one, of_schema(b"D")),
-        (&one, of_schema(b"e")),
-        (&unknown_type, of_schema(b"e")),
-        (&one, from(259)),
-        (&one, past_the_stop),
-    ] {
-        let undone = flashback(rt.alloc(), log, &sel)?;
-        assert_eq!(rt; undone.as_slice(), FRONT.as_slice(), "under {sel:?}");
-        let normal = forward(rt.alloc(), log, &sel)?;
-        assert_eq!(rt; normal.as_slice(), FRONT.as_slice(), "under {sel:?}");
-    }
+    check_unwritten(&rt, one_insert(&rt), &past_the_stop);
+    let unknown_type = with_bytes(&rt, &one_insert(&rt)?, &[(193, 6)])?;
+    check_unwritten(&rt, Ok(unknown_type), &of_schema(b"e"));
     Ok(())
 }

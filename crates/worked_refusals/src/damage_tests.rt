@@ -1,6 +1,6 @@
 //! Logs that are cut, and logs with a length that is too large or too small: all ways of reading refuse them alike.
 
-use crate::refusing_calls::check_fault;
+use crate::refusing_calls::{Edited, check_edited, check_fault};
 use blog_event::Fault;
 use blog_trans::Selection;
 use std::process::Abort;
@@ -62,45 +62,40 @@ fn sizes_of_events(rt: HostRuntime) -> Result<(), Fail> {
     check_sizes(&rt, [18, 0, 0, 0])
 }
 
+/// Lengths that are greater than what is there.
+const LENGTHS: &[Edited] = &[
+    // The query's lengths of the schema and of the status bytes.
+    (&[(147, 0xFF)], Fault::BadBody { pos: 120 }),
+    (&[(150, 0xFF), (151, 0xFF)], Fault::BadBody { pos: 120 }),
+    // The map's lengths of the names, its column count and its length of the metadata.
+    (&[(186, 0xFF)], Fault::BadBody { pos: 159 }),
+    (&[(189, 0xFF)], Fault::BadBody { pos: 159 }),
+    (&[(192, 0xFF)], Fault::BadBody { pos: 159 }),
+    (&[(194, 0xFF)], Fault::BadBody { pos: 159 }),
+    // The rows event's length of extra bytes, and its column count.
+    (&[(223, 0xFF), (224, 0xFF)], Fault::BadBody { pos: 196 }),
+    (&[(225, 0xFF)], Fault::BadBody { pos: 196 }),
+    (&[(225, 0xFE)], Fault::BadBody { pos: 196 }),
+];
+
 #[test]
 fn lengths_in_bodies(rt: HostRuntime) -> Result<(), Fail> {
-    let log = one_insert(&rt)?;
-    for (edits, pos) in [
-        // The query's lengths of the schema and of the status bytes.
-        ([(147, 0xFF)].as_slice(), 120),
-        (&[(150, 0xFF), (151, 0xFF)], 120),
-        // The map's lengths of the names, its column count and its length of the metadata.
-        (&[(186, 0xFF)], 159),
-        (&[(189, 0xFF)], 159),
-        (&[(192, 0xFF)], 159),
-        (&[(194, 0xFF)], 159),
-        // The rows event's length of extra bytes, and its column count.
-        (&[(223, 0xFF), (224, 0xFF)], 196),
-        (&[(225, 0xFF)], 196),
-        (&[(225, 0xFE)], 196),
-    ] {
-        let log = with_bytes(&rt, &log, edits)?;
-        check_fault(&rt, &log, &Selection::all(), Some(Fault::BadBody { pos }));
-    }
-    Ok(())
+    check_edited(&rt, one_insert(&rt), LENGTHS)
 }
+
+const SINGLE_BYTES: &[Edited] = &[
+    (&[(0, 0)], Fault::NotABinlog { pos: 0 }),
+    (&[(115, 1)], Fault::Checksums { pos: 4 }),
+    (&[(98, 6)], Fault::BadFormat { pos: 4 }),
+    (&[(27, b'.')], Fault::OldServer { pos: 4 }),
+    (&[(226, 0xFE)], Fault::PartialImage { pos: 196 }),
+    (&[(200, 39)], Fault::PartialImage { pos: 196 }),
+    (&[(193, 6)], Fault::UnknownType { pos: 159 }),
+    (&[(221, 0)], Fault::Unended { pos: 232 }),
+    (&[(215, 2)], Fault::NoMap { pos: 196 }),
+];
 
 #[test]
 fn single_bytes_that_are_refused(rt: HostRuntime) -> Result<(), Fail> {
-    let log = one_insert(&rt)?;
-    for (edit, fault) in [
-        ((0, 0), Fault::NotABinlog { pos: 0 }),
-        ((115, 1), Fault::Checksums { pos: 4 }),
-        ((98, 6), Fault::BadFormat { pos: 4 }),
-        ((27, b'.'), Fault::OldServer { pos: 4 }),
-        ((226, 0xFE), Fault::PartialImage { pos: 196 }),
-        ((200, 39), Fault::PartialImage { pos: 196 }),
-        ((193, 6), Fault::UnknownType { pos: 159 }),
-        ((221, 0), Fault::Unended { pos: 232 }),
-        ((215, 2), Fault::NoMap { pos: 196 }),
-    ] {
-        let log = with_bytes(&rt, &log, &[edit])?;
-        check_fault(&rt, &log, &Selection::all(), Some(fault));
-    }
-    Ok(())
+    check_edited(&rt, one_insert(&rt), SINGLE_BYTES)
 }

@@ -52,30 +52,34 @@ impl Worked {
     }
 }
 
-fn worked_logs(rt: &impl AllocGlobal) -> Result<[Worked; 3], AllocError> {
-    Ok([
-        Worked {
-            log: two_transactions(rt)?,
-            undone: two_transactions_undone(rt)?,
-            copied: two_transactions_copied(rt)?,
-            printed: &OF_TWO_TRANSACTIONS,
-            starts: &[164, 203, 240, 276, 360, 399, 436, 472],
-        },
-        Worked {
-            log: two_tables(rt)?,
-            undone: two_tables_undone(rt)?,
-            copied: two_tables(rt)?,
-            printed: &OF_TWO_TABLES,
-            starts: &[120, 159, 197, 235, 271, 307, 343],
-        },
-        Worked {
-            log: newer_server(rt)?,
-            undone: newer_server_undone(rt)?,
-            copied: newer_server_copied(rt)?,
-            printed: &OF_NEWER_SERVER,
-            starts: &[191, 261, 298, 334],
-        },
-    ])
+fn of_two_transactions(rt: &impl AllocGlobal) -> Result<Worked, AllocError> {
+    Ok(Worked {
+        log: two_transactions(rt)?,
+        undone: two_transactions_undone(rt)?,
+        copied: two_transactions_copied(rt)?,
+        printed: &OF_TWO_TRANSACTIONS,
+        starts: &[164, 203, 240, 276, 360, 399, 436, 472],
+    })
+}
+
+fn of_two_tables(rt: &impl AllocGlobal) -> Result<Worked, AllocError> {
+    Ok(Worked {
+        log: two_tables(rt)?,
+        undone: two_tables_undone(rt)?,
+        copied: two_tables(rt)?,
+        printed: &OF_TWO_TABLES,
+        starts: &[120, 159, 197, 235, 271, 307, 343],
+    })
+}
+
+fn of_newer_server(rt: &impl AllocGlobal) -> Result<Worked, AllocError> {
+    Ok(Worked {
+        log: newer_server(rt)?,
+        undone: newer_server_undone(rt)?,
+        copied: newer_server_copied(rt)?,
+        printed: &OF_NEWER_SERVER,
+        starts: &[191, 261, 298, 334],
+    })
 }
 
 /// A call on a log, with what it gives where no request is refused.
@@ -231,29 +235,50 @@ fn requests_of<R: AllocGlobal + Abort>(rt: &R, log: &[u8], call: Call<'_>) -> Re
     Err("more requests than are tried".into())
 }
 
-#[test]
-fn a_refused_request_is_answered_and_nothing_is_written(rt: HostRuntime) -> Result<(), Fail> {
-    for worked in &worked_logs(&rt)? {
-        for (mode, text) in worked.texts() {
-            let answered = requests_of(&rt, &worked.log, Call::Answer(mode, text))?;
-            let prepared = requests_of(&rt, &worked.log, Call::Prepare(mode, text))?;
-            let ran = requests_of(&rt, &worked.log, Call::Run(mode, text))?;
-            assert!(rt; answered >= LEAST_REQUESTS, "{mode:?}: {answered}");
-            // The log is read into memory, and to write takes none.
-            assert!(rt; prepared > answered, "{mode:?}: {prepared} and {answered}");
-            assert_eq!(rt; ran, prepared, "{mode:?}");
-        }
+/// Each request of the calls on a log in this mode is refused in turn.
+fn check_mode<R: AllocGlobal + Abort>(
+    rt: &R,
+    log: &[u8],
+    mode: Mode,
+    text: &[u8],
+) -> Result<(), Fail> {
+    let answered = requests_of(rt, log, Call::Answer(mode, text))?;
+    let prepared = requests_of(rt, log, Call::Prepare(mode, text))?;
+    let ran = requests_of(rt, log, Call::Run(mode, text))?;
+    assert!(rt; answered >= LEAST_REQUESTS, "{mode:?}: {answered}");
+    // The log is read into memory, and to write takes none.
+    assert!(rt; prepared > answered, "{mode:?}: {prepared} and {answered}");
+    assert_eq!(rt; ran, prepared, "{mode:?}");
+    Ok(())
+}
+
+/// So it is in each mode.
+fn check_modes<R: AllocGlobal + Abort>(rt: &R, worked: &Worked) -> Result<(), Fail> {
+    for (mode, text) in worked.texts() {
+        check_mode(rt, &worked.log, mode, text)?;
     }
     Ok(())
 }
 
 #[test]
-fn an_index_with_a_refused_request_is_refused(rt: HostRuntime) -> Result<(), Fail> {
-    for worked in &worked_logs(&rt)? {
-        let requests = requests_of(&rt, &worked.log, Call::Index(worked.starts))?;
-        assert!(rt; requests >= LEAST_REQUESTS, "{requests}");
-    }
+fn a_refused_request_is_answered_and_nothing_is_written(rt: HostRuntime) -> Result<(), Fail> {
+    check_modes(&rt, &of_two_transactions(&rt)?)?;
+    check_modes(&rt, &of_two_tables(&rt)?)?;
+    check_modes(&rt, &of_newer_server(&rt)?)
+}
+
+/// Each request of the index of a log is refused in turn.
+fn check_index<R: AllocGlobal + Abort>(rt: &R, worked: &Worked) -> Result<(), Fail> {
+    let requests = requests_of(rt, &worked.log, Call::Index(worked.starts))?;
+    assert!(rt; requests >= LEAST_REQUESTS, "{requests}");
     Ok(())
+}
+
+#[test]
+fn an_index_with_a_refused_request_is_refused(rt: HostRuntime) -> Result<(), Fail> {
+    check_index(&rt, &of_two_transactions(&rt)?)?;
+    check_index(&rt, &of_two_tables(&rt)?)?;
+    check_index(&rt, &of_newer_server(&rt)?)
 }
 
 /// Answers a log in larger and larger heaps, up to the first that is large enough, and gives how many were too small.
@@ -272,11 +297,16 @@ fn heaps_too_small<R: AllocGlobal + Abort>(rt: &R, log: &[u8], text: &[u8]) -> R
     Err("no heap is large enough".into())
 }
 
+/// A log is undone in the first heap that is large enough, and that has more room than the output.
+fn check_heaps<R: AllocGlobal + Abort>(rt: &R, worked: &Worked) -> Result<(), Fail> {
+    let units = heaps_too_small(rt, &worked.log, &worked.undone)?;
+    assert!(rt; units > worked.undone.len() / UNIT, "{units}");
+    Ok(())
+}
+
 #[test]
 fn undoing_in_small_heaps(rt: HostRuntime) -> Result<(), Fail> {
-    for Worked { log, undone, .. } in &worked_logs(&rt)? {
-        let units = heaps_too_small(&rt, log, undone)?;
-        assert!(rt; units > undone.len() / UNIT, "{units}");
-    }
-    Ok(())
+    check_heaps(&rt, &of_two_transactions(&rt)?)?;
+    check_heaps(&rt, &of_two_tables(&rt)?)?;
+    check_heaps(&rt, &of_newer_server(&rt)?)
 }

@@ -1,134 +1,186 @@
 //! Answers to small logs.
 
-use crate::logs::{
-    DELETE_ONE_ROW, DELETES_THREE, INSERT_ONE_ROW, INSERTS_THREE, INSERTS_THREE_PLAINLY, with_byte,
-    with_rows,
-};
 use blog_flash::{
     Fault, Mode, RunFault, Selection, Watched, answer, flashback, forward, prepare, run,
 };
+use std::alloc::AllocError;
+use std::process::Abort;
 use std::test::Fail;
 use test_devices::{ALL, Failure, SlowWriter};
+use worked_logs::builder::{FRONT, Part, with_bytes};
+use worked_logs::logs::{no_changes, one_delete, one_insert, three_inserts, with_last};
+use worked_logs::selections::{from, of_table, up_to};
+use worked_logs::undone::{three_inserts_copied, three_inserts_undone};
 
-// A log, and what it is answered with.
-const LOG: &[u8] = &INSERT_ONE_ROW;
+type Built = Result<Vec<u8>, AllocError>;
 
-const OUTPUT: &[u8] = &DELETE_ONE_ROW;
+/// The events of the log that inserts the row 5 into the table `t` of the schema `d`, byte by byte.
+#[rattlefmt::skip]
+static EVENTS_OF_ONE_INSERT: [u8; 139] = [
+    // 120: query: header
+    0x00, 0x00, 0x00, 0x00, 0x02, 0x01, 0x00, 0x00, 0x00, 0x27, 0x00, 0x00, 0x00, 0x9F, 0x00, 0x00,
+    0x00, 0x00, 0x00,
+    // 139: schema `d`, text `BEGIN`
+    0x00, 0x00, 0x00, 0x00, 0x00, 0x00, 0x00, 0x00, 0x01, 0x00, 0x00, 0x00, 0x00, 0x64, 0x00, 0x42,
+    0x45, 0x47, 0x49, 0x4E,
+    // 159: table map: header
+    0x00, 0x00, 0x00, 0x00, 0x13, 0x01, 0x00, 0x00, 0x00, 0x25, 0x00, 0x00, 0x00, 0xC4, 0x00, 0x00,
+    0x00, 0x00, 0x00,
+    // 178: id 1, `d`.`t`, one LONG column that may be NULL
+    0x01, 0x00, 0x00, 0x00, 0x00, 0x00, 0x01, 0x00, 0x01, 0x64, 0x00, 0x01, 0x74, 0x00, 0x01, 0x03,
+    0x00, 0x01,
+    // 196: rows written: header, with the type at 200
+    0x00, 0x00, 0x00, 0x00, 0x1E, 0x01, 0x00, 0x00, 0x00, 0x24, 0x00, 0x00, 0x00, 0xE8, 0x00, 0x00,
+    0x00, 0x00, 0x00,
+    // 215: id 1, the row 5
+    0x01, 0x00, 0x00, 0x00, 0x00, 0x00, 0x01, 0x00, 0x02, 0x00, 0x01, 0xFF, 0xFE, 0x05, 0x00, 0x00,
+    0x00,
+    // 232: end of the transaction: header
+    0x00, 0x00, 0x00, 0x00, 0x10, 0x01, 0x00, 0x00, 0x00, 0x1B, 0x00, 0x00, 0x00, 0x03, 0x01, 0x00,
+    0x00, 0x00, 0x00,
+    // 251: its number, 7
+    0x07, 0x00, 0x00, 0x00, 0x00, 0x00, 0x00, 0x00,
+];
+
+/// What stands at 196 in the log that inserts three rows, byte by byte.
+#[rattlefmt::skip]
+static INSERTS_THREE: [u8; 71] = [
+    // 196: the rows event's header
+    0x00, 0x00, 0x00, 0x00, 0x1E, 0x01, 0x00, 0x00, 0x00, 0x2C, 0x00, 0x00, 0x00, 0xF0, 0x00, 0x00,
+    0x00, 0x00, 0x00,
+    // 215: its body
+    0x01, 0x00, 0x00, 0x00, 0x00, 0x00, 0x01, 0x00, 0x04, 0x00, 0xAA, 0xBB, 0x01, 0xFF, 0xFE, 0x01,
+    0x00, 0x00, 0x00, 0xFF, 0x00, 0x03, 0x00, 0x00, 0x00,
+    // 240: end of the transaction
+    0x00, 0x00, 0x00, 0x00, 0x10, 0x01, 0x00, 0x00, 0x00, 0x1B, 0x00, 0x00, 0x00, 0x0B, 0x01, 0x00,
+    0x00, 0x00, 0x00, 0x07, 0x00, 0x00, 0x00, 0x00, 0x00, 0x00, 0x00,
+];
+
+#[test]
+fn logs_are_built_byte_by_byte(rt: HostRuntime) -> Result<(), Fail> {
+    let mut spelled = FRONT.as_slice().to_vec(rt.alloc())?;
+    spelled.extend_from_slice(&EVENTS_OF_ONE_INSERT)?;
+    assert_eq!(rt; one_insert(&rt)?.as_slice(), spelled.as_slice());
+    spelled.truncate(196);
+    spelled.extend_from_slice(&INSERTS_THREE)?;
+    assert_eq!(rt; three_inserts(&rt)?.as_slice(), spelled.as_slice());
+    Ok(())
+}
+
+/// What reads a log from a reader prepares the output.
+fn check_prepared<R: AllocGlobal + Abort>(rt: &R, log: &[u8], output: &[u8]) {
+    let mut reader = Watched::new(log);
+    let prepared = prepare(rt.alloc(), &mut reader, Mode::Flashback, &Selection::all());
+    let text = prepared.expect(rt, "an accepted log");
+    assert_eq!(rt; text.as_slice(), output);
+    assert!(rt; !reader.failed());
+}
 
 #[test]
 fn prepares_what_the_log_is_answered_with(rt: HostRuntime) -> Result<(), Fail> {
-    let sel = Selection::all();
-    let text = answer(rt.alloc(), LOG, Mode::Flashback, &sel)?;
-    assert_eq!(rt; text.as_slice(), OUTPUT);
-
-    let mut reader = Watched::new(LOG);
-    let text = prepare(rt.alloc(), &mut reader, Mode::Flashback, &sel)
-        .ok()
-        .ok_or("refused")?;
-    assert_eq!(rt; text.as_slice(), OUTPUT);
-    assert!(rt; !reader.failed());
+    let log = one_insert(&rt)?;
+    let undone = one_delete(&rt)?;
+    let text = answer(rt.alloc(), &log, Mode::Flashback, &Selection::all())?;
+    assert_eq!(rt; text.as_slice(), undone.as_slice());
+    check_prepared(&rt, &log, &undone);
     Ok(())
 }
 
-#[test]
-fn logs_are_undone(rt: HostRuntime) -> Result<(), Fail> {
-    let sel = Selection::all();
-    let three = with_rows(rt.alloc(), &INSERTS_THREE)?;
-    let three_undone = with_rows(rt.alloc(), &DELETES_THREE)?;
-    let mut stopped = INSERT_ONE_ROW.to_vec(rt.alloc())?;
-    stopped.extend_from_slice(&[0, 0, 0, 0, 3, 1, 0, 0, 0, 19, 0, 0, 0, 22, 1, 0, 0, 0, 0])?;
-    for (log, undone) in [
-        (INSERT_ONE_ROW.as_slice(), DELETE_ONE_ROW.as_slice()),
-        (&DELETE_ONE_ROW, &INSERT_ONE_ROW),
-        (&three, &three_undone),
-        (&stopped, &DELETE_ONE_ROW),
-        (&INSERT_ONE_ROW[..120], &INSERT_ONE_ROW[..120]),
-    ] {
-        let text = flashback(rt.alloc(), log, &sel)?;
-        assert_eq!(rt; text.as_slice(), undone);
-    }
-    Ok(())
+/// The selected changes of a log are undone by the other.
+fn check_undone<R: AllocGlobal + Abort>(rt: &R, log: Built, sel: &Selection<'_>, undone: Built) {
+    let log = log.expect(rt, "memory for a log");
+    let undone = undone.expect(rt, "memory for a log");
+    let text = flashback(rt.alloc(), &log, sel).expect(rt, "an accepted log");
+    assert_eq!(rt; text.as_slice(), undone.as_slice(), "under {sel:?}");
 }
 
-#[test]
-fn logs_have_a_normal_form(rt: HostRuntime) -> Result<(), Fail> {
-    let sel = Selection::all();
-    let three = with_rows(rt.alloc(), &INSERTS_THREE)?;
-    let three_plain = with_rows(rt.alloc(), &INSERTS_THREE_PLAINLY)?;
-    for (log, normal) in [
-        (INSERT_ONE_ROW.as_slice(), INSERT_ONE_ROW.as_slice()),
-        (&three, &three_plain),
-        (&three_plain, &three_plain),
-    ] {
-        let text = forward(rt.alloc(), log, &sel)?;
-        assert_eq!(rt; text.as_slice(), normal);
-        let text = answer(rt.alloc(), log, Mode::Forward, &sel)?;
-        assert_eq!(rt; text.as_slice(), normal);
-    }
-    Ok(())
-}
+/// An event that says that the server has stopped.
+const STOP: Part<'static> = Part::Other {
+    kind: 3,
+    flags: 0,
+    body: &[],
+};
 
 #[test]
-fn what_is_selected_is_undone(rt: HostRuntime) -> Result<(), Fail> {
+fn logs_are_undone(rt: HostRuntime) {
     let all = Selection::all();
-    let up_to_the_xid = Selection {
-        stop: Some(233),
-        ..all
-    };
+    check_undone(&rt, one_insert(&rt), &all, one_delete(&rt));
+    check_undone(&rt, one_delete(&rt), &all, one_insert(&rt));
+    check_undone(&rt, three_inserts(&rt), &all, three_inserts_undone(&rt));
+    check_undone(&rt, with_last(&rt, STOP), &all, one_delete(&rt));
+    check_undone(&rt, no_changes(&rt), &all, no_changes(&rt));
+}
+
+/// The other log is the normal form of a log.
+fn check_normal<R: AllocGlobal + Abort>(rt: &R, log: Built, normal: Built) {
+    let log = log.expect(rt, "memory for a log");
+    let normal = normal.expect(rt, "memory for a log");
+    let all = Selection::all();
+    let text = forward(rt.alloc(), &log, &all).expect(rt, "an accepted log");
+    assert_eq!(rt; text.as_slice(), normal.as_slice());
+    let text = answer(rt.alloc(), &log, Mode::Forward, &all).expect(rt, "an accepted log");
+    assert_eq!(rt; text.as_slice(), normal.as_slice());
+}
+
+#[test]
+fn logs_have_a_normal_form(rt: HostRuntime) {
+    check_normal(&rt, one_insert(&rt), one_insert(&rt));
+    check_normal(&rt, three_inserts(&rt), three_inserts_copied(&rt));
+    check_normal(&rt, three_inserts_copied(&rt), three_inserts_copied(&rt));
+}
+
+#[test]
+fn what_is_selected_is_undone(rt: HostRuntime) {
+    let up_to_the_xid = up_to(233);
     let own_table = Selection {
         database: Some(b"d"),
-        table: Some(b"t"),
-        ..all
+        ..of_table(b"t")
     };
-    let other_table = Selection {
-        table: Some(b"u"),
-        ..all
-    };
-    let behind = Selection { start: 259, ..all };
-    for (sel, undone) in [
-        (up_to_the_xid, DELETE_ONE_ROW.as_slice()),
-        (own_table, &DELETE_ONE_ROW),
-        (other_table, &INSERT_ONE_ROW[..120]),
-        (behind, &INSERT_ONE_ROW[..120]),
+    check_undone(&rt, one_insert(&rt), &up_to_the_xid, one_delete(&rt));
+    check_undone(&rt, one_insert(&rt), &own_table, one_delete(&rt));
+    check_undone(&rt, one_insert(&rt), &of_table(b"u"), no_changes(&rt));
+    check_undone(&rt, one_insert(&rt), &from(259), no_changes(&rt));
+}
+
+/// A run of a log answers its fault, and doesn't call its writer.
+fn check_refused<R: AllocGlobal + Abort>(rt: &R, log: &[u8], fault: Fault) {
+    let mut reader = Watched::new(log);
+    let mut writer = Watched::new(SlowWriter::new(rt, ALL, Failure::Never));
+    let all = Selection::all();
+    let ran = run(rt.alloc(), &mut reader, Mode::Flashback, &all, &mut writer);
+    assert_eq!(rt; ran, Err(RunFault::Log(fault)), "of {log:?}");
+    assert_eq!(rt; writer.device().calls, 0);
+}
+
+#[test]
+fn cut_logs_are_refused(rt: HostRuntime) -> Result<(), Fail> {
+    let log = one_insert(&rt)?;
+    for (len, fault) in [
+        (0, Fault::NotABinlog { pos: 0 }),
+        (2, Fault::NotABinlog { pos: 0 }),
+        (3, Fault::NotABinlog { pos: 0 }),
+        (4, Fault::CutEvent { pos: 4 }),
+        (258, Fault::CutEvent { pos: 232 }),
+        (232, Fault::Unended { pos: 232 }),
     ] {
-        let text = flashback(rt.alloc(), &INSERT_ONE_ROW, &sel)?;
-        assert_eq!(rt; text.as_slice(), undone);
+        let cut = log.get(..len).expect(&rt, "a longer log");
+        check_refused(&rt, cut, fault);
     }
     Ok(())
 }
 
 #[test]
-fn logs_are_refused(rt: HostRuntime) -> Result<(), Fail> {
-    let not_a_log = Fault::NotABinlog { pos: 0 };
-    let unended = with_byte(rt.alloc(), 221, 0)?;
-    let unmapped = with_byte(rt.alloc(), 215, 2)?;
-    let other_type = with_byte(rt.alloc(), 193, 2)?;
-    let with_sums = with_byte(rt.alloc(), 115, 1)?;
-    let without_column = with_byte(rt.alloc(), 226, 0xFE)?;
-    for (log, fault) in [
-        (b"".as_slice(), not_a_log),
-        (b"\xfeb".as_slice(), not_a_log),
-        (b"\xfebi".as_slice(), not_a_log),
-        (b"\xfebin".as_slice(), Fault::CutEvent { pos: 4 }),
-        (&INSERT_ONE_ROW[..258], Fault::CutEvent { pos: 232 }),
-        (&INSERT_ONE_ROW[..232], Fault::Unended { pos: 232 }),
-        (&unended, Fault::Unended { pos: 232 }),
-        (&unmapped, Fault::NoMap { pos: 196 }),
-        (&other_type, Fault::BadBody { pos: 196 }),
-        (&with_sums, Fault::Checksums { pos: 4 }),
-        (&without_column, Fault::PartialImage { pos: 196 }),
+fn changed_logs_are_refused(rt: HostRuntime) -> Result<(), Fail> {
+    let log = one_insert(&rt)?;
+    for (edit, fault) in [
+        ((221, 0), Fault::Unended { pos: 232 }),
+        ((215, 2), Fault::NoMap { pos: 196 }),
+        ((193, 2), Fault::BadBody { pos: 196 }),
+        ((115, 1), Fault::Checksums { pos: 4 }),
+        ((226, 0xFE), Fault::PartialImage { pos: 196 }),
     ] {
-        let mut reader = Watched::new(log);
-        let mut writer = Watched::new(SlowWriter::new(&rt, ALL, Failure::Never));
-        let ran = run(
-            rt.alloc(),
-            &mut reader,
-            Mode::Flashback,
-            &Selection::all(),
-            &mut writer,
-        );
-        assert_eq!(rt; ran, Err(RunFault::Log(fault)), "of {log:?}");
-        assert_eq!(rt; writer.device().calls, 0);
+        let changed = with_bytes(&rt, &log, &[edit])?;
+        check_refused(&rt, &changed, fault);
     }
     Ok(())
 }

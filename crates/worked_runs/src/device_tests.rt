@@ -1,10 +1,10 @@
 //! Runs over devices that move 1, 7 or all bytes a call, and that fail at each of their calls.
 
-use crate::logs::{TWO_TRANSACTIONS, TWO_TRANSACTIONS_UNDONE, log_of};
 use blog_flash::{Fault, Mode, RunFault, Selection, Watched, prepare, run, run_by_chunks};
 use std::process::Abort;
 use std::test::Fail;
 use test_devices::{ALL, Failure, KINDS, SlowReader, SlowWriter};
+use worked_logs::{logs, undone};
 
 // How many bytes a reader gives a call, and its calls for the log of 499 bytes: the last finds the end.
 const READERS: [(usize, u64); 3] = [(1, 500), (7, 73), (ALL, 2)];
@@ -43,8 +43,8 @@ struct Logs {
 
 fn two_transactions(rt: &impl AllocGlobal) -> Result<Logs, Fail> {
     Ok(Logs {
-        log: log_of(rt.alloc(), &TWO_TRANSACTIONS)?,
-        undone: log_of(rt.alloc(), &TWO_TRANSACTIONS_UNDONE)?,
+        log: logs::two_transactions(rt)?,
+        undone: undone::two_transactions_undone(rt)?,
         chunk_len: None,
     })
 }

@@ -6,6 +6,4 @@ mod answer_tests;
 #[cfg(test)]
 mod device_tests;
 #[cfg(test)]
-mod logs;
-#[cfg(test)]
 mod printing_tests;

@@ -4,6 +4,8 @@
 #[cfg(test)]
 mod list_tests;
 #[cfg(test)]
+mod parts;
+#[cfg(test)]
 mod range_tests;
 #[cfg(test)]
 mod samples;

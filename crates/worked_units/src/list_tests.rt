@@ -1,5 +1,6 @@
 //! Lists of the units of logs, as text and as JSON.
 
+use crate::parts::{MAP, ONE, PAYLOAD, ROLLBACK};
 use crate::samples::SHOP;
 use blog_device::Watched;
 use blog_event::Fault;
@@ -7,7 +8,7 @@ use blog_list::{Form, Wanted, list, seconds_of};
 use std::process::Abort;
 use std::test::Fail;
 use worked_logs::builder::{
-    BEGIN, DROP_TABLE, GTID, PREVIOUS_GTIDS, Part, ROTATE, T, XID, build, insert, map_of,
+    BEGIN, DROP_TABLE, GTID, PREVIOUS_GTIDS, Part, ROTATE, XID, build, map_of,
 };
 use worked_logs::samples::{ALTER_BETWEEN, INSERT, MULTI_TABLE, SAVEPOINT_KEPT, UPDATE};
 
@@ -117,48 +118,54 @@ units 3, not undoable 1, rows 2
     check_all(&rt, &ALTER_BETWEEN, lines)
 }
 
-/// The lines of `SHOP`, some of which are wanted, and the last one.
+/// The lines of `SHOP`.
+#[rattlefmt::skip]
+const SHOP_LINES: [&str; 7] = [
+    "       194        466  2026-11-21 03:00:00  283c105d-e730-11f1-97ff-02fc00000001:8  `shop`.`orders` inserts 1\n",
+    "       466        670  2026-11-21 03:01:00  283c105d-e730-11f1-97ff-02fc00000001:9  Statement at 539: alter table items add column price decimal(8,2)\n",
+    "       670        943  2026-11-21 03:02:00  283c105d-e730-11f1-97ff-02fc00000001:10  `shop`.`items` inserts 1\n",
+    "       943       1294  2026-11-21 03:03:00  283c105d-e730-11f1-97ff-02fc00000001:11  `shop`.`orders` inserts 1\n",
+    "      1294       1474  2026-11-21 03:04:00  283c105d-e730-11f1-97ff-02fc00000001:12  Statement at 1367: create table t2 (a int)\n",
+    "      1474       1760  2026-11-21 03:05:00  283c105d-e730-11f1-97ff-02fc00000001:13  `shop`.`items` deletes 2\n",
+    "      1760       1925  2026-11-21 03:06:00  283c105d-e730-11f1-97ff-02fc00000001:14  Statement at 1833: truncate table t2\n",
+];
+
+/// Checks the list of `SHOP`: the lines of these numbers, and the last one.
 fn check_shop(
     rt: &(impl AllocGlobal + Abort),
     wanted: &Wanted<'_>,
     lines: &[usize],
     last: &str,
 ) -> Result<(), Fail> {
-    let all = [
-        "       194        466  2026-11-21 03:00:00  283c105d-e730-11f1-97ff-02fc00000001:8  `shop`.`orders` inserts 1\n",
-        "       466        670  2026-11-21 03:01:00  283c105d-e730-11f1-97ff-02fc00000001:9  Statement at 539: alter table items add column price decimal(8,2)\n",
-        "       670        943  2026-11-21 03:02:00  283c105d-e730-11f1-97ff-02fc00000001:10  `shop`.`items` inserts 1\n",
-        "       943       1294  2026-11-21 03:03:00  283c105d-e730-11f1-97ff-02fc00000001:11  `shop`.`orders` inserts 1\n",
-        "      1294       1474  2026-11-21 03:04:00  283c105d-e730-11f1-97ff-02fc00000001:12  Statement at 1367: create table t2 (a int)\n",
-        "      1474       1760  2026-11-21 03:05:00  283c105d-e730-11f1-97ff-02fc00000001:13  `shop`.`items` deletes 2\n",
-        "      1760       1925  2026-11-21 03:06:00  283c105d-e730-11f1-97ff-02fc00000001:14  Statement at 1833: truncate table t2\n",
-    ];
     let mut text = String::new(rt.alloc());
     for n in lines {
-        text.push_str(all.get(*n).expect(rt, "a line"))?;
+        text.push_str(SHOP_LINES.get(*n).expect(rt, "a line"))?;
     }
     text.push_str(last)?;
     check(rt, &SHOP, wanted, text.as_str(), None)
 }
 
+/// The numbers of all lines.
+const ALL_LINES: &[usize] = &[0, 1, 2, 3, 4, 5, 6];
+
 #[test]
-fn options_choose_units(rt: HostRuntime) -> Result<(), Fail> {
+fn names_choose_units(rt: HostRuntime) -> Result<(), Fail> {
     let all = Wanted::all();
     let last = "units 7, not undoable 3, rows 5\n";
-    check_shop(&rt, &all, &[0, 1, 2, 3, 4, 5, 6], last)?;
+    check_shop(&rt, &all, ALL_LINES, last)?;
     let database = Some(b"shop".as_slice());
-    check_shop(
-        &rt,
-        &Wanted { database, ..all },
-        &[0, 1, 2, 3, 4, 5, 6],
-        last,
-    )?;
+    check_shop(&rt, &Wanted { database, ..all }, ALL_LINES, last)?;
     let table = Some(b"items".as_slice());
     let last = "units 5, not undoable 3, rows 3\n";
     check_shop(&rt, &Wanted { table, ..all }, &[1, 2, 4, 5, 6], last)?;
     let database = Some(b"items".as_slice());
     let last = "units 3, not undoable 3, rows 0\n";
-    check_shop(&rt, &Wanted { database, ..all }, &[1, 4, 6], last)?;
+    check_shop(&rt, &Wanted { database, ..all }, &[1, 4, 6], last)
+}
+
+#[test]
+fn options_choose_units(rt: HostRuntime) -> Result<(), Fail> {
+    let all = Wanted::all();
     let start = Some(944);
     let last = "units 3, not undoable 2, rows 2\n";
     check_shop(&rt, &Wanted { start, ..all }, &[4, 5, 6], last)?;
@@ -186,8 +193,7 @@ fn json_has_an_object_a_line(rt: HostRuntime) -> Result<(), Fail> {
 {\"units\":2,\"not_undoable\":1,\"rows\":2}
 ";
     check_json(&rt, &SHOP, &wanted, lines)?;
-    let one = insert(1, &[5]);
-    let bytes = build(&rt, &[BEGIN, map_of(1, b"\xff\""), one, XID])?;
+    let bytes = build(&rt, &[BEGIN, map_of(1, b"\xff\""), ONE, XID])?;
     let lines =
         "{\"start\":120,\"stop\":260,\"time\":\"1970-01-01 00:00:00\",\"gtid\":null,\"tables\":[{\"schema\":\"d\",\"table\":\"\u{FFFD}\\\"\",\"table_hex\":\"FF22\",\"inserts\":1,\"updates\":0,\"deletes\":0}]}
 {\"units\":1,\"not_undoable\":0,\"rows\":1}
@@ -195,21 +201,14 @@ fn json_has_an_object_a_line(rt: HostRuntime) -> Result<(), Fail> {
     check_json(&rt, &bytes, &Wanted::all(), lines)
 }
 
-const ROLLBACK: Part<'static> = Part::Query {
-    status: &[],
-    text: b"ROLLBACK",
-};
-
-const PAYLOAD: Part<'static> = Part::Other {
-    kind: 40,
-    flags: 0,
-    body: &[0; 9],
-};
+#[rattlefmt::skip]
+const SMALL_UNITS: &[Part<'static>] = &[
+    BEGIN, XID, BEGIN, MAP, XID, BEGIN, MAP, ONE, ROLLBACK, GTID, DROP_TABLE, PAYLOAD, BEGIN,
+    PAYLOAD, MAP, ONE, XID, ROTATE,
+];
 
 #[test]
 fn small_logs_have_their_lists(rt: HostRuntime) -> Result<(), Fail> {
-    let map = Part::Map(T);
-    let one = insert(1, &[5]);
     let last = "units 0, not undoable 0, rows 0\n";
     check_parts(&rt, &[PREVIOUS_GTIDS, ROTATE], last, None)?;
     let lines = "       120        186  1970-01-01 00:00:00  no rows
@@ -220,11 +219,7 @@ fn small_logs_have_their_lists(rt: HostRuntime) -> Result<(), Fail> {
        561        728  1970-01-01 00:00:00  UnknownEvent at 600
 units 6, not undoable 4, rows 0
 ";
-    let parts = [
-        BEGIN, XID, BEGIN, map, XID, BEGIN, map, one, ROLLBACK, GTID, DROP_TABLE, PAYLOAD, BEGIN,
-        PAYLOAD, map, one, XID, ROTATE,
-    ];
-    check_parts(&rt, &parts, lines, None)
+    check_parts(&rt, SMALL_UNITS, lines, None)
 }
 
 #[test]
@@ -242,9 +237,7 @@ units 1, not undoable 1, rows 0
 
 #[test]
 fn a_log_that_ends_early_has_its_units(rt: HostRuntime) -> Result<(), Fail> {
-    let map = Part::Map(T);
-    let one = insert(1, &[5]);
-    let bytes = build(&rt, &[BEGIN, map, one, XID, BEGIN, map, one, XID])?;
+    let bytes = build(&rt, &[BEGIN, MAP, ONE, XID, BEGIN, MAP, ONE, XID])?;
     let cut = bytes.get(..397).expect(&rt, "a log");
     let lines = "       120        259  1970-01-01 00:00:00  `d`.`t` inserts 1
        259        371  1970-01-01 00:00:00  Unended at 371

@@ -1,12 +1,13 @@
 //! The range of each unit: it is undone where the unit can be, and refused by the unit's fault where it can't.
 
+use crate::parts::{MAP, ONE, PAYLOAD, ROLLBACK};
 use crate::samples::SHOP;
 use blog_event::Log;
 use blog_flash::{Mode, Selection, answer};
 use blog_units::Units;
 use std::process::Abort;
 use std::test::Fail;
-use worked_logs::builder::{BEGIN, DROP_TABLE, GTID, Part, T, XID, build, insert};
+use worked_logs::builder::{BEGIN, DROP_TABLE, GTID, Part, XID, build};
 use worked_logs::samples::{ALTER_BETWEEN, INSERT, MULTI_TABLE, SAVEPOINT_KEPT, UPDATE};
 
 /// Undoes the range of each unit of a log. Answers how many can be undone and how many can't.
@@ -31,37 +32,37 @@ fn undo_each(rt: &(impl AllocGlobal + Abort), bytes: &[u8]) -> Result<(usize, us
     Ok((undone, refused))
 }
 
-#[test]
-fn units_of_a_server_are_undone_or_refused(rt: HostRuntime) -> Result<(), Fail> {
-    assert_eq!(rt; undo_each(&rt, &INSERT)?, (1, 0));
-    assert_eq!(rt; undo_each(&rt, &UPDATE)?, (1, 0));
-    assert_eq!(rt; undo_each(&rt, &MULTI_TABLE)?, (1, 0));
-    assert_eq!(rt; undo_each(&rt, &SAVEPOINT_KEPT)?, (1, 0));
-    assert_eq!(rt; undo_each(&rt, &ALTER_BETWEEN)?, (2, 1));
-    assert_eq!(rt; undo_each(&rt, &SHOP)?, (4, 3));
+/// Checks how many units of a log can be undone and how many can't.
+fn check_each(
+    rt: &(impl AllocGlobal + Abort),
+    bytes: &[u8],
+    undone: usize,
+    refused: usize,
+) -> Result<(), Fail> {
+    assert_eq!(rt; undo_each(rt, bytes)?, (undone, refused));
     Ok(())
 }
 
 #[test]
+fn units_of_a_server_are_undone_or_refused(rt: HostRuntime) -> Result<(), Fail> {
+    check_each(&rt, &INSERT, 1, 0)?;
+    check_each(&rt, &UPDATE, 1, 0)?;
+    check_each(&rt, &MULTI_TABLE, 1, 0)?;
+    check_each(&rt, &SAVEPOINT_KEPT, 1, 0)?;
+    check_each(&rt, &ALTER_BETWEEN, 2, 1)?;
+    check_each(&rt, &SHOP, 4, 3)
+}
+
+#[rattlefmt::skip]
+const SMALL_UNITS: &[Part<'static>] = &[
+    BEGIN, XID, BEGIN, MAP, XID, BEGIN, MAP, ONE, ROLLBACK, GTID, DROP_TABLE, PAYLOAD, BEGIN,
+    PAYLOAD, MAP, ONE, XID, GTID, BEGIN, MAP, ONE, XID, MAP, ONE, BEGIN, MAP, ONE,
+];
+
+#[test]
 fn small_units_are_undone_or_refused(rt: HostRuntime) -> Result<(), Fail> {
-    let map = Part::Map(T);
-    let one = insert(1, &[5]);
-    let rollback = Part::Query {
-        status: &[],
-        text: b"ROLLBACK",
-    };
-    let payload = Part::Other {
-        kind: 40,
-        flags: 0,
-        body: &[0; 9],
-    };
-    let parts = [
-        BEGIN, XID, BEGIN, map, XID, BEGIN, map, one, rollback, GTID, DROP_TABLE, payload, BEGIN,
-        payload, map, one, XID, GTID, BEGIN, map, one, XID, map, one, BEGIN, map, one,
-    ];
-    let bytes = build(&rt, &parts)?;
-    assert_eq!(rt; undo_each(&rt, &bytes)?, (3, 6));
+    let bytes = build(&rt, SMALL_UNITS)?;
+    check_each(&rt, &bytes, 3, 6)?;
     let cut = bytes.get(..bytes.len().wrapping_sub(1)).ok_or("a log")?;
-    assert_eq!(rt; undo_each(&rt, cut)?, (3, 6));
-    Ok(())
+    check_each(&rt, cut, 3, 6)
 }

@@ -1,7 +1,7 @@
 //! Runs whose writers fail.
 
-use super::logs::{PLAIN, SUMMED};
-use super::{path_of, words_of};
+use super::logs::{PLAIN, SUMMED, UNITS};
+use super::{path_of, run_words, words_of};
 use crate::commands::command;
 use blog_device::Watched;
 use std::fs;
@@ -9,42 +9,70 @@ use std::process::ExitCode;
 use std::test::Fail;
 use test_devices::{ALL, Failure, KINDS, SlowWriter};
 
-/// The most bytes that standard output takes a call, and how many calls take the plain log.
+/// The most bytes that standard output takes a call.
 const STEP: usize = 7;
 
-const CALLS: u64 = 20;
-
-/// Whether a run that makes the plain copy of this log ends with a failed write, which it tells; and what was written.
+/// Whether a run with these words ends with a failed write, which it tells; and what was written.
 fn fails(
     rt: &HostRuntime,
-    log: &str,
+    words: &[&str],
     failure: Failure,
 ) -> Result<(bool, Watched<SlowWriter>), Fail> {
     let mut output = Watched::new(SlowWriter::new(rt, STEP, failure));
     let mut errors = Watched::new(Vec::new(rt.alloc()));
-    let words = words_of(rt, &["plain", log])?;
+    let words = words_of(rt, words)?;
     let status = command(rt, rt.alloc(), Ok(words), &mut output, &mut errors);
     let told = errors.device().starts_with(b"binlog: write failed: ");
     let is_failure = status == ExitCode::FAILURE && output.device().failed_calls == 1;
     Ok((told && is_failure, output))
 }
 
+/// Runs the program with these words, which writes this text in so many calls. Each call fails in turn.
+fn each_call_fails(rt: &HostRuntime, words: &[&str], text: &[u8], calls: u64) -> Result<(), Fail> {
+    for kind in KINDS {
+        let mut before = 0usize;
+        for call in 1..=calls {
+            let (told, output) = fails(rt, words, Failure::At(call, kind))?;
+            if !told || Some(output.device().taken.as_slice()) != text.get(..before) {
+                return Err(Fail::new(format_args!("call {call}: {words:?}")));
+            }
+            before = before.saturating_add(STEP);
+        }
+        let (told, output) = fails(rt, words, Failure::AtFlush(kind))?;
+        if !told || output.device().taken.as_slice() != text {
+            return Err(Fail::new(format_args!("the flush: {words:?}")));
+        }
+    }
+    Ok(())
+}
+
 #[test]
 fn a_failed_write_is_told(rt: HostRuntime) -> Result<(), Fail> {
     let log = path_of(&rt, "unwritten")?;
     fs::write(&rt, log.as_path(), SUMMED.as_slice())?;
-    for kind in KINDS {
-        let mut before = 0usize;
-        for call in 1..=CALLS {
-            let (told, output) = fails(&rt, log.as_str(), Failure::At(call, kind))?;
-            assert!(rt; told, "{call}");
-            assert_eq!(rt; Some(output.device().taken.as_slice()), PLAIN.get(..before));
-            before = before.saturating_add(STEP);
-        }
-        let (told, output) = fails(&rt, log.as_str(), Failure::AtFlush(kind))?;
-        assert!(rt; told);
-        assert_eq!(rt; output.device().taken.as_slice(), PLAIN.as_slice());
-    }
+    let words = ["plain", log.as_str()];
+    each_call_fails(&rt, words.as_slice(), PLAIN.as_slice(), 20)?;
+    fs::remove_file(&rt, log.as_path())?;
+    Ok(())
+}
+
+#[test]
+fn a_failed_write_of_a_list_is_told(rt: HostRuntime) -> Result<(), Fail> {
+    let log = path_of(&rt, "unwritten-list")?;
+    fs::write(&rt, log.as_path(), UNITS.as_slice())?;
+    let text = b"{\"units\":0,\"not_undoable\":0,\"rows\":0}\n";
+    let words = ["list", "--json", "-j", "260", log.as_str()];
+    each_call_fails(&rt, words.as_slice(), text.as_slice(), 6)?;
+    fs::remove_file(&rt, log.as_path())?;
+    Ok(())
+}
+
+#[test]
+fn a_failed_write_of_a_cut_log_is_told(rt: HostRuntime) -> Result<(), Fail> {
+    let log = path_of(&rt, "unwritten-cut")?;
+    fs::write(&rt, log.as_path(), &UNITS[..259])?;
+    let words = ["split", log.as_str()];
+    each_call_fails(&rt, words.as_slice(), &UNITS[..259], 37)?;
     fs::remove_file(&rt, log.as_path())?;
     Ok(())
 }
@@ -60,5 +88,17 @@ fn a_line_that_cannot_be_printed_is_dropped(rt: HostRuntime) -> Result<(), Fail>
         assert!(rt; output.device().is_empty());
         assert_eq!(rt; errors.device().calls, 1);
     }
+    Ok(())
+}
+
+#[test]
+fn a_long_line_is_cut(rt: HostRuntime) -> Result<(), Fail> {
+    let mut name = String::new(rt.alloc());
+    for _ in 0..5000 {
+        name.push('a')?;
+    }
+    let outcome = run_words(&rt, &["plain", name.as_str()])?;
+    assert!(rt; outcome.is_refusal(1, "binlog: cannot open the log aaa"));
+    assert_eq!(rt; outcome.errors().len(), 4608);
     Ok(())
 }

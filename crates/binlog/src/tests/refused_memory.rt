@@ -1,6 +1,6 @@
 //! Runs in which one request for memory is refused, each in turn.
 
-use super::logs::{PLAIN, SUMMED};
+use super::logs::{PLAIN, SUMMED, UNITS};
 use super::{Outcome, path_of, words_of};
 use crate::commands::command;
 use blog_device::Watched;
@@ -69,5 +69,37 @@ fn want_of_memory_leaves_nothing(rt: HostRuntime) -> Result<(), Fail> {
     fs::remove_file(&rt, result.as_path())?;
     fs::remove_file(&rt, log.as_path())?;
     assert_eq!(rt; written.as_slice(), PLAIN.as_slice());
+    Ok(())
+}
+
+#[test]
+fn want_of_memory_lists_nothing(rt: HostRuntime) -> Result<(), Fail> {
+    let log = path_of(&rt, "unlisted-log")?;
+    fs::write(&rt, log.as_path(), UNITS.as_slice())?;
+    let words = ["list", log.as_str()];
+    let (outcome, refused) = refuse_in_turn(&rt, words.as_slice(), "")?;
+    assert!(rt; outcome.errors().is_empty());
+    assert!(rt; refused >= 5, "{refused}");
+    let words = ["list", "--json", log.as_str()];
+    let (outcome, refused) = refuse_in_turn(&rt, words.as_slice(), "")?;
+    assert!(rt; outcome.errors().is_empty());
+    assert!(rt; refused >= 5, "{refused}");
+    fs::remove_file(&rt, log.as_path())?;
+    Ok(())
+}
+
+#[test]
+fn want_of_memory_cuts_nothing(rt: HostRuntime) -> Result<(), Fail> {
+    let log = path_of(&rt, "uncut-log")?;
+    let result = path_of(&rt, "uncut")?;
+    fs::write(&rt, log.as_path(), &UNITS[..259])?;
+    let words = ["split", "-r", result.as_str(), log.as_str()];
+    let (outcome, refused) = refuse_in_turn(&rt, words.as_slice(), result.as_str())?;
+    assert!(rt; outcome.is_done(b""));
+    assert!(rt; refused >= 5, "{refused}");
+    let written = fs::read(&rt, result.as_path())?;
+    fs::remove_file(&rt, result.as_path())?;
+    fs::remove_file(&rt, log.as_path())?;
+    assert_eq!(rt; written.as_slice(), &UNITS[..259]);
     Ok(())
 }

@@ -84,11 +84,19 @@ fn a_file_that_cannot_be_created_is_told(rt: HostRuntime) -> Result<(), Fail> {
     let result = path_of(&rt, "no-folder")?.join(rt.alloc(), "plain.binlog")?;
     let words = ["plain", "-r", result.as_str()];
     let outcome = run_log(&rt, "homeless", SUMMED.as_slice(), words.as_slice())?;
-    assert!(rt; outcome.is_refusal(1, "binlog: cannot create the result file: "));
+    let result_name = result.as_str();
+    let line = format!(in rt.alloc();
+        "binlog: cannot create the result file {result_name}: No such file or directory (os error 2): "
+    )?;
+    assert!(rt; outcome.is_refusal(1, line.as_str()));
     let folder = env::temp_dir(&rt)?;
     let words = ["plain", "--force", "-r", folder.as_str()];
     let outcome = run_log(&rt, "in-folder", SUMMED.as_slice(), words.as_slice())?;
-    assert!(rt; outcome.is_refusal(1, "binlog: cannot create the result file: "));
+    let folder_name = folder.as_str();
+    let line = format!(in rt.alloc();
+        "binlog: cannot create the result file {folder_name}: Is a directory (os error 21): "
+    )?;
+    assert!(rt; outcome.is_refusal(1, line.as_str()));
     Ok(())
 }
 

@@ -1,58 +1,73 @@
 //! What is printed for each failure.
 
 use crate::commands::Failure;
+use crate::tests::check;
 use crate::words::WordsFault;
 use blog_flash::{Fault, RunFault, Watched};
 use std::alloc::Global;
 use std::test::Fail;
 
-fn printed(rt: &HostRuntime, failure: &Failure<Global>) -> Result<String, Fail> {
+/// The line of a failure.
+fn printed(rt: &HostRuntime, failure: &Failure<Global>) -> Watched<Vec<u8>> {
     let mut errors = Watched::new(Vec::new(rt.alloc()));
     failure.print(&mut errors);
-    let text = str::from_utf8(errors.device().as_slice())?;
-    Ok(String::from_str(rt.alloc(), text)?)
+    errors
+}
+
+/// Each fault at the last position, with its name.
+static FAULTS: [(Fault, &str); 17] = [
+    (Fault::NotABinlog { pos: u32::MAX }, "NotABinlog"),
+    (Fault::CutEvent { pos: u32::MAX }, "CutEvent"),
+    (Fault::BadFormat { pos: u32::MAX }, "BadFormat"),
+    (Fault::OldServer { pos: u32::MAX }, "OldServer"),
+    (Fault::Checksums { pos: u32::MAX }, "Checksums"),
+    (Fault::NoEventAt { pos: u32::MAX }, "NoEventAt"),
+    (Fault::Statement { pos: u32::MAX }, "Statement"),
+    (Fault::RolledBack { pos: u32::MAX }, "RolledBack"),
+    (Fault::OutOfPlace { pos: u32::MAX }, "OutOfPlace"),
+    (Fault::Unended { pos: u32::MAX }, "Unended"),
+    (Fault::NoMap { pos: u32::MAX }, "NoMap"),
+    (Fault::MapClash { pos: u32::MAX }, "MapClash"),
+    (Fault::PartialImage { pos: u32::MAX }, "PartialImage"),
+    (Fault::UnknownType { pos: u32::MAX }, "UnknownType"),
+    (Fault::BadBody { pos: u32::MAX }, "BadBody"),
+    (Fault::UnknownEvent { pos: u32::MAX }, "UnknownEvent"),
+    (Fault::TooLong { pos: u32::MAX }, "TooLong"),
+];
+
+/// The fault is printed by this name.
+fn check_fault(rt: &HostRuntime, fault: Fault, name: &str) -> Result<(), Fail> {
+    let wanted = format!(in rt.alloc(); "flashback: {name} at 4294967295\n")?;
+    let line = printed(rt, &Failure::Run(RunFault::Log(fault)));
+    check(
+        line.device().as_slice() == wanted.as_bytes(),
+        "line",
+        &[name],
+    )?;
+    Ok(())
 }
 
 #[test]
 fn prints_each_fault(rt: HostRuntime) -> Result<(), Fail> {
-    let pos = u32::MAX;
-    let faults = [
-        (Fault::NotABinlog { pos }, "NotABinlog"),
-        (Fault::CutEvent { pos }, "CutEvent"),
-        (Fault::BadFormat { pos }, "BadFormat"),
-        (Fault::OldServer { pos }, "OldServer"),
-        (Fault::Checksums { pos }, "Checksums"),
-        (Fault::NoEventAt { pos }, "NoEventAt"),
-        (Fault::Statement { pos }, "Statement"),
-        (Fault::RolledBack { pos }, "RolledBack"),
-        (Fault::OutOfPlace { pos }, "OutOfPlace"),
-        (Fault::Unended { pos }, "Unended"),
-        (Fault::NoMap { pos }, "NoMap"),
-        (Fault::MapClash { pos }, "MapClash"),
-        (Fault::PartialImage { pos }, "PartialImage"),
-        (Fault::UnknownType { pos }, "UnknownType"),
-        (Fault::BadBody { pos }, "BadBody"),
-        (Fault::UnknownEvent { pos }, "UnknownEvent"),
-        (Fault::TooLong { pos }, "TooLong"),
-    ];
-    for (fault, name) in faults {
-        let line = printed(&rt, &Failure::Run(RunFault::Log(fault)))?;
-        let wanted = format!(in rt.alloc(); "flashback: {name} at 4294967295\n")?;
-        assert_eq!(rt; line.as_str(), wanted.as_str());
+    for (fault, name) in &FAULTS {
+        check_fault(&rt, *fault, name)?;
     }
     Ok(())
 }
 
+/// The failure is want of memory.
+fn check_memory(rt: &HostRuntime, failure: &Failure<Global>) -> Result<(), Fail> {
+    check(failure.status() == 1, "status", &[])?;
+    let line = printed(rt, failure);
+    check(
+        line.device().as_slice() == b"flashback: OutOfMemory\n".as_slice(),
+        "line",
+        &[],
+    )
+}
+
 #[test]
 fn prints_want_of_memory(rt: HostRuntime) -> Result<(), Fail> {
-    let of_log = Failure::Run(RunFault::Log(Fault::OutOfMemory));
-    let of_words = Failure::Words(WordsFault::OutOfMemory);
-    for failure in [of_log, of_words] {
-        assert_eq!(rt; failure.status(), 1);
-        assert_eq!(rt;
-            printed(&rt, &failure)?.as_str(),
-            "flashback: OutOfMemory\n"
-        );
-    }
-    Ok(())
+    check_memory(&rt, &Failure::Run(RunFault::Log(Fault::OutOfMemory)))?;
+    check_memory(&rt, &Failure::Words(WordsFault::OutOfMemory))
 }

@@ -2,9 +2,10 @@
 
 use super::file_names::has_bytes;
 use super::logs::{INSERT_ONE_ROW, with_byte};
-use super::{ROWS_TYPE, path_of, run_log, run_log_to};
-use std::fs;
+use super::{ROWS_TYPE, check, check_log_refused, path_of, run_log, run_log_to};
+use std::path::PathBuf;
 use std::test::Fail;
+use std::{fs, io};
 
 /// The log undone, as pseudo-SQL.
 pub const UNDONE: &str = "\
@@ -37,6 +38,43 @@ transactions 0
 statements 0
 ";
 
+/// The path of the file that a check writes to.
+fn result_of(rt: &HostRuntime, name: &str) -> io::Result<PathBuf> {
+    let file = format!(in rt.alloc(); "{name}-result")?;
+    path_of(rt, file.as_str())
+}
+
+/// Of a file of `log` these words make `wanted` in the file of this path, and nothing elsewhere.
+fn check_file(
+    rt: &HostRuntime,
+    name: &str,
+    log: &[u8],
+    words: &[&str],
+    file: &str,
+    wanted: &[u8],
+) -> Result<(), Fail> {
+    let done = run_log_to(rt, name, log, words, file)?.is_done(b"");
+    check(done, "not done with a file", words)?;
+    check(has_bytes(rt, file, Some(wanted))?, "not in the file", words)?;
+    Ok(())
+}
+
+/// The same in a file that isn't there, and in one with more bytes.
+fn check_files(
+    rt: &HostRuntime,
+    name: &str,
+    log: &[u8],
+    words: &[&str],
+    file: &str,
+    wanted: &[u8],
+) -> Result<(), Fail> {
+    check_file(rt, name, log, words, file, wanted)?;
+    fs::write(rt, file, [0x2A; 300].as_slice())?;
+    check_file(rt, name, log, words, file, wanted)?;
+    fs::remove_file(rt, file)?;
+    Ok(())
+}
+
 /// Of a file of `log` these words make `wanted`: first on standard output, then with `-r` in a file
 /// that isn't there, and in one with more bytes.
 pub fn check_both_outputs(
@@ -46,21 +84,38 @@ pub fn check_both_outputs(
     words: &[&str],
     wanted: &[u8],
 ) -> Result<(), Fail> {
-    if !run_log(rt, name, log, words)?.is_done(wanted) {
-        return Err(Fail::new(format_args!("not written: {words:?}")));
+    let written = run_log(rt, name, log, words)?.is_done(wanted);
+    check(written, "not written", words)?;
+    let result = result_of(rt, name)?;
+    check_files(rt, name, log, words, result.as_str(), wanted)
+}
+
+/// The same for each of these words and what they make.
+pub fn check_printed(
+    rt: &HostRuntime,
+    name: &str,
+    log: &[u8],
+    cases: &[(&[&str], &str)],
+) -> Result<(), Fail> {
+    for (words, wanted) in cases {
+        check_both_outputs(rt, name, log, words, wanted.as_bytes())?;
     }
-    let file = format!(in rt.alloc(); "{name}-result")?;
-    let result = path_of(rt, file.as_str())?;
-    for before in [None, Some([0x2A; 300])] {
-        if let Some(bytes) = before {
-            fs::write(rt, result.as_path(), bytes.as_slice())?;
-        }
-        let outcome = run_log_to(rt, name, log, words, result.as_str())?;
-        if !outcome.is_done(b"") || fs::read(rt, result.as_path())?.as_slice() != wanted {
-            return Err(Fail::new(format_args!("not in the file: {words:?}")));
-        }
-    }
-    fs::remove_file(rt, result.as_path())?;
+    Ok(())
+}
+
+/// Of a file of `log` these words end with this line and the status 1, and the file of this path is as before.
+fn check_kept(
+    rt: &HostRuntime,
+    name: &str,
+    log: &[u8],
+    words: &[&str],
+    line: &str,
+    file: &str,
+    before: Option<&[u8]>,
+) -> Result<(), Fail> {
+    let refused = run_log_to(rt, name, log, words, file)?.is_refusal(1, line);
+    check(refused, "not refused with a file", words)?;
+    check(has_bytes(rt, file, before)?, "not kept", words)?;
     Ok(())
 }
 
@@ -73,53 +128,41 @@ pub fn check_refused(
     words: &[&str],
     line: &str,
 ) -> Result<(), Fail> {
-    if !run_log(rt, name, log, words)?.is_refusal(1, line) {
-        return Err(Fail::new(format_args!("not refused: {words:?}")));
-    }
-    let file = format!(in rt.alloc(); "{name}-unwritten")?;
-    let result = path_of(rt, file.as_str())?;
-    for before in [None, Some(b"kept".as_slice())] {
-        if let Some(bytes) = before {
-            fs::write(rt, result.as_path(), bytes)?;
-        }
-        let outcome = run_log_to(rt, name, log, words, result.as_str())?;
-        if !outcome.is_refusal(1, line) || !has_bytes(rt, result.as_str(), before)? {
-            return Err(Fail::new(format_args!("with a file: {words:?}")));
-        }
-    }
-    fs::remove_file(rt, result.as_path())?;
+    check_log_refused(rt, name, log, words, line)?;
+    let result = result_of(rt, name)?;
+    let file = result.as_str();
+    check_kept(rt, name, log, words, line, file, None)?;
+    fs::write(rt, file, b"kept")?;
+    check_kept(rt, name, log, words, line, file, Some(b"kept"))?;
+    fs::remove_file(rt, file)?;
     Ok(())
 }
 
+/// What is printed of the log.
+static PRINTED: [(&[&str], &str); 8] = [
+    (&["-B", "--sql"], UNDONE),
+    (&["--forward", "--sql"], DONE),
+    (&["--summary"], COUNTED),
+    (&["-B", "--sql", "-T", "t"], UNDONE),
+    (&["-B", "--sql", "-d", "e"], ""),
+    (&["--forward", "--sql", "-j", "259"], ""),
+    (&["--summary", "-d", "d"], COUNTED),
+    (&["--summary", "-T", "d"], NONE_COUNTED),
+];
+
 #[test]
 fn prints_each_mode(rt: HostRuntime) -> Result<(), Fail> {
-    let cases = [
-        (["-B", "--sql"].as_slice(), UNDONE),
-        (&["--forward", "--sql"], DONE),
-        (&["--summary"], COUNTED),
-        (&["-B", "--sql", "-T", "t"], UNDONE),
-        (&["-B", "--sql", "-d", "e"], ""),
-        (&["--forward", "--sql", "-j", "259"], ""),
-        (&["--summary", "-d", "d"], COUNTED),
-        (&["--summary", "-T", "d"], NONE_COUNTED),
-    ];
-    for (words, wanted) in cases {
-        let log = INSERT_ONE_ROW.as_slice();
-        check_both_outputs(&rt, "printed", log, words, wanted.as_bytes())?;
-    }
-    Ok(())
+    check_printed(&rt, "printed", INSERT_ONE_ROW.as_slice(), &PRINTED)
 }
+
+/// What is printed of a log that deletes the row.
+static DELETED: [(&[&str], &str); 2] = [
+    (&["-B", "--sql"], DONE),
+    (&["--forward", "--sql"], UNDONE),
+];
 
 #[test]
 fn pseudo_sql_goes_by_the_log(rt: HostRuntime) -> Result<(), Fail> {
     let log = with_byte(rt.alloc(), ROWS_TYPE, 0x20)?;
-    let log = log.as_slice();
-    check_both_outputs(&rt, "deleted", log, &["-B", "--sql"], DONE.as_bytes())?;
-    check_both_outputs(
-        &rt,
-        "deleted",
-        log,
-        &["--forward", "--sql"],
-        UNDONE.as_bytes(),
-    )
+    check_printed(&rt, "deleted", log.as_slice(), &DELETED)
 }

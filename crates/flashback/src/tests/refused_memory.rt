@@ -1,14 +1,14 @@
 //! Runs in which one request for memory is refused, each in turn.
 
 use super::both_outputs::{COUNTED, DONE, UNDONE};
-use super::file_names::has_bytes;
+use super::file_names::{check_bytes, has_bytes};
 use super::logs::{INSERT_ONE_ROW, with_byte};
-use super::wrong_words::assert_wrong_words;
-use super::{Outcome, ROWS_TYPE, path_of, words_of};
+use super::{Outcome, ROWS_TYPE, check, path_of, push_words, words_of};
 use crate::commands::command;
 use blog_flash::Watched;
 use linked_list_allocator::LocalHeap;
 use refusing::Refusing;
+use std::alloc::Allocator;
 use std::fs;
 use std::process::ExitCode;
 use std::test::Fail;
@@ -21,6 +21,18 @@ const ROOM: usize = 1 << 18;
 
 const OUT_OF_MEMORY: &str = "flashback: OutOfMemory\n";
 
+/// Runs the program with memory of this allocator.
+fn run_with<A: Allocator + Copy>(rt: &HostRuntime, alloc: A, words: Vec<String>) -> Outcome {
+    let mut output = Watched::new(Vec::new(rt.alloc()));
+    let mut errors = Watched::new(Vec::new(rt.alloc()));
+    let status = command(rt, alloc, Ok(words), &mut output, &mut errors);
+    Outcome {
+        status,
+        output,
+        errors,
+    }
+}
+
 /// Runs the program with these words over the log of this path. All that it takes is given back.
 /// Answers also whether its request of this number was refused.
 fn run_refusing(
@@ -29,21 +41,12 @@ fn run_refusing(
     log: &str,
     number: usize,
 ) -> Result<(Outcome, bool), Fail> {
+    let mut all = words_of(rt, words)?;
+    push_words(&mut all, &[log])?;
     let heap = LocalHeap::new(rt.alloc(), ROOM)?;
     let refusing = Refusing::new(&heap, number);
-    let mut output = Watched::new(Vec::new(rt.alloc()));
-    let mut errors = Watched::new(Vec::new(rt.alloc()));
-    let mut all = words_of(rt, words)?;
-    all.push(String::from_str(rt.alloc(), log)?)?;
-    let status = command(rt, &refusing, Ok(all), &mut output, &mut errors);
-    if heap.used() != 0 {
-        return Err(Fail::new(format_args!("kept memory: {words:?}")));
-    }
-    let outcome = Outcome {
-        status,
-        output,
-        errors,
-    };
+    let outcome = run_with(rt, &refusing, all);
+    check(heap.used() == 0, "kept memory", words)?;
     Ok((outcome, refusing.has_refused()))
 }
 
@@ -61,59 +64,124 @@ fn refuse_in_turn(
         if !refused {
             return Ok((outcome, number - 1));
         }
-        if !outcome.is_refusal(1, OUT_OF_MEMORY) || !has_bytes(rt, file, before)? {
-            return Err(Fail::new(format_args!("request {number}: {words:?}")));
-        }
+        check(
+            outcome.is_refusal(1, OUT_OF_MEMORY),
+            "another outcome",
+            words,
+        )?;
+        check(has_bytes(rt, file, before)?, "another outcome", words)?;
     }
     Err(Fail::new("there are more requests"))
+}
+
+/// Words with which the log is printed, and what is.
+static PRINTED: [(&[&str], &str); 3] = [
+    (&["-B", "--sql"], UNDONE),
+    (&["--forward", "--sql"], DONE),
+    (&["--summary"], COUNTED),
+];
+
+/// The run with these words over the log of this path takes memory more than once, and writes this.
+fn check_mode(
+    rt: &HostRuntime,
+    words: &[&str],
+    log: &str,
+    file: &str,
+    wanted: &[u8],
+) -> Result<(), Fail> {
+    let (outcome, refused) = refuse_in_turn(rt, words, log, file, None)?;
+    // one to read the log, and others to answer it
+    check(refused > 1, "requests", words)?;
+    check(outcome.is_done(wanted), "outcome", words)?;
+    Ok(())
+}
+
+fn check_modes(rt: &HostRuntime, log: &str, file: &str) -> Result<(), Fail> {
+    let undone = with_byte(rt.alloc(), ROWS_TYPE, 0x20)?;
+    check_mode(rt, &["-B"], log, file, undone.as_slice())?;
+    check_mode(rt, &["--forward"], log, file, INSERT_ONE_ROW.as_slice())?;
+    for (words, wanted) in &PRINTED {
+        check_mode(rt, words, log, file, wanted.as_bytes())?;
+    }
+    Ok(())
 }
 
 #[test]
 fn each_mode_answers_want_of_memory(rt: HostRuntime) -> Result<(), Fail> {
     let log = path_of(&rt, "unremembered")?;
     let result = path_of(&rt, "unmade")?;
-    let undone = with_byte(rt.alloc(), ROWS_TYPE, 0x20)?;
     fs::write(&rt, log.as_path(), INSERT_ONE_ROW.as_slice())?;
-    for (mode, wanted) in [
-        (["-B"].as_slice(), undone.as_slice()),
-        (&["--forward"], INSERT_ONE_ROW.as_slice()),
-        (&["-B", "--sql"], UNDONE.as_bytes()),
-        (&["--forward", "--sql"], DONE.as_bytes()),
-        (&["--summary"], COUNTED.as_bytes()),
-    ] {
-        let (outcome, refused) = refuse_in_turn(&rt, mode, log.as_str(), result.as_str(), None)?;
-        // one to read the log, and others to answer it
-        assert!(rt; refused > 1, "{mode:?}");
-        assert!(rt; outcome.is_done(wanted), "{mode:?}");
-    }
+    check_modes(&rt, log.as_str(), result.as_str())?;
     fs::remove_file(&rt, log.as_path())?;
     Ok(())
+}
+
+/// The log of this path is undone in the file of this path, which is as before where memory is refused.
+fn check_result_file(
+    rt: &HostRuntime,
+    log: &str,
+    file: &str,
+    before: Option<&[u8]>,
+) -> Result<(), Fail> {
+    let undone = with_byte(rt.alloc(), ROWS_TYPE, 0x20)?;
+    let (outcome, refused) = refuse_in_turn(rt, &["-B", "-r", file], log, file, before)?;
+    check(refused > 1, "requests", &[])?;
+    check(outcome.is_done(b""), "outcome", &[])?;
+    check_bytes(rt, file, Some(undone.as_slice()))?;
+    fs::remove_file(rt, file)?;
+    Ok(())
+}
+
+fn check_result_files(rt: &HostRuntime, log: &str, file: &str) -> Result<(), Fail> {
+    check_result_file(rt, log, file, None)?;
+    fs::write(rt, file, b"kept")?;
+    check_result_file(rt, log, file, Some(b"kept"))
 }
 
 #[test]
 fn want_of_memory_leaves_the_file_alone(rt: HostRuntime) -> Result<(), Fail> {
     let log = path_of(&rt, "forgotten")?;
     let result = path_of(&rt, "remembered")?;
-    let undone = with_byte(rt.alloc(), ROWS_TYPE, 0x20)?;
     fs::write(&rt, log.as_path(), INSERT_ONE_ROW.as_slice())?;
-    let file = result.as_str();
-    for before in [None, Some(b"kept".as_slice())] {
-        if let Some(bytes) = before {
-            fs::write(&rt, result.as_path(), bytes)?;
-        }
-        let (outcome, refused) = refuse_in_turn(
-            &rt,
-            &["-B", "-r", file],
-            log.as_str(),
-            file,
-            before,
-        )?;
-        assert!(rt; refused > 1);
-        assert!(rt; outcome.is_done(b""));
-        assert!(rt; has_bytes(&rt, file, Some(undone.as_slice()))?);
-        fs::remove_file(&rt, result.as_path())?;
-    }
+    check_result_files(&rt, log.as_str(), result.as_str())?;
     fs::remove_file(&rt, log.as_path())?;
+    Ok(())
+}
+
+/// The help is written once no request is refused.
+fn check_help(rt: &HostRuntime, file: &str) -> Result<(), Fail> {
+    let (outcome, refused) = refuse_in_turn(rt, &["--help", "-r", file], "a.binlog", file, None)?;
+    check(refused > 0, "requests", &[])?;
+    check(outcome.status == ExitCode::SUCCESS, "status", &[])?;
+    check(
+        str::from_utf8(outcome.output())?.contains("Usage: flashback"),
+        "text",
+        &[],
+    )?;
+    Ok(())
+}
+
+/// The option's wrong value is told once no request is refused.
+fn check_wrong_value(rt: &HostRuntime, option: &str, file: &str) -> Result<(), Fail> {
+    let words = ["-B", option, "x", "-r", file];
+    let (outcome, refused) = refuse_in_turn(rt, &words, "a.binlog", file, None)?;
+    // one for what is wrong, and others for the text around it
+    check(refused > 1, "requests", &words)?;
+    check(outcome.is_wrong(), "outcome", &words)?;
+    check(
+        str::from_utf8(outcome.errors())?.contains("invalid value 'x'"),
+        "errors",
+        &words,
+    )?;
+    Ok(())
+}
+
+/// The wrong option is told once no request is refused.
+fn check_wrong_option(rt: &HostRuntime, file: &str) -> Result<(), Fail> {
+    let words = ["-B", "--no-such-word", "-r", file];
+    let (outcome, refused) = refuse_in_turn(rt, &words, "a.binlog", file, None)?;
+    check(refused > 0, "requests", &words)?;
+    check(outcome.is_wrong(), "outcome", &words)?;
     Ok(())
 }
 
@@ -121,23 +189,10 @@ fn want_of_memory_leaves_the_file_alone(rt: HostRuntime) -> Result<(), Fail> {
 fn texts_answer_want_of_memory(rt: HostRuntime) -> Result<(), Fail> {
     let result = path_of(&rt, "unwritten-text")?;
     let file = result.as_str();
-    let words = ["--help", "-r", file];
-    let (outcome, refused) = refuse_in_turn(&rt, &words, "a.binlog", file, None)?;
-    assert!(rt; refused > 0);
-    assert_eq!(rt; outcome.status, ExitCode::SUCCESS);
-    assert!(rt; str::from_utf8(outcome.output())?.contains("Usage: flashback"));
-    for option in ["-j", "--stop-position"] {
-        let words = ["-B", option, "x", "-r", file];
-        let (outcome, refused) = refuse_in_turn(&rt, &words, "a.binlog", file, None)?;
-        // one for what is wrong, and others for the text around it
-        assert!(rt; refused > 1);
-        assert_wrong_words(&rt, &outcome);
-        assert!(rt; str::from_utf8(outcome.errors())?.contains("invalid value 'x'"));
-    }
-    let words = ["-B", "--no-such-word", "-r", file];
-    let (outcome, refused) = refuse_in_turn(&rt, &words, "a.binlog", file, None)?;
-    assert!(rt; refused > 0);
-    assert_wrong_words(&rt, &outcome);
-    assert!(rt; has_bytes(&rt, file, None)?);
+    check_help(&rt, file)?;
+    check_wrong_value(&rt, "-j", file)?;
+    check_wrong_value(&rt, "--stop-position", file)?;
+    check_wrong_option(&rt, file)?;
+    check_bytes(&rt, file, None)?;
     Ok(())
 }

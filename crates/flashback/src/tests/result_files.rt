@@ -1,33 +1,24 @@
 //! Runs whose output goes to a file.
 
+use super::both_outputs::{check_both_outputs, check_refused};
+use super::file_names::check_bytes;
 use super::logs::{INSERT_ONE_ROW, with_byte};
-use super::{ROWS_TYPE, path_of, run_log, run_words};
-use std::process::ExitCode;
+use super::{ROWS_TYPE, check_done, check_log_refused, check_refusal, path_of};
 use std::test::Fail;
 use std::{env, fs};
 
 #[test]
 fn an_accepted_log_fills_the_file(rt: HostRuntime) -> Result<(), Fail> {
-    let result = path_of(&rt, "filled")?;
     let wanted = with_byte(rt.alloc(), ROWS_TYPE, 0x20)?;
-    // first a file that isn't there, then one with more bytes than the output has
-    for before in [None, Some([0x2A; 300])] {
-        if let Some(bytes) = before {
-            fs::write(&rt, result.as_path(), bytes.as_slice())?;
-        }
-        let outcome = run_log(
-            &rt,
-            "fills",
-            INSERT_ONE_ROW.as_slice(),
-            &["-B", "-r", result.as_str()],
-        )?;
-        let filled = fs::read(&rt, result.as_path())?;
-        assert_eq!(rt; outcome.status, ExitCode::SUCCESS);
-        assert!(rt; outcome.output().is_empty());
-        assert!(rt; outcome.errors().is_empty());
-        assert_eq!(rt; filled.as_slice(), wanted.as_slice());
-    }
-    fs::remove_file(&rt, result.as_path())?;
+    let log = INSERT_ONE_ROW.as_slice();
+    check_both_outputs(&rt, "fills", log, &["-B"], wanted.as_slice())
+}
+
+/// The log of this path is undone in its own file.
+fn check_itself(rt: &HostRuntime, path: &str) -> Result<(), Fail> {
+    let undone = with_byte(rt.alloc(), ROWS_TYPE, 0x20)?;
+    check_done(rt, &["-B", "-r", path, path], b"")?;
+    check_bytes(rt, path, Some(undone.as_slice()))?;
     Ok(())
 }
 
@@ -35,74 +26,51 @@ fn an_accepted_log_fills_the_file(rt: HostRuntime) -> Result<(), Fail> {
 fn the_log_may_be_the_file(rt: HostRuntime) -> Result<(), Fail> {
     let path = path_of(&rt, "itself")?;
     fs::write(&rt, path.as_path(), INSERT_ONE_ROW.as_slice())?;
-    let outcome = run_words(&rt, &["-B", "-r", path.as_str(), path.as_str()])?;
-    let undone = fs::read(&rt, path.as_path())?;
+    check_itself(&rt, path.as_str())?;
     fs::remove_file(&rt, path.as_path())?;
-    assert_eq!(rt; outcome.status, ExitCode::SUCCESS);
-    assert!(rt; outcome.output().is_empty());
-    assert_eq!(rt;
-        undone.as_slice(),
-        with_byte(rt.alloc(), ROWS_TYPE, 0x20)?.as_slice()
-    );
     Ok(())
 }
 
 #[test]
 fn a_refused_log_leaves_the_file_alone(rt: HostRuntime) -> Result<(), Fail> {
-    let result = path_of(&rt, "kept")?;
-    let words = ["-B", "-r", result.as_str()];
     let line = "flashback: NotABinlog at 0\n";
-    assert!(rt; run_log(&rt, "no-magic", b"no log", words.as_slice())?.is_refusal(1, line));
-    assert!(rt; !fs::exists(&rt, result.as_path())?);
-    fs::write(&rt, result.as_path(), b"kept")?;
-    assert!(rt; run_log(&rt, "no-magic", b"no log", words.as_slice())?.is_refusal(1, line));
-    let kept = fs::read(&rt, result.as_path())?;
-    fs::remove_file(&rt, result.as_path())?;
-    assert_eq!(rt; kept.as_slice(), b"kept".as_slice());
-    Ok(())
+    check_refused(&rt, "no-magic", b"no log", &["-B"], line)
 }
 
 #[test]
 fn a_log_that_cannot_be_opened_leaves_the_file_alone(rt: HostRuntime) -> Result<(), Fail> {
     let result = path_of(&rt, "not-made")?;
     let absent = path_of(&rt, "not-there")?;
-    let outcome = run_words(&rt, &["-B", "-r", result.as_str(), absent.as_str()])?;
-    assert!(rt; outcome.is_refusal(1, "flashback: cannot open the log\n"));
-    assert!(rt; !fs::exists(&rt, result.as_path())?);
+    let words = ["-B", "-r", result.as_str(), absent.as_str()];
+    check_refusal(&rt, &words, 1, "flashback: cannot open the log\n")?;
+    check_bytes(&rt, result.as_str(), None)?;
     Ok(())
+}
+
+/// The file of this path can't be created, of which the run tells behind what is wrong with the log.
+fn check_uncreated(rt: &HostRuntime, name: &str, file: &str) -> Result<(), Fail> {
+    let words = ["-B", "-r", file];
+    let line = "flashback: cannot create the result file\n";
+    check_log_refused(rt, name, INSERT_ONE_ROW.as_slice(), &words, line)?;
+    check_log_refused(rt, name, b"no log", &words, "flashback: NotABinlog at 0\n")
 }
 
 #[test]
 fn a_file_that_cannot_be_created_is_told(rt: HostRuntime) -> Result<(), Fail> {
     let folder = path_of(&rt, "no-folder")?;
     let result = folder.join(rt.alloc(), "undo.binlog")?;
-    let words = ["-B", "-r", result.as_str()];
-    let outcome = run_log(&rt, "homeless", INSERT_ONE_ROW.as_slice(), words.as_slice())?;
-    assert!(rt; outcome.is_refusal(1, "flashback: cannot create the result file\n"));
-    // the log is judged before the file is created
-    let outcome = run_log(&rt, "homeless", b"no log", words.as_slice())?;
-    assert!(rt; outcome.is_refusal(1, "flashback: NotABinlog at 0\n"));
-    Ok(())
+    check_uncreated(&rt, "homeless", result.as_str())
 }
 
 #[test]
 fn a_folder_is_no_result_file(rt: HostRuntime) -> Result<(), Fail> {
     let folder = env::temp_dir(&rt)?;
-    let words = ["-B", "-r", folder.as_str()];
-    let outcome = run_log(
-        &rt,
-        "in-folder",
-        INSERT_ONE_ROW.as_slice(),
-        words.as_slice(),
-    )?;
-    assert!(rt; outcome.is_refusal(1, "flashback: cannot create the result file\n"));
-    Ok(())
+    check_uncreated(&rt, "in-folder", folder.as_str())
 }
 
 #[test]
 fn a_full_device_is_a_failed_write(rt: HostRuntime) -> Result<(), Fail> {
     let words = ["-B", "-r", "/dev/full"];
-    let outcome = run_log(&rt, "overflow", INSERT_ONE_ROW.as_slice(), words.as_slice())?;
-    assert!(rt; outcome.is_refusal(1, "flashback: write failed\n"));
-    Ok(())
+    let line = "flashback: write failed\n";
+    check_log_refused(&rt, "overflow", INSERT_ONE_ROW.as_slice(), &words, line)
 }

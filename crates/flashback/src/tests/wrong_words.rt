@@ -1,99 +1,113 @@
 //! Words that ask for nothing.
 
-use super::{Outcome, run_given, run_words};
+use super::{check, check_refusal, run_given, run_words};
 use std::io;
-use std::process::{Abort, ExitCode};
 use std::test::Fail;
 
 const CHOOSE_ONE: &str = "flashback: choose one of -B, --forward, --summary\n";
 
 const SQL_OF_SUMMARY: &str = "flashback: --sql goes with -B or --forward\n";
 
-/// Nothing but the words was wrong: some text was printed, and nothing was written.
-pub fn assert_wrong_words(rt: &impl Abort, outcome: &Outcome) {
-    assert_eq!(rt; outcome.status, ExitCode::from(2));
-    assert!(rt; outcome.output().is_empty());
-    assert!(rt; !outcome.errors().is_empty());
-}
+/// Words that choose no mode, or several.
+static NOT_ONE_MODE: [&[&str]; 10] = [
+    &["a.binlog"],
+    &["-j", "4", "-r", "undo.binlog", "a.binlog"],
+    &["--sql", "a.binlog"],
+    &["-B", "--forward", "a.binlog"],
+    &["-B", "--summary", "a.binlog"],
+    &["--forward", "--summary", "a.binlog"],
+    &["-B", "--forward", "--summary", "a.binlog"],
+    &["--sql", "-B", "--forward", "a.binlog"],
+    &["-B", "--summary", "--sql", "a.binlog"],
+    &["--sql", "-B", "--forward", "--summary", "a.binlog"],
+];
 
 #[test]
 fn wants_exactly_one_mode(rt: HostRuntime) -> Result<(), Fail> {
-    let none = ["-j", "4", "-r", "undo.binlog", "a.binlog"];
-    for words in [
-        ["a.binlog"].as_slice(),
-        none.as_slice(),
-        &["--sql", "a.binlog"],
-        &["-B", "--forward", "a.binlog"],
-        &["-B", "--summary", "a.binlog"],
-        &["--forward", "--summary", "a.binlog"],
-        &["-B", "--forward", "--summary", "a.binlog"],
-        &["--sql", "-B", "--forward", "a.binlog"],
-        &["-B", "--summary", "--sql", "a.binlog"],
-        &["--sql", "-B", "--forward", "--summary", "a.binlog"],
-    ] {
-        assert!(rt; run_words(&rt, words)?.is_refusal(2, CHOOSE_ONE));
+    for words in &NOT_ONE_MODE {
+        check_refusal(&rt, words, 2, CHOOSE_ONE)?;
     }
     Ok(())
 }
+
+/// Words that ask for a summary as pseudo-SQL.
+static SUMMARIES: [&[&str]; 3] = [
+    &["--summary", "--sql", "a.binlog"],
+    &["--sql", "a.binlog", "--summary"],
+    &["--sql", "--summary", "-r", "undo.binlog", "a.binlog"],
+];
 
 #[test]
 fn a_summary_is_no_sql(rt: HostRuntime) -> Result<(), Fail> {
-    for words in [
-        ["--summary", "--sql", "a.binlog"].as_slice(),
-        &["--sql", "a.binlog", "--summary"],
-        &["--sql", "--summary", "-r", "undo.binlog", "a.binlog"],
-    ] {
-        assert!(rt; run_words(&rt, words)?.is_refusal(2, SQL_OF_SUMMARY));
+    for words in &SUMMARIES {
+        check_refusal(&rt, words, 2, SQL_OF_SUMMARY)?;
+    }
+    Ok(())
+}
+
+/// Words that the parser refuses.
+static WRONG: [&[&str]; 10] = [
+    &[],
+    &["-B"],
+    &["-B", "--no-such-word", "a.binlog"],
+    &["-B", "a.binlog", "b.binlog"],
+    &["-B", "-B", "a.binlog"],
+    &["-B", "-d", "d", "-d", "e", "a.binlog"],
+    &["-B", "a.binlog", "-r"],
+    &["--summary"],
+    &["-B", "--sql", "--sql", "a.binlog"],
+    &["-B", "--sql=true", "a.binlog"],
+];
+
+#[test]
+fn refuses_wrong_words(rt: HostRuntime) -> Result<(), Fail> {
+    for words in &WRONG {
+        let wrong = run_words(&rt, words)?.is_wrong();
+        assert!(rt; wrong, "{words:?}");
     }
     Ok(())
 }
 
 #[test]
-fn refuses_wrong_words(rt: HostRuntime) -> Result<(), Fail> {
-    assert_wrong_words(&rt, &run_words(&rt, &[])?);
-    assert_wrong_words(&rt, &run_words(&rt, &["-B"])?);
-    assert_wrong_words(&rt, &run_words(&rt, &["-B", "--no-such-word", "a.binlog"])?);
-    assert_wrong_words(&rt, &run_words(&rt, &["-B", "a.binlog", "b.binlog"])?);
-    assert_wrong_words(&rt, &run_words(&rt, &["-B", "-B", "a.binlog"])?);
-    assert_wrong_words(
-        &rt,
-        &run_words(&rt, &["-B", "-d", "d", "-d", "e", "a.binlog"])?,
-    );
-    assert_wrong_words(&rt, &run_words(&rt, &["-B", "a.binlog", "-r"])?);
-    assert_wrong_words(&rt, &run_words(&rt, &["--summary"])?);
-    assert_wrong_words(&rt, &run_words(&rt, &["-B", "--sql", "--sql", "a.binlog"])?);
-    assert_wrong_words(&rt, &run_words(&rt, &["-B", "--sql=true", "a.binlog"])?);
-    // what a word may hold comes before the count of modes
+fn what_a_word_may_hold_comes_before_the_count_of_modes(rt: HostRuntime) -> Result<(), Fail> {
     let outcome = run_words(&rt, &["--no-such-word"])?;
     assert!(rt; !outcome.is_refusal(2, CHOOSE_ONE));
     Ok(())
 }
 
+/// Words that are no position.
+static NO_POSITIONS: [&str; 12] = [
+    "x",
+    "",
+    "+4",
+    "-1",
+    "-0",
+    " 4",
+    "4 ",
+    "4_0",
+    "0x10",
+    "4.0",
+    "4294967296",
+    "18446744073709551620",
+];
+
+/// The word is refused as this option's value.
+fn check_no_position(rt: &HostRuntime, option: &str, word: &str) -> Result<(), Fail> {
+    let outcome = run_words(rt, &["-B", option, word, "a.binlog"])?;
+    check(outcome.is_wrong(), "outcome", &[option, word])?;
+    check(
+        str::from_utf8(outcome.errors())?.contains("invalid value"),
+        "errors",
+        &[option, word],
+    )?;
+    Ok(())
+}
+
 #[test]
 fn refuses_wrong_positions(rt: HostRuntime) -> Result<(), Fail> {
-    let wrong = [
-        "x",
-        "",
-        "+4",
-        "-1",
-        "-0",
-        " 4",
-        "4 ",
-        "4_0",
-        "0x10",
-        "4.0",
-        "4294967296",
-        "18446744073709551620",
-    ];
-    for word in wrong {
-        for option in ["-j", "--stop-position"] {
-            let outcome = run_words(&rt, &["-B", option, word, "a.binlog"])?;
-            assert_wrong_words(&rt, &outcome);
-            assert!(rt;
-                str::from_utf8(outcome.errors())?.contains("invalid value"),
-                "{word}"
-            );
-        }
+    for word in &NO_POSITIONS {
+        check_no_position(&rt, "-j", word)?;
+        check_no_position(&rt, "--stop-position", word)?;
     }
     Ok(())
 }

@@ -1,64 +1,81 @@
 //! What the words ask for.
 
 use super::{Asked, ModeFault, Task, WordsFault, read_words};
-use blog_flash::Mode;
-use std::process::Abort;
+use crate::tests::{check, words_of};
+use blog_flash::{Mode, Selection};
+use std::alloc::Global;
 use std::test::Fail;
 
-/// The words of a run, of which the first is the program's name.
-fn words_of(rt: &HostRuntime, words: &[&str]) -> Result<Vec<String>, Fail> {
-    let mut all = Vec::new(rt.alloc());
-    all.push(String::from_str(rt.alloc(), "flashback")?)?;
-    for word in words {
-        all.push(String::from_str(rt.alloc(), word)?)?;
+/// A run of this mode over a part of `a.binlog`, to standard output.
+fn part(mode: Mode, start: u32, stop: Option<u32>) -> Task<'static> {
+    Task {
+        mode,
+        selection: Selection {
+            start,
+            stop,
+            database: None,
+            table: None,
+        },
+        log: "a.binlog",
+        result_file: None,
     }
-    Ok(all)
 }
 
-/// The run that the words ask for.
-fn task_of<'w>(rt: &(impl Abort + AllocGlobal), words: &'w [String]) -> Task<'w> {
-    match read_words(rt.alloc(), rt.alloc(), words) {
-        Ok(Asked::Run(task)) => task,
-        _ => panic!(rt; "the words ask for no run"),
+/// Whether both mean the same changes.
+fn is_selection(found: &Selection<'_>, wanted: &Selection<'_>) -> bool {
+    found.start == wanted.start
+        && found.stop == wanted.stop
+        && found.database == wanted.database
+        && found.table == wanted.table
+}
+
+/// Whether both are one run.
+fn is_task(found: &Task<'_>, wanted: &Task<'_>) -> bool {
+    let mode = found.mode == wanted.mode;
+    let log = found.log == wanted.log;
+    let file = found.result_file == wanted.result_file;
+    let selection = is_selection(&found.selection, &wanted.selection);
+    mode && log && file && selection
+}
+
+/// Whether the words ask for this run.
+fn asks_for(alloc: Global, words: &[String], wanted: &Task<'_>) -> bool {
+    match read_words(alloc, alloc, words) {
+        Ok(Asked::Run(task)) => is_task(&task, wanted),
+        _ => false,
     }
 }
+
+/// These words ask for this run.
+fn check_task(rt: &HostRuntime, given: &[&str], wanted: &Task<'_>) -> Result<(), Fail> {
+    let words = words_of(rt, given)?;
+    let asked = asks_for(rt.alloc(), words.as_slice(), wanted);
+    check(asked, "another run", given)?;
+    Ok(())
+}
+
+/// Words that choose a mode of the whole log.
+static MODES: [(&[&str], Mode); 8] = [
+    (&["-B", "a.binlog"], Mode::Flashback),
+    (&["--flashback", "a.binlog"], Mode::Flashback),
+    (&["--forward", "a.binlog"], Mode::Forward),
+    (&["--summary", "a.binlog"], Mode::Summary),
+    (&["-B", "--sql", "a.binlog"], Mode::FlashbackSql),
+    (&["--sql", "a.binlog", "--flashback"], Mode::FlashbackSql),
+    (&["--forward", "--sql", "a.binlog"], Mode::ForwardSql),
+    (&["--sql", "--forward", "a.binlog"], Mode::ForwardSql),
+];
 
 #[test]
 fn a_mode_alone_means_the_whole_log(rt: HostRuntime) -> Result<(), Fail> {
-    let modes = [
-        ("-B", Mode::Flashback),
-        ("--flashback", Mode::Flashback),
-        ("--forward", Mode::Forward),
-        ("--summary", Mode::Summary),
-    ];
-    for (word, mode) in modes {
-        let words = words_of(&rt, &[word, "a.binlog"])?;
-        let task = task_of(&rt, words.as_slice());
-        assert_eq!(rt; task.mode, mode);
-        assert_eq!(rt; task.log, "a.binlog");
-        assert_eq!(rt; task.result_file, None);
-        assert_eq!(rt; task.selection.start, 4);
-        assert_eq!(rt; task.selection.stop, None);
-        assert_eq!(rt; task.selection.database, None);
-        assert_eq!(rt; task.selection.table, None);
+    for (given, mode) in &MODES {
+        check_task(&rt, given, &part(*mode, 4, None))?;
     }
     Ok(())
 }
 
 #[test]
 fn sql_goes_with_two_modes(rt: HostRuntime) -> Result<(), Fail> {
-    let modes = [
-        (["-B", "--sql", "a.binlog"], Mode::FlashbackSql),
-        (["--sql", "a.binlog", "--flashback"], Mode::FlashbackSql),
-        (["--forward", "--sql", "a.binlog"], Mode::ForwardSql),
-        (["--sql", "--forward", "a.binlog"], Mode::ForwardSql),
-    ];
-    for (given, mode) in modes {
-        let words = words_of(&rt, given.as_slice())?;
-        let task = task_of(&rt, words.as_slice());
-        assert_eq!(rt; task.mode, mode);
-        assert_eq!(rt; task.log, "a.binlog");
-    }
     let words = words_of(&rt, &["--summary", "--sql", "a.binlog"])?;
     let answer = read_words(rt.alloc(), rt.alloc(), words.as_slice());
     assert!(rt; matches!(answer, Err(WordsFault::Mode(ModeFault::SqlOfSummary))));
@@ -106,71 +123,96 @@ const LONG: [&str; 10] = [
 
 #[test]
 fn options_have_a_short_and_a_long_form(rt: HostRuntime) -> Result<(), Fail> {
-    for given in [SHORT.as_slice(), &ATTACHED, &LONG] {
-        let words = words_of(&rt, given)?;
-        let task = task_of(&rt, words.as_slice());
-        assert_eq!(rt; task.mode, Mode::Flashback);
-        assert_eq!(rt; task.log, "a.binlog");
-        assert_eq!(rt; task.result_file, Some("undo"));
-        assert_eq!(rt; task.selection.start, 160);
-        assert_eq!(rt; task.selection.stop, Some(232));
-        assert_eq!(rt; task.selection.database, Some(b"shop".as_slice()));
-        assert_eq!(rt; task.selection.table, Some(b"orders".as_slice()));
-    }
+    let wanted = Task {
+        mode: Mode::Flashback,
+        selection: Selection {
+            start: 160,
+            stop: Some(232),
+            database: Some(b"shop"),
+            table: Some(b"orders"),
+        },
+        log: "a.binlog",
+        result_file: Some("undo"),
+    };
+    check_task(&rt, &SHORT, &wanted)?;
+    check_task(&rt, &ATTACHED, &wanted)?;
+    check_task(&rt, &LONG, &wanted)?;
     Ok(())
+}
+
+/// Words that are positions.
+static POSITIONS: [(&str, u32); 4] = [
+    ("0", 0),
+    ("0004", 4),
+    ("4294967295", 4294967295),
+    ("00000000000232", 232),
+];
+
+/// The word is the position of a start, and of a stop.
+fn check_position(rt: &HostRuntime, word: &str, position: u32) -> Result<(), Fail> {
+    let from = part(Mode::Flashback, position, None);
+    check_task(rt, &["-B", "--start-position", word, "a.binlog"], &from)?;
+    let up_to = part(Mode::Flashback, 4, Some(position));
+    check_task(rt, &["-B", "--stop-position", word, "a.binlog"], &up_to)
 }
 
 #[test]
 fn positions_are_digits_alone(rt: HostRuntime) -> Result<(), Fail> {
-    for (word, position) in [
-        ("0", 0),
-        ("0004", 4),
-        ("4294967295", 4294967295),
-        ("00000000000232", 232),
-    ] {
-        let words = words_of(&rt, &["-B", "--start-position", word, "a.binlog"])?;
-        let selection = task_of(&rt, words.as_slice()).selection;
-        assert_eq!(rt;
-            (selection.start, selection.stop),
-            (position, None),
-            "{word}"
-        );
-        let words = words_of(&rt, &["-B", "--stop-position", word, "a.binlog"])?;
-        let selection = task_of(&rt, words.as_slice()).selection;
-        assert_eq!(rt;
-            (selection.start, selection.stop),
-            (4, Some(position)),
-            "{word}"
-        );
+    for (word, position) in &POSITIONS {
+        check_position(&rt, word, *position)?;
     }
     Ok(())
+}
+
+static NAMES: [&str; 8] = ["", " ", "-B", "--", "--help", "a=b", "`", "Käse"];
+
+/// The name of a schema, of a table and of a file is this word.
+fn check_name(rt: &HostRuntime, name: &str) -> Result<(), Fail> {
+    let wanted = Task {
+        mode: Mode::Flashback,
+        selection: Selection {
+            start: 4,
+            stop: None,
+            database: Some(name.as_bytes()),
+            table: Some(name.as_bytes()),
+        },
+        log: "a.binlog",
+        result_file: Some(name),
+    };
+    check_task(
+        rt,
+        &["-B", "-d", name, "-T", name, "-r", name, "a.binlog"],
+        &wanted,
+    )
 }
 
 #[test]
 fn names_are_the_bytes_of_their_words(rt: HostRuntime) -> Result<(), Fail> {
-    for name in ["", " ", "-B", "--", "--help", "a=b", "`", "Käse"] {
-        let words = words_of(&rt, &["-B", "-d", name, "-T", name, "-r", name, "a.binlog"])?;
-        let task = task_of(&rt, words.as_slice());
-        assert_eq!(rt; task.selection.database, Some(name.as_bytes()));
-        assert_eq!(rt; task.selection.table, Some(name.as_bytes()));
-        assert_eq!(rt; task.result_file, Some(name));
+    for name in &NAMES {
+        check_name(&rt, name)?;
     }
     Ok(())
 }
 
+/// Words that the parser refuses, whatever mode they choose.
+static WRONG: [&[&str]; 5] = [
+    &["-j", "x", "a.binlog"],
+    &["--forward", "-B", "--no-such-word"],
+    &["--stop-position", "+4", "a.binlog"],
+    &["--summary", "--sql"],
+    &["--summary", "--sql", "-j", "x", "a.binlog"],
+];
+
+/// Whether the parser refuses these words.
+fn is_refused(alloc: Global, words: &[String]) -> bool {
+    matches!(read_words(alloc, alloc, words), Err(WordsFault::Wrong(_)))
+}
+
 #[test]
 fn what_the_parser_refuses_comes_before_the_mode(rt: HostRuntime) -> Result<(), Fail> {
-    let cases = [
-        ["-j", "x", "a.binlog"].as_slice(),
-        &["--forward", "-B", "--no-such-word"],
-        &["--stop-position", "+4", "a.binlog"],
-        &["--summary", "--sql"],
-        &["--summary", "--sql", "-j", "x", "a.binlog"],
-    ];
-    for given in cases {
+    for given in &WRONG {
         let words = words_of(&rt, given)?;
-        let answer = read_words(rt.alloc(), rt.alloc(), words.as_slice());
-        assert!(rt; matches!(answer, Err(WordsFault::Wrong(_))));
+        assert!(rt; is_refused(rt.alloc(), words.as_slice()));
     }
     Ok(())
 }

@@ -1,4 +1,4 @@
-use Rattle.std.proofs.Common.{◌≡◌, ◌<◌, ◌∙◌, [], List, ℕ, length, take, unwrap_or, sym, ap, arith, None, Some}
+use Rattle.std.proofs.Common.{◌≡◌, ◌<◌, ◌∙◌, [], length, take, unwrap_or, sym, ap, arith, None, Some}
 use Rattle.std.proofs.lemmas.Grind.{common_steps}
 use Rattle.blog_row.specs.Image.{image_len_of, images_of}
 use Rattle.blog_row.specs.LayoutView.{layout_columns}

@@ -1,4 +1,4 @@
-use Rattle.std.proofs.Common.{◌≡◌, ◌<◌, length, arith, length-set}
+use Rattle.std.proofs.Common.{◌<◌, length, arith, length-set}
 use Rattle.blog_row.proofs.StorageWalking.{looked_up_none, looked_up_more, looked_up_all}
 use Rattle.blog_row.proofs.storages.storages_of.Goals as goal
 

@@ -1,4 +1,5 @@
 use Rattle.std.proofs.Common.{◌∙◌, inr}
+use Rattle.std.proofs.lemmas.Result.{err_from_is_err_and}
 use Rattle.blog_event.specs.LogView.{log_bytes}
 use Rattle.blog_event.proofs.Opened.{log-opened}
 use Rattle.blog_trans.specs.Selection.{selection_of}
@@ -10,34 +11,26 @@ use Rattle.blog_trans.proofs.builder.index_from.Goals as goal
 pub walk-requires-clause-walks : goal.walk-requires-clause-walks
 walk-requires-clause-walks g c = c.new-builder.ensures.walks (selection_of c.args.sel.now)
 
-pub returns-in-Err-clause-refused : goal.returns-in-Err-clause-refused
-returns-in-Err-clause-refused g c =
-    walk-refused (log_bytes c.args.log.now) (selection_of c.args.sel.now) c.in-Err.fault (log-opened c.args.log.now) c.in-Err.ensures.through
+pub returns-in_err-at-clause-refused : goal.returns-in_err-at-clause-refused
+returns-in_err-at-clause-refused g c =
+    let exit = err_from_is_err_and c.from_residual.result c.from_residual.ensures.1 in
+    rw (exit.1, exit.2) (walk-refused (log_bytes c.args.log.now) (selection_of c.args.sel.now) c.in_err-at.field-0.0 (log-opened c.args.log.now) c.in_err-at.ensures.through)
 
 pub returns-in-Some-clause-refused : goal.returns-in-Some-clause-refused
 returns-in-Some-clause-refused g c =
-    inr (end-is-fault (log_bytes c.args.log.now) (selection_of c.args.sel.now) c.end.result c.in-Ok.at c.walk.new.builder c.end_fault.result (log-opened c.args.log.now) c.end.ensures.len c.in-Ok.ensures.through c.end_fault.ensures
+    inr (end-is-fault (log_bytes c.args.log.now) (selection_of c.args.sel.now) c.end.result c.in_ok-at.at c.walk.new.builder c.end_fault.result (log-opened c.args.log.now) c.end.ensures.len c.in_ok-at.ensures.through c.end_fault.ensures
     ∙ c.in-Some.is)
 
-pub new-requires-clause-accepted : goal.new-requires-clause-accepted
-new-requires-clause-accepted g c =
-    end-is-fault (log_bytes c.args.log.now) (selection_of c.args.sel.now) c.end.result c.in-Ok.at c.walk.new.builder c.end_fault.result (log-opened c.args.log.now) c.end.ensures.len c.in-Ok.ensures.through c.end_fault.ensures
-    ∙ c.in_default.is
-
-pub new-requires-clause-kept : goal.new-requires-clause-kept
-new-requires-clause-kept g c =
-    (keeps-groups (log_bytes c.args.log.now) (selection_of c.args.sel.now) c.in-Ok.at c.walk.new.builder c.in-Ok.ensures.through
-    (end-is-fault (log_bytes c.args.log.now) (selection_of c.args.sel.now) c.end.result c.in-Ok.at c.walk.new.builder c.end_fault.result (log-opened c.args.log.now) c.end.ensures.len c.in-Ok.ensures.through c.end_fault.ensures
-    ∙ c.in_default.is)).lists.shows
-
-pub new-requires-clause-counted : goal.new-requires-clause-counted
-new-requires-clause-counted g c =
-    (keeps-groups (log_bytes c.args.log.now) (selection_of c.args.sel.now) c.in-Ok.at c.walk.new.builder c.in-Ok.ensures.through
-    (end-is-fault (log_bytes c.args.log.now) (selection_of c.args.sel.now) c.end.result c.in-Ok.at c.walk.new.builder c.end_fault.result (log-opened c.args.log.now) c.end.ensures.len c.in-Ok.ensures.through c.end_fault.ensures
-    ∙ c.in_default.is)).counts
+pub new-requires : goal.new-requires
+new-requires g c =
+    let bytes = log_bytes c.args.log.now in
+    let sel = selection_of c.args.sel.now in
+    let accepted = end-is-fault bytes sel c.end.result c.in_ok-at.at c.walk.new.builder c.end_fault.result (log-opened c.args.log.now) c.end.ensures.len c.in_ok-at.ensures.through c.end_fault.ensures ∙ c.in_default.is in
+    let keeps = keeps-groups bytes sel c.in_ok-at.at c.walk.new.builder c.in_ok-at.ensures.through accepted in
+    record { accepted = accepted; kept = keeps.lists.shows; counted = keeps.counts }
 
 pub returns-clause-shown : goal.returns-clause-shown
 returns-clause-shown g c =
     shows-each-once (log_bytes c.args.log.now) (selection_of c.args.sel.now)
-    (end-is-fault (log_bytes c.args.log.now) (selection_of c.args.sel.now) c.end.result c.in-Ok.at c.walk.new.builder c.end_fault.result (log-opened c.args.log.now) c.end.ensures.len c.in-Ok.ensures.through c.end_fault.ensures
+    (end-is-fault (log_bytes c.args.log.now) (selection_of c.args.sel.now) c.end.result c.in_ok-at.at c.walk.new.builder c.end_fault.result (log-opened c.args.log.now) c.end.ensures.len c.in_ok-at.ensures.through c.end_fault.ensures
     ∙ c.in_default.is)

@@ -1,4 +1,5 @@
 use Rattle.std.proofs.Common.{◌≡◌, ◌∙◌, ◌∷◌, ◌&&◌, ◌==◌, not, None, true, false, ◌+◌, ℕ, ap, sym, subst, length, arith, inl, inr, Some, drop, option_map}
+use Rattle.std.proofs.lemmas.Result.{err_from_is_err_and}
 use Rattle.blog_event.specs.Event.{event_of, event_at, event_size}
 use Rattle.blog_event.specs.File.{Placed, is_below}
 use Rattle.blog_event.specs.LogView.{log_bytes}
@@ -29,18 +30,18 @@ returns-in_default g c =
     let below : is_below c.events.at sel.stop ≡ true = sym c.is_below.ensures ∙ c.events-test.true in
     record { through = inr (left-cut (log_bytes c.args.log.now) sel c.events.at c.events.builder c.events.invariant.left (inr (sym c.in_default.ensures.event)) (below-the-end _ _ below (λ e. omega (arith, e, c.if-at-end.true, c.end.ensures.len)))) }
 
-pub returns-in-Err : goal.returns-in-Err
-returns-in-Err g c =
+pub returns-in_err-read : goal.returns-in_err-read
+returns-in_err-read g c =
     let sel = selection_of c.args.sel.now in
-    let bytes = log_bytes c.args.log.now in
     let l = c.events.invariant.left in
     let e = event_of c.in-Ok.event in
     let below : is_below c.events.at sel.stop ≡ true = sym c.is_below.ensures ∙ c.events-test.true in
     let at : placed c.in-Ok.event ≡ record { pos = c.events.at; event = e } = ap (λ (n : ℕ). record { pos = n; event = e }) c.in-Ok.ensures.pos in
-    record {
-      through = left-refused bytes sel c.events.at c.events.builder l e below (sym c.in-Ok.ensures.event) c.in-Err.fault
-          (subst (λ (p : Placed). IsRefusal (read_fault sel l.earlier p) c.in-Err.fault) at (c.in-Err.ensures.walks l.earlier l.walks));
-    }
+    let exit = err_from_is_err_and c.from_residual.result c.from_residual.ensures.1 in
+    rw (exit.1, exit.2) (record {
+      through = left-refused (log_bytes c.args.log.now) sel c.events.at c.events.builder l e below (sym c.in-Ok.ensures.event) c.in_err-read.field-0.0
+          (subst (λ (p : Placed). IsRefusal (read_fault sel l.earlier p) c.in_err-read.field-0.0) at (c.in_err-read.ensures.walks l.earlier l.walks));
+    })
 
 pub events-preserved : goal.events-preserved
 events-preserved g c =
@@ -51,13 +52,13 @@ events-preserved g c =
     let below : is_below c.events.at sel.stop ≡ true = sym c.is_below.ensures ∙ c.events-test.true in
     let stands : event_at (drop c.events.at bytes) ≡ Some e = sym c.in-Ok.ensures.event in
     let at : placed c.in-Ok.event ≡ record { pos = c.events.at; event = e } = ap (λ (n : ℕ). record { pos = n; event = e }) c.in-Ok.ensures.pos in
-    let read = c.in-Ok-read.ensures.walks l.earlier l.walks in
+    let read = c.in_ok-read.ensures.walks l.earlier l.walks in
     record {
       left = left-on bytes sel c.events.at c.events.builder l e below stands c.read.new.builder _ (ap (λ (n : ℕ). c.events.at + n) (sym c.in-Ok.ensures.size))
           (ap (read_fault sel l.earlier) (sym at) ∙ read.0) (subst (λ (p : Placed). HasTaken sel (range sel (p ∷ l.earlier)) c.read.new.builder) at read.1);
       behind = omega (arith, c.events.invariant.behind);
       inside = c.in-Ok.ensures.within;
-      few = within-more c.read.new.builder _ _ (omega (arith, c.in-Ok.ensures.pos, c.in-Ok.ensures.size)) c.in-Ok-read.ensures.within;
+      few = within-more c.read.new.builder _ _ (omega (arith, c.in-Ok.ensures.pos, c.in-Ok.ensures.size)) c.in_ok-read.ensures.within;
     }
 
 pub returns-else-at-end : goal.returns-else-at-end

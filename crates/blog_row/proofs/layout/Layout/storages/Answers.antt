@@ -1,4 +1,4 @@
-use Rattle.std.proofs.Common.{◌≡◌, ℕ, length, take, arith, sym, subst}
+use Rattle.std.proofs.Common.{ℕ, take, arith, sym, subst}
 use Rattle.blog_row.specs.LayoutView.{layout_columns}
 use Rattle.blog_row.specs.StorageView.{AreStored}
 use Rattle.blog_row.proofs.Layouts.{length_of_columns}

@@ -18,8 +18,8 @@ use Rattle.blog_trans.proofs.CheckingMaps.{map-id}
 use Rattle.blog_trans.proofs.Checking.{or-bad-some, new-facts, knows-map-seen, knows-map-new, map-fault-named}
 use Rattle.blog_trans.proofs.checker.Checker.take_map.Goals as goal
 
-pub returns-in-Ok-insert-clause-checked : goal.returns-in-Ok-insert-clause-checked
-returns-in-Ok-insert-clause-checked g c = λ earlier h.
+pub returns-in_ok-insert-clause-checked : goal.returns-in_ok-insert-clause-checked
+returns-in_ok-insert-clause-checked g c = λ earlier h.
     let sel : Selection = selection_of c.args.sel.now in
     let e = event_of c.args.event.now in
     let p : Placed = record { pos = c.args.event.now.pos; event = e } in
@@ -40,8 +40,8 @@ returns-in-Ok-insert-clause-checked g c = λ earlier h.
     let number = subst (λ t. IfSome v.table (λ x. slice_get (tables_known layouts) x.number ≡ Some t)) name c.in_ok-table.ensures.number in
     let last = new-facts sel p (since earlier) c.id.result v c.requires.kind h.passed new (c.id.ensures ∙ id.1) refl refl columns.0 refl in (
       fault,
-      knows-map-new sel p earlier c.args.self.now _ c.id.result v c.requires.kind passed compared.0 new refl refl
-          (c.in-Ok-insert.ensures.entries ∙ insert_entry-new nat_eq c.args.self.now.maps c.id.result v none) columns.3 c.in_ok-table.ensures.grown (new-numbered (tables_known layouts) v n names number refl) last h,
+      knows-map-new sel p earlier c.args.self.now _ c.requires.kind passed compared.0 refl refl columns.3 c.in_ok-table.ensures.grown h c.id.result v new
+          (c.in_ok-insert.ensures.entries ∙ insert_entry-new nat_eq c.args.self.now.maps c.id.result v none) (new-numbered (tables_known layouts) v n names number refl) last,
     )
 
 pub returns-else-first-clause-checked : goal.returns-else-first-clause-checked
@@ -60,5 +60,5 @@ returns-else-first-clause-checked g c = λ earlier h.
     let fault : event_fault sel earlier p ≡ None = map-fault-named sel p earlier n false c.requires.kind inside names compared.0 ∙ columns.2 in
     let there : list_any (is_map_of (table_id e.body)) (since earlier) ≡ true = compared.1 ∙ ap not c.if-first.false in (
       fault,
-      knows-map-seen sel p earlier c.args.self.now _ c.requires.kind passed compared.0 there refl refl refl columns.3 c.in_ok-table.ensures.grown h,
+      knows-map-seen sel p earlier c.args.self.now _ c.requires.kind passed compared.0 refl refl columns.3 c.in_ok-table.ensures.grown h there refl,
     )

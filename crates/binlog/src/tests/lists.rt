@@ -1,0 +1,136 @@
+//! Runs of `list`.
+
+use super::logs::{PLAIN, SUMMED, UNITS};
+use super::{Outcome, path_of, run_log, run_words};
+use std::process::{Abort, ExitCode};
+use std::test::Fail;
+
+const HEADER: &str = "     start       stop  time (UTC)           rows\n";
+
+const INSERT: &str = "       120        259  1970-01-01 00:00:00  `d`.`t` inserts 1\n";
+
+const DROP: &str = "       259        305  1970-01-01 00:00:00  Statement at 259: DROP TABLE t\n";
+
+/// Whether the run listed these lines and the last one below the header, and printed nothing.
+fn lists(rt: &HostRuntime, words: &[&str], lines: &[&str]) -> Result<(), Fail> {
+    let outcome = run_log(rt, "lists", UNITS.as_slice(), words)?;
+    let mut text = String::from_str(rt.alloc(), HEADER)?;
+    for line in lines {
+        text.push_str(line)?;
+    }
+    if outcome.is_done(text.as_bytes()) {
+        Ok(())
+    } else {
+        Err(Fail::new(format_args!("{words:?}")))
+    }
+}
+
+#[test]
+fn units_are_listed(rt: HostRuntime) -> Result<(), Fail> {
+    let all = [INSERT, DROP, "units 2, not undoable 1, rows 1\n"];
+    let insert = [INSERT, "units 1, not undoable 0, rows 1\n"];
+    let drop = [DROP, "units 1, not undoable 1, rows 0\n"];
+    lists(&rt, &["list"], &all)?;
+    lists(&rt, &["list", "-d", "d", "-T", "t"], &all)?;
+    lists(&rt, &["list", "--database", "d", "--table", "u"], &drop)?;
+    lists(&rt, &["list", "-j", "121"], &drop)?;
+    lists(&rt, &["list", "--start-position", "120"], &all)?;
+    lists(&rt, &["list", "--stop-position", "259"], &insert)?;
+    lists(
+        &rt,
+        &["list", "--start-datetime", "1970-01-01 00:00:00"],
+        &all,
+    )?;
+    let last = ["units 0, not undoable 0, rows 0\n"];
+    lists(
+        &rt,
+        &["list", "--stop-datetime", "1970-01-01 00:00:00"],
+        &last,
+    )
+}
+
+#[test]
+fn units_are_listed_as_json(rt: HostRuntime) -> Result<(), Fail> {
+    let text =
+        b"{\"start\":259,\"stop\":305,\"time\":\"1970-01-01 00:00:00\",\"gtid\":null,\"fault\":\"Statement\",\"position\":259,\"statement\":\"DROP TABLE t\"}
+{\"units\":1,\"not_undoable\":1,\"rows\":0}
+";
+    let words = ["list", "--json", "-j", "121"];
+    let outcome = run_log(&rt, "json", UNITS.as_slice(), words.as_slice())?;
+    assert!(rt; outcome.is_done(text.as_slice()));
+    Ok(())
+}
+
+/// Whether the run listed the insert and printed a line that begins so.
+fn has_listed(outcome: &Outcome, line: &str) -> bool {
+    outcome.status == ExitCode::FAILURE
+        && outcome.output().starts_with(HEADER.as_bytes())
+        && outcome.output().ends_with(b", rows 1\n")
+        && outcome.errors().starts_with(line.as_bytes())
+        && outcome.errors().ends_with(b"\n")
+}
+
+#[test]
+fn a_log_that_ends_early_is_listed_and_told(rt: HostRuntime) -> Result<(), Fail> {
+    let outcome = run_log(&rt, "cut", &UNITS[..304], &["list"])?;
+    assert!(rt;
+        has_listed(
+            &outcome,
+            "binlog: CutEvent at 259: the log ends inside an event: "
+        )
+    );
+    let outcome = run_log(&rt, "unended", &UNITS[..232], &["list"])?;
+    assert_eq!(rt; outcome.status, ExitCode::FAILURE);
+    assert!(rt;
+        outcome
+            .output()
+            .ends_with(b"units 1, not undoable 1, rows 0\n")
+    );
+    let line = b"binlog: Unended at 232: the log ends inside a transaction: ";
+    assert!(rt; outcome.errors().starts_with(line));
+    Ok(())
+}
+
+#[test]
+fn logs_that_are_not_listed_are_told(rt: HostRuntime) -> Result<(), Fail> {
+    let outcome = run_log(&rt, "sums", SUMMED.as_slice(), &["list"])?;
+    let line =
+        "binlog: Checksums at 4: the log has checksums: make a plain copy, binlog plain LOG -r FILE, ";
+    assert!(rt; outcome.is_refusal(1, line));
+    let outcome = run_log(&rt, "no-log", b"no log", &["list"])?;
+    assert!(rt; outcome.is_refusal(1, "binlog: NotABinlog at 0: "));
+    let absent = path_of(&rt, "unlisted")?;
+    let outcome = run_words(&rt, &["list", absent.as_str()])?;
+    assert!(rt; outcome.is_refusal(1, "binlog: cannot open the log /"));
+    let outcome = run_log(&rt, "no-units", PLAIN.as_slice(), &["list", "--json"])?;
+    assert!(rt; outcome.is_done(b"{\"units\":0,\"not_undoable\":0,\"rows\":0}\n"));
+    Ok(())
+}
+
+#[test]
+fn wrong_values_end_in_two(rt: HostRuntime) -> Result<(), Fail> {
+    let cases = [
+        (
+            ["list", "--start-datetime", "2026-11-23", "a"],
+            "error: invalid value '2026-11-23' for '--start-datetime <TIME>': not a time: ",
+        ),
+        (
+            ["list", "--stop-datetime", "", "a"],
+            "error: invalid value '' for '--stop-datetime <TIME>': not a time: ",
+        ),
+        (
+            ["list", "-j", "+4", "a"],
+            "error: invalid value '+4' for '--start-position <POS>': not a position: ",
+        ),
+        (
+            ["list", "--stop-position", "4294967296", "a"],
+            "error: invalid value '4294967296' for '--stop-position <POS>': not a position: ",
+        ),
+        (["list", "--force", "-j", "4"], "error: "),
+    ];
+    for (words, line) in cases {
+        let outcome = run_words(&rt, words.as_slice())?;
+        assert!(rt; outcome.is_refusal(2, line), "{words:?}");
+    }
+    Ok(())
+}

@@ -1,0 +1,69 @@
+-- What is told of a rows event of a statement: how long what is written for it is, and its table id.
+use Rattle.std.proofs.Common.{◌≡◌, ℕ, ◌+◌, ◌≤◌, Bool, true, length, length-append, arith, Option, Some, IfSome, option_map, sym, ap, ap₂, subst, ◌∙◌, take_at, refl}
+use Rattle.std.proofs.lemmas.Option.{same_Some}
+use Rattle.blog_event.specs.declared.event.Event as told
+use Rattle.blog_event.specs.Event.{event_size}
+use Rattle.blog_event.specs.File.{Placed}
+use Rattle.blog_row.specs.declared.kind.RowsKind.{RowsKind}
+use Rattle.blog_row.specs.declared.order.Order.TheVariants.{Forward}
+use Rattle.blog_row.specs.declared.rows_event.RowsEvent as seen
+use Rattle.blog_row.specs.RowsEvent.{RowsBody, table_id}
+use Rattle.blog_row.specs.RowsEventView.{rows_kind, rows_body, rows_content}
+use Rattle.blog_row.specs.RowsWriting.{content_of, content_in, written_body}
+use Rattle.blog_trans.specs.Groups.{PlacedRows, rows_value}
+use Rattle.blog_trans.specs.declared.groups.Index.{Index}
+use Rattle.blog_trans.specs.IndexView.{Stands, placed, index_bytes, index_groups, index_selection, rows_at, rows_place}
+use Rattle.blog_trans.proofs.IndexFacts.{rows_read}
+use Rattle.blog_flash.specs.LaidOut.{written_rows}
+use Rattle.blog_flash.specs.Texts.{rows_event}
+use Rattle.blog_flash.proofs.Source.{fields-found}
+use Rattle.blog_split.specs.Greedy.{HasLength}
+use Rattle.blog_split.proofs.Between.{some-from}
+
+-- a rows event as it was read
+pub record IsTold (x : PlacedRows) (e : told.Event) (r : seen.RowsEvent) : Type 0 where
+  pub event : x.event ≡ placed e
+  pub kind : x.kind ≡ rows_kind r
+  pub body : x.body ≡ rows_body r
+
+-- by what the index tells
+pub told-by : (o : Option PlacedRows) (x : PlacedRows) (e : told.Event) (r : seen.RowsEvent) → o ≡ Some x → option_map (λ x. x.event) o ≡ Some (placed e)
+    → IfSome o (λ x. x.kind ≡ rows_kind r) → IfSome o (λ x. x.body ≡ rows_body r) → IsTold x e r
+told-by o x e r is event kind body = record {
+  event = same_Some x.event (placed e) (sym (ap (option_map (λ x. x.event)) is) ∙ event);
+  kind = subst (λ (p : Option PlacedRows). IfSome p (λ x. x.kind ≡ rows_kind r)) is kind;
+  body = subst (λ (p : Option PlacedRows). IfSome p (λ x. x.body ≡ rows_body r)) is body;
+}
+
+-- how long it is
+pub length-told : (x : PlacedRows) (r : seen.RowsEvent) (len : ℕ) → x.kind ≡ rows_kind r → x.body ≡ rows_body r → len ≡ length (written_body true (content_in Forward (rows_content r)))
+    → HasLength x len
+length-told x r len kind body long =
+    ap (λ (n : ℕ). 19 + n) (ap₂ (λ (k : RowsKind) (b : RowsBody). length (written_body true (content_of k b))) kind body ∙ sym long)
+
+-- what is written for it
+pub row-told : (x : PlacedRows) (e : told.Event) (r : seen.RowsEvent) (last : Bool) → IsTold x e r → rows_event last (rows_value x) ≡ written_rows Forward last e r
+row-told x e r last h =
+    ap (λ (p : Placed). rows_event last (rows_value (record { event = p; map = x.map; kind = x.kind; body = x.body }))) h.event
+    ∙ ap₂ (λ (k : RowsKind) (b : RowsBody). rows_event last (rows_value (record { event = placed e; map = x.map; kind = k; body = b }))) h.kind h.body
+
+-- how long that is
+pub size-told : (e : told.Event) (r : seen.RowsEvent) (last : Bool) (len : ℕ) → len ≡ length (written_body last (content_in Forward (rows_content r)))
+    → event_size (written_rows Forward last e r) ≡ 19 + len
+size-told e r last len long = ap (λ (n : ℕ). 19 + n) (sym long)
+
+-- the table id with which its body begins is its own
+pub id-told : {A : Type 0} (index : Index A) (t s r : ℕ) (x : PlacedRows) → rows_at (index_groups index) t s r ≡ Some x → table_id x.event.event.body ≡ x.body.id
+id-told index t s r x is =
+    let groups = index_groups index in
+    let (p, read, entry) = rows_read index t s r (rows_place groups t s + r) (some-from (rows_at groups t s r) x is) refl in
+    let fields = fields-found (Stands (index_bytes index)) (index_selection index) entry.maps p entry.known in
+    subst (λ (q : PlacedRows). table_id q.event.event.body ≡ q.body.id) (same_Some p x (sym read ∙ is)) (ap table_id fields.text ∙ take_at p.body.id _ 6 fields.id_len)
+
+-- its body has one
+pub long-told : {A : Type 0} (index : Index A) (t s r : ℕ) (x : PlacedRows) → rows_at (index_groups index) t s r ≡ Some x → 6 ≤ length x.event.event.body
+long-told index t s r x is =
+    let groups = index_groups index in
+    let (p, read, entry) = rows_read index t s r (rows_place groups t s + r) (some-from (rows_at groups t s r) x is) refl in
+    let fields = fields-found (Stands (index_bytes index)) (index_selection index) entry.maps p entry.known in
+    subst (λ (q : PlacedRows). 6 ≤ length q.event.event.body) (same_Some p x (sym read ∙ is)) (omega (arith, ap length fields.text, length-append p.body.id, fields.id_len))

@@ -1,0 +1,17 @@
+//! A log with the same changes in statements of bounded size.
+#![tactic(auto)]
+
+mod cut_events;
+mod cut_log;
+mod fault;
+mod laws;
+mod most;
+mod piece_ends;
+mod sizes;
+mod used_maps;
+mod written_cut;
+
+pub use cut_log::split;
+pub use fault::{SplitFault, SplitRunFault};
+pub use laws::{split_keeps_changes, split_of_small_is_normal};
+pub use written_cut::{split_by_chunks, split_to};
