@@ -15,4 +15,4 @@ mod writing;
 pub use devices::Watched;
 pub use fault::RunFault;
 pub use reading::read_log;
-pub use writing::{put, put_part};
+pub use writing::{make_room, put, put_part};

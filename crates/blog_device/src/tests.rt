@@ -1,7 +1,7 @@
 //! Loops over devices that move 1, 7 or all bytes a call, and that fail at each of their calls.
 
 use crate::reading::read_up_to;
-use crate::{RunFault, Watched, put, read_log};
+use crate::{RunFault, Watched, make_room, put, read_log};
 use blog_event::Fault;
 use std::process::Abort;
 use std::test::Fail;
@@ -223,5 +223,22 @@ fn bytes_of_several_reads_go_through_memory(rt: HostRuntime) -> Result<(), Fail>
     assert_eq!(rt; put(&mut writer, &read), Ok(()));
     assert_eq!(rt; writer.device().as_slice(), bytes.as_slice());
     assert!(rt; !reader.failed() && !limited.failed() && !writer.failed());
+    Ok(())
+}
+
+#[test]
+fn a_chunk_is_written_where_more_does_not_fit(rt: HostRuntime) -> Result<(), Fail> {
+    let mut chunk = TEXT.to_vec(rt.alloc())?;
+    let room = chunk.capacity();
+    let mut writer = Watched::new(SlowWriter::new(&rt, ALL, Failure::Never));
+    let from = make_room(&mut writer, &mut chunk, 100, room)
+        .ok()
+        .ok_or("not written")?;
+    assert_eq!(rt; from, 116);
+    assert_eq!(rt; writer.device().taken.as_slice(), TEXT);
+    assert!(rt; chunk.is_empty());
+
+    assert_eq!(rt; make_room(&mut writer, &mut chunk, from, room), Ok(116));
+    assert_eq!(rt; writer.device().calls, 1);
     Ok(())
 }

@@ -23,6 +23,3 @@ pub use laws::{
 pub use log::{Log, format_description};
 pub use reading::{HEADER_LEN, event_at};
 pub use writing::{open_event, open_event_from, put_event, put_event_from};
-
-#[cfg(test)]
-mod tests;

@@ -10,10 +10,10 @@ use Rattle.blog_event.specs.Event.{Event}
 use Rattle.blog_event.specs.File.{Placed, placed_from, read}
 use Rattle.blog_row.specs.Column.{Layout, types_of, metadata_of}
 use Rattle.blog_row.specs.TableMap.{Table, Names, names_of, layout_of, is_same_layout}
-use Rattle.blog_trans.specs.declared.kind.EventKind.{EventKind}
-use Rattle.blog_trans.specs.declared.kind.EventKind.TheVariants as kind
+use Rattle.blog_row.specs.declared.event_kinds.EventKind.{EventKind}
+use Rattle.blog_row.specs.declared.event_kinds.EventKind.TheVariants as kind
+use Rattle.blog_row.specs.Kinds.{is_map_kind}
 use Rattle.blog_trans.specs.Selection.{Selection}
-use Rattle.blog_trans.specs.Kinds.{is_map_kind}
 use Rattle.blog_trans.specs.Places.{kind_at, is_map, place, is_inside, since}
 use Rattle.blog_trans.specs.Acceptance.{is_selected, is_same_table, clashes_by_id, clashes_by_layout, selected_map_checks, event_fault, range, IsAccepted, Passes}
 use Rattle.blog_trans.specs.Groups.{event_value}

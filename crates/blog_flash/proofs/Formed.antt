@@ -6,8 +6,8 @@ use Rattle.blog_row.specs.Column.{Layout}
 use Rattle.blog_row.specs.TableMap.{Names, names_of, layout_of, is_same_layout}
 use Rattle.blog_row.specs.RowsEvent.{table_id}
 use Rattle.blog_row.proofs.ReversedRows.{IsContent}
-use Rattle.blog_trans.specs.declared.kind.EventKind.TheVariants as kind
-use Rattle.blog_trans.specs.Kinds.{kind_of, is_map_kind}
+use Rattle.blog_row.specs.declared.event_kinds.EventKind.TheVariants as kind
+use Rattle.blog_row.specs.Kinds.{kind_of, is_map_kind}
 use Rattle.blog_trans.specs.Acceptance.{is_same_table}
 use Rattle.blog_trans.specs.Groups.{RowsEvent, Statement, Transaction}
 

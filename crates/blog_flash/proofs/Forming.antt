@@ -15,8 +15,8 @@ use Rattle.blog_row.specs.RowsWriting.{written_fields, written_body}
 use Rattle.blog_row.specs.Column.{Layout}
 use Rattle.blog_row.proofs.Layouts.{layout_some}
 use Rattle.blog_row.proofs.ReversedRows.{all-append, all-reverse, reversed-is}
-use Rattle.blog_trans.specs.declared.kind.EventKind.TheVariants as kind
-use Rattle.blog_trans.specs.Kinds.{kind_of}
+use Rattle.blog_row.specs.declared.event_kinds.EventKind.TheVariants as kind
+use Rattle.blog_row.specs.Kinds.{kind_of}
 use Rattle.blog_trans.specs.Acceptance.{rows_under, rows_by_map}
 use Rattle.blog_trans.specs.Groups.{RowsEvent, Statement, Transaction}
 use Rattle.blog_flash.specs.Reversal.{reversed_rows, reversed_statement, reversed_transaction, reversed}

@@ -8,11 +8,11 @@ use Rattle.blog_event.specs.Event.{Event, event_size, unplaced}
 use Rattle.blog_event.specs.File.{Placed, end_of}
 use Rattle.blog_row.specs.TableMap.{names_of, layout_of, is_same_layout}
 use Rattle.blog_row.specs.RowsEvent.{table_id, has_end_flag}
-use Rattle.blog_trans.specs.declared.kind.EventKind.{EventKind}
-use Rattle.blog_trans.specs.declared.kind.EventKind.TheVariants as kind
+use Rattle.blog_row.specs.declared.event_kinds.EventKind.{EventKind}
+use Rattle.blog_row.specs.declared.event_kinds.EventKind.TheVariants as kind
+use Rattle.blog_row.specs.Kinds.{is_map_kind}
 use Rattle.blog_trans.specs.declared.place.Place.TheVariants.{Outside, Inside}
 use Rattle.blog_trans.specs.Selection.{all}
-use Rattle.blog_trans.specs.Kinds.{is_map_kind}
 use Rattle.blog_trans.specs.Places.{kind_at, is_begin, is_map, is_last_rows, leads_to, place, since, map_in}
 use Rattle.blog_trans.specs.Acceptance.{is_same_table, are_of_same_table, have_same_layout, clashes_by_id, clashes_by_layout, event_fault, Passes}
 use Rattle.blog_trans.specs.Groups.{RowsEvent, Statement, Transaction}

@@ -5,9 +5,9 @@ use Rattle.blog_event.specs.Event.{Event, event_size}
 use Rattle.blog_event.specs.File.{Placed, end_of}
 use Rattle.blog_row.specs.RowsEvent.{table_id}
 use Rattle.blog_row.specs.RowsWriting.{written_fields}
-use Rattle.blog_trans.specs.declared.kind.EventKind.TheVariants as kind
+use Rattle.blog_row.specs.declared.event_kinds.EventKind.TheVariants as kind
+use Rattle.blog_row.specs.Kinds.{is_map_kind, rows_of_kind}
 use Rattle.blog_trans.specs.Selection.{all}
-use Rattle.blog_trans.specs.Kinds.{is_map_kind, rows_of_kind}
 use Rattle.blog_trans.specs.Places.{map_in}
 use Rattle.blog_trans.specs.Groups.{PlacedRows, PlacedStatement, Span, spans, statements_of, kept_rows, first_maps, statement_if, kept_statement, transaction_if, kept_transaction, placed_groups_in}
 use Rattle.blog_trans.specs.Groups.{RowsEvent, Statement, Transaction, rows_value, event_value, statement_value, transaction_value}

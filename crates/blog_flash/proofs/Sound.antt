@@ -10,8 +10,8 @@ use Rattle.blog_event.specs.Event.{Event, event_size, event_text, IsEvent}
 use Rattle.blog_event.specs.File.{magic, file_text, Placed, placed_from, read, IsFront, AreBytes}
 use Rattle.blog_event.proofs.Framing.{bytes-take, bytes-drop, read-front, read-events}
 use Rattle.blog_row.specs.RowsEvent.{flags_of}
-use Rattle.blog_trans.specs.declared.kind.EventKind.{EventKind}
-use Rattle.blog_trans.specs.declared.kind.EventKind.TheVariants as kind
+use Rattle.blog_row.specs.declared.event_kinds.EventKind.{EventKind}
+use Rattle.blog_row.specs.declared.event_kinds.EventKind.TheVariants as kind
 use Rattle.blog_trans.specs.Selection.{Selection}
 use Rattle.blog_trans.specs.Places.{kind_at, is_rows, place, is_inside, since}
 use Rattle.blog_trans.specs.Acceptance.{checks, event_fault, range, is_in_range, IsAccepted, Passes}

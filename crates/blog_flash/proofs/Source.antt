@@ -19,10 +19,10 @@ use Rattle.blog_row.proofs.Images.{images_found, images_again}
 use Rattle.blog_row.proofs.Bodies.{rows_found}
 use Rattle.blog_row.proofs.Layouts.{layout_some}
 use Rattle.blog_row.proofs.ReversedRows.{content-is}
-use Rattle.blog_trans.specs.declared.kind.EventKind.{EventKind}
-use Rattle.blog_trans.specs.declared.kind.EventKind.TheVariants as kind
+use Rattle.blog_row.specs.declared.event_kinds.EventKind.{EventKind}
+use Rattle.blog_row.specs.declared.event_kinds.EventKind.TheVariants as kind
+use Rattle.blog_row.specs.Kinds.{is_end_kind, is_map_kind}
 use Rattle.blog_trans.specs.Selection.{Selection}
-use Rattle.blog_trans.specs.Kinds.{is_end_kind, is_map_kind}
 use Rattle.blog_trans.specs.Places.{kind_at, is_map, map_in}
 use Rattle.blog_trans.specs.Acceptance.{rows_under, range, has_first, first_format_fault, IsAccepted}
 use Rattle.blog_trans.specs.Groups.{PlacedRows, PlacedStatement, PlacedTransaction, placed_groups_in, placed_groups, RowsEvent, rows_value, event_value, statement_value, transaction_value, groups}

@@ -5,10 +5,10 @@ use Rattle.blog_event.specs.Event.{Event, event_size}
 use Rattle.blog_event.specs.File.{Placed, end_of}
 use Rattle.blog_event.specs.Format.{front_while}
 use Rattle.blog_row.specs.RowsEvent.{has_end_flag}
-use Rattle.blog_trans.specs.declared.kind.EventKind.{EventKind}
-use Rattle.blog_trans.specs.declared.kind.EventKind.TheVariants as kind
 use Rattle.blog_row.specs.RowsEvent.{table_id}
-use Rattle.blog_trans.specs.Kinds.{kind_of, is_begin_kind, is_end_kind, is_map_kind, rows_of_kind}
+use Rattle.blog_row.specs.declared.event_kinds.EventKind.{EventKind}
+use Rattle.blog_row.specs.declared.event_kinds.EventKind.TheVariants as kind
+use Rattle.blog_row.specs.Kinds.{kind_of, is_begin_kind, is_end_kind, is_map_kind, rows_of_kind}
 use Rattle.blog_trans.specs.Places.{kind_at, is_begin, is_end, is_last_rows, is_map_of, map_in}
 use Rattle.blog_trans.specs.Groups.{Span, spans, onto_first, statements_of, RowsEvent, Statement, Transaction}
 use Rattle.blog_trans.proofs.PlacedParts.{all-joined}

@@ -5,8 +5,8 @@ use Rattle.std.proofs.lemmas.List.{length-reverse, length-map, length-take-le, l
 use Rattle.std.proofs.lemmas.List.Concat.{flat_map-append}
 use Rattle.blog_event.specs.Event.{Event, event_size, event_text}
 use Rattle.blog_event.specs.File.{magic, BeginsWith, AreBytes, file_text, end_of}
+use Rattle.blog_row.specs.Kinds.{is_end_kind}
 use Rattle.blog_trans.specs.Selection.{Selection, all}
-use Rattle.blog_trans.specs.Kinds.{is_end_kind}
 use Rattle.blog_trans.specs.Acceptance.{IsAccepted}
 use Rattle.blog_trans.specs.Groups.{Transaction, groups}
 use Rattle.blog_trans.specs.Changes.{changes, changes_of, changes_of_transaction}

@@ -2,8 +2,8 @@
 use Rattle.std.specs.Prelude.{◌≡◌, ℕ, zero, suc, ◌-◌, ◌≤◌, ◌++◌, if◌then◌else◌, List, [], ◌∷◌, length, take, drop, Some, None}
 use Rattle.blog_event.specs.Event.{Event}
 use Rattle.blog_event.specs.File.{BeginsWith, file_text, read}
+use Rattle.blog_row.specs.Kinds.{kind_of, is_end_kind}
 use Rattle.blog_trans.specs.Selection.{Selection, all}
-use Rattle.blog_trans.specs.Kinds.{kind_of, is_end_kind}
 use Rattle.blog_trans.specs.Acceptance.{IsAccepted}
 use Rattle.blog_trans.specs.Groups.{Transaction, groups}
 use Rattle.blog_trans.specs.Changes.{Change, changes, changes_of}

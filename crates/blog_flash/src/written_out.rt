@@ -1,6 +1,6 @@
 //! Writing the groups of an index as a log while they are laid out, so that the log is never held whole.
 
-ghost use Rattle.std.specs.Prelude.{◌≡◌, ◌+◌, ◌≤◌, ◌++◌, ◌||◌, true, List, ℕ, OnOk, OnErr, IfOk, IfErr, vec_len, vec_capacity};
+ghost use Rattle.std.specs.Prelude.{◌≡◌, ◌≤◌, ◌++◌, ◌||◌, true, OnOk, OnErr, IfErr, vec_len, vec_capacity};
 ghost use Rattle.std.specs.List.{AllByRecursion};
 ghost use Rattle.std.specs.Io.KnownBytes.{Appends};
 ghost use Rattle.blog_event.specs.Event.{event_size};
@@ -16,39 +16,12 @@ ghost use Rattle.blog_flash.specs.Texts.{group_events, laid_out_after};
 
 use crate::laid_out::{front, put_front, put_group_event};
 use crate::lengths::event_len;
-use blog_device::{RunFault, Watched, put, put_part};
+use blog_device::{RunFault, Watched, make_room, put};
 use blog_event::Fault;
 use blog_row::Order;
 use blog_trans::Index;
 use std::alloc::Allocator;
 use std::io::Write;
-
-/// Makes room for `len` more bytes in a chunk that holds a log from position `from` on: where they don't fit, what it holds
-/// is written. Answers where the chunk begins then.
-fn make_room<A: Allocator, W: Write>(
-    writer: &mut Watched<W>,
-    chunk: &mut Vec<u8, A>,
-    from: usize,
-    len: usize,
-) -> Result<usize, RunFault>
-    requires fits { len ≤ vec_capacity chunk.old }
-    requires short { from + vec_len chunk.old ≤ 4294967295 }
-    ensures written { OnOk result ((part : List ℕ) × Appends (W.contents (device_of writer.old)) (W.contents (device_of writer.new)) part × (part ++ chunk.new.items ≡ chunk.old.items)) }
-    ensures from { IfOk result (λ now. now + vec_len chunk.new ≡ from + vec_len chunk.old) }
-    ensures room { OnOk result (vec_len chunk.new + len ≤ vec_capacity chunk.new) }
-    ensures capacity { OnOk result (vec_capacity chunk.old ≤ vec_capacity chunk.new) }
-    ensures beginning { OnErr result (AppendsBeginning (W.contents (device_of writer.old)) (W.contents (device_of writer.new)) chunk.old.items) }
-    ensures fault { IfErr result (λ e. e ≡ RunFault.Write) }
-    ensures mark { has_failed writer.new ≡ (has_failed writer.old || is_write_fault result) }
-{
-    if len <= chunk.capacity() - chunk.len() {
-        return Ok(from);
-    }
-    put_part(writer, chunk)?;
-    let now = from + chunk.len();
-    chunk.clear();
-    Ok(now)
-}
 
 /// Writes what a chunk holds, and behind it the events of the groups, each with the log_pos that it has there: as many bytes
 /// at once as the chunk has room for.

@@ -56,6 +56,12 @@ sum_ends kinds i total h s =
 
 -- ---- columns of the profile
 
+-- the metadata of a column is there
+pub own_fits : (kind : ℕ) (metadata : List ℕ) → is_column (column_here kind metadata) ≡ true → own_metadata_len kind ≤ length metadata
+own_fits kind metadata e =
+    let long : own_metadata_len kind ≡ length (take (own_metadata_len kind) metadata) = own_is kind _ (column_len (column_here kind metadata) e) in
+    omega (arith, long, length-take (own_metadata_len kind) metadata)
+
 -- what is known of a column of the profile at the front, and of those after it
 pub record KnownAt (kind : ℕ) (metadata kinds : List ℕ) : Type 0 where
   pub len : metadata_len_of kind ≡ Some (own_metadata_len kind)

@@ -2,6 +2,7 @@ pub mod RowsKind
 pub mod Checks
 pub mod Packed
 pub mod Column
+pub mod Kinds
 pub mod Image
 pub mod TableMap
 pub mod RowsEvent

@@ -1,7 +1,7 @@
 //! How the value of a column is stored.
 
 ghost use Rattle.std.specs.Prelude.{◌≡◌, ◌≤◌, ◌==◌, [], ◌∷◌, option_map, IfSome};
-ghost use Rattle.blog_row.specs.Column.{Fixed, when, with_fraction, counted_in, counted_up_to, digits_width, decimal_storage, string_storage, metadata_len_of, storage_by};
+ghost use Rattle.blog_row.specs.Column.{Fixed, when, with_fraction, counted_in, counted_up_to, decimal_storage, string_storage, metadata_len_of, storage_by};
 ghost use Rattle.blog_row.specs.StorageView.{prefix_seen, storage_seen};
 
 use crate::constants::{
@@ -11,6 +11,7 @@ use crate::constants::{
     MYSQL_TYPE_SHORT, MYSQL_TYPE_STRING, MYSQL_TYPE_TIME, MYSQL_TYPE_TIME2, MYSQL_TYPE_TIMESTAMP,
     MYSQL_TYPE_TIMESTAMP2, MYSQL_TYPE_TINY, MYSQL_TYPE_VARCHAR, MYSQL_TYPE_YEAR,
 };
+use crate::type_tables::digits_bytes;
 
 /// How many bytes the length in front of a value has.
 #[derive(Clone, Copy, Debug)]
@@ -44,7 +45,7 @@ impl Prefix {
 #[derive(Clone, Copy, Debug)]
 pub(crate) enum Storage {
     /// In so many bytes.
-    Fixed(usize),
+    Fixed(u16),
     /// Behind its length in bytes.
     Counted(Prefix),
 }
@@ -113,7 +114,7 @@ fn repeated(width: u8, metadata: u8) -> Option<Storage>
     ensures { option_map storage_seen result ≡ when (metadata == width) (Fixed width) }
 {
     if metadata == width {
-        Some(Storage::Fixed(usize::from(width)))
+        Some(Storage::Fixed(u16::from(width)))
     } else {
         None
     }
@@ -121,30 +122,15 @@ fn repeated(width: u8, metadata: u8) -> Option<Storage>
 
 /// Whole seconds in so many bytes, and a fraction of at most six decimal digits, two in a byte.
 #[inline(always)]
-fn with_fraction(seconds: usize, digits: u8) -> Option<Storage>
+fn with_fraction(seconds: u16, digits: u8) -> Option<Storage>
     requires { seconds ≤ 8 }
     ensures { option_map storage_seen result ≡ with_fraction seconds digits }
 {
     if digits <= 6 {
-        Some(Storage::Fixed(seconds + (usize::from(digits) + 1) / 2))
+        Some(Storage::Fixed(seconds + (u16::from(digits) + 1) / 2))
     } else {
         None
     }
-}
-
-/// The bytes of a decimal's digits: four for each nine of them, and fewer for what is left.
-#[inline(always)]
-fn digits_bytes(digits: u8) -> usize
-    ensures { result ≡ digits_width digits }
-{
-    let left = match digits % 9 {
-        0 => 0,
-        1 | 2 => 1,
-        3 | 4 => 2,
-        5 | 6 => 3,
-        _ => 4,
-    };
-    4 * usize::from(digits / 9) + left
 }
 
 /// The storage of a type that has no metadata.
@@ -198,7 +184,7 @@ fn string(real: u8, low: u8) -> Storage
     ensures { storage_seen result ≡ string_storage real low }
 {
     match real {
-        MYSQL_TYPE_ENUM | MYSQL_TYPE_SET => Storage::Fixed(usize::from(low)),
+        MYSQL_TYPE_ENUM | MYSQL_TYPE_SET => Storage::Fixed(u16::from(low)),
         _ => {
             let high = (real / 16 & 3) ^ 3;
             prefix_up_to(usize::from(low) + 256 * usize::from(high))
@@ -216,7 +202,7 @@ fn of_pair(kind: u8, first: u8, second: u8) -> Option<Storage>
         MYSQL_TYPE_VARCHAR => Some(prefix_up_to(usize::from(first) + 256 * usize::from(second))),
         MYSQL_TYPE_BIT => {
             let over = if first == 0 { 0 } else { 1 };
-            Some(Storage::Fixed(usize::from(second) + over))
+            Some(Storage::Fixed(u16::from(second) + over))
         }
         MYSQL_TYPE_NEWDECIMAL => decimal(first, second),
         MYSQL_TYPE_STRING => Some(string(first, second)),

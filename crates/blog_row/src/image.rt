@@ -64,7 +64,7 @@ pub(crate) fn stored_at(storage: Storage, bytes: &[u8]) -> Option<(&[u8], &[u8])
     ensures { option_map cut_seen result ≡ value_stored (storage_seen storage) bytes.now }
 {
     match storage {
-        Storage::Fixed(width) => cut_at(width, bytes),
+        Storage::Fixed(width) => cut_at(usize::from(width), bytes),
         Storage::Counted(prefix) => {
             let (count, behind) = cut_at(prefix.bytes(), bytes)?;
             cut_at(length_of(prefix, count), behind)
@@ -72,17 +72,18 @@ pub(crate) fn stored_at(storage: Storage, bytes: &[u8]) -> Option<(&[u8], &[u8])
     }
 }
 
-/// Where the value ends that is stored from a position on, which may be past the bytes.
+/// Where the value ends that is stored from a position on, which may be past the bytes. The greatest number is past all
+/// bytes, so no addition has to be checked.
 #[inline(always)]
 pub(crate) fn stored_end(storage: Storage, at: usize, bytes: &[u8]) -> Option<usize>
     ensures { EndsAt (value_stored (storage_seen storage)) at bytes.now result }
 {
     match storage {
-        Storage::Fixed(width) => at.checked_add(width),
+        Storage::Fixed(width) => Some(at.saturating_add(usize::from(width))),
         Storage::Counted(prefix) => {
             let (_, rest) = cut_at(at, bytes)?;
             let (count, _) = cut_at(prefix.bytes(), rest)?;
-            (at + prefix.bytes()).checked_add(length_of(prefix, count))
+            Some((at + prefix.bytes()).saturating_add(length_of(prefix, count)))
         }
     }
 }

@@ -13,6 +13,7 @@ use crate::image::image_at;
 use crate::names::names_at;
 use crate::packed::packed_at;
 use crate::storages::{MOST_STORAGES, len_by, storages_of};
+use crate::type_tables::own_len;
 use crate::typed_walk::len_by_types;
 use crate::values::Values;
 
@@ -67,6 +68,19 @@ pub(crate) fn metadata_behind<'a>(kinds: &[u8], metadata: &'a [u8]) -> &'a [u8]
     left
 }
 
+/// How the values of a column are stored, with whose metadata `metadata` begins.
+#[inline(always)]
+pub(crate) fn stored_here(kind: u8, metadata: &[u8]) -> Storage
+    requires { is_column (column_here kind metadata.now) ≡ true }
+    ensures { storage_of (column_here kind metadata.now) ≡ Some (storage_seen result) }
+{
+    let (own, _) = metadata.split_at(own_len(kind));
+    let Some(storage) = stored_as(kind, own) else {
+        unreachable!();
+    };
+    storage
+}
+
 /// How the column at `i` is stored, and the metadata of the columns after it; `metadata` begins with that of the
 /// column at `i`.
 #[inline(always)]
@@ -78,13 +92,8 @@ pub(crate) fn column_at<'a>(kinds: &[u8], i: usize, metadata: &'a [u8]) -> (Stor
     ensures known { list_all is_column (columns_of (drop (i + 1) kinds.now) result.1.now) ≡ true }
 {
     let kind = kinds[i];
-    let Some(len) = metadata_len(kind) else {
-        unreachable!();
-    };
-    let (own, others) = metadata.split_at(len);
-    let Some(storage) = stored_as(kind, own) else {
-        unreachable!();
-    };
+    let storage = stored_here(kind, metadata);
+    let (_, others) = metadata.split_at(own_len(kind));
     (storage, others)
 }
 

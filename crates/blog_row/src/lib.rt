@@ -1,8 +1,9 @@
-//! Bodies of table maps and rows events, and the images of rows in them.
+//! What an event is, the bodies of table maps and rows events, and the images of rows in them.
 #![tactic(auto)]
 
 mod column;
 mod constants;
+mod event_kinds;
 mod fault;
 mod image;
 mod image_walks;
@@ -21,6 +22,7 @@ mod type_tables;
 mod typed_walk;
 mod values;
 
+pub use event_kinds::{EventKind, event_kind, query_text};
 pub use fault::RowFault;
 pub use kind::{RowsAction, RowsKind, RowsVersion};
 pub use laws::{
@@ -35,12 +37,3 @@ pub use rows::{RowChange, Rows};
 pub use rows_event::{RowsEvent, RowsHead};
 pub use table_map::TableMap;
 pub use values::Values;
-
-#[cfg(test)]
-mod image_tests;
-#[cfg(test)]
-mod rows_event_tests;
-#[cfg(test)]
-mod rows_tests;
-#[cfg(test)]
-mod tests;

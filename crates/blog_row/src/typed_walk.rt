@@ -1,16 +1,18 @@
 //! How long an image is, by the types and the metadata of its columns. Positions are those of the bytes in which it is;
 //! they may lie past their end, which is looked at where a length is read, and behind the last column.
 
-ghost use Rattle.std.specs.Prelude.{◌≡◌, ◌<◌, ◌≤◌, ◌+◌, ◌*◌, ◌∷◌, ◌%◌, ◌/◌, None, length, drop, slice_index, true, IfSome, IfNone};
+ghost use Rattle.std.specs.Prelude.{◌≡◌, ◌<◌, ◌≤◌, ◌+◌, ◌*◌, ◌∷◌, ◌%◌, ◌/◌, None, Some, length, drop, slice_index, true, IfSome, IfNone};
 ghost use Rattle.std.specs.List.{list_all};
-ghost use Rattle.blog_row.specs.Column.{columns_of, is_column, value_front};
+ghost use Rattle.blog_row.specs.Column.{columns_of, is_column, storage_of, value_front};
 ghost use Rattle.blog_row.specs.Image.{image_len_of};
 ghost use Rattle.blog_row.specs.LayoutReading.{column_here};
 ghost use Rattle.blog_row.specs.PositionView.{EndsAt, behind_from, from_position};
+ghost use Rattle.blog_row.specs.StorageView.{storage_seen};
 
 use crate::column::Storage;
+use crate::constants::MYSQL_TYPE_VARCHAR;
 use crate::image::{cut_at, next_value, stored_end};
-use crate::layout::column_at;
+use crate::layout::stored_here;
 use crate::type_tables::{own_len, plain_width};
 
 /// The metadata behind that of the column at `i`, with which `metadata` begins.
@@ -25,34 +27,36 @@ fn behind_own<'a>(kinds: &[u8], i: usize, metadata: &'a [u8]) -> &'a [u8]
     others
 }
 
-/// Where the value of the column at `i` ends that begins at a position; `metadata` begins with that of the column.
+/// The same as `stored_here`, once for all columns whose types are seldom.
 #[inline(never)]
-fn end_by_metadata(
-    kinds: &[u8],
-    i: usize,
-    metadata: &[u8],
-    at: usize,
-    bytes: &[u8],
-) -> Option<usize>
-    requires below { i < length kinds.now }
-    requires known { list_all is_column (columns_of (drop i kinds.now) metadata.now) ≡ true }
-    ensures { EndsAt (value_front (column_here (slice_index kinds.now i) metadata.now)) at bytes.now result }
+fn stored_by_metadata(kind: u8, metadata: &[u8]) -> Storage
+    requires { is_column (column_here kind metadata.now) ≡ true }
+    ensures { storage_of (column_here kind metadata.now) ≡ Some (storage_seen result) }
 {
-    let (storage, _) = column_at(kinds, i, metadata);
-    stored_end(storage, at, bytes)
+    stored_here(kind, metadata)
 }
 
-/// The same; where the type says it, the metadata is not looked at.
+/// The same; where the type says it, the metadata is not looked at, and the most common type with metadata comes first.
+#[inline(always)]
+fn storage_at(kind: u8, metadata: &[u8]) -> Storage
+    requires { is_column (column_here kind metadata.now) ≡ true }
+    ensures { storage_of (column_here kind metadata.now) ≡ Some (storage_seen result) }
+{
+    match plain_width(kind) {
+        Some(width) => Storage::Fixed(width),
+        None if kind == MYSQL_TYPE_VARCHAR => stored_here(MYSQL_TYPE_VARCHAR, metadata),
+        None => stored_by_metadata(kind, metadata),
+    }
+}
+
+/// Where the value of the column at `i` ends that begins at a position; `metadata` begins with that of the column.
 #[inline(always)]
 fn value_end(kinds: &[u8], i: usize, metadata: &[u8], at: usize, bytes: &[u8]) -> Option<usize>
     requires below { i < length kinds.now }
     requires known { list_all is_column (columns_of (drop i kinds.now) metadata.now) ≡ true }
     ensures { EndsAt (value_front (column_here (slice_index kinds.now i) metadata.now)) at bytes.now result }
 {
-    match plain_width(kinds[i]) {
-        Some(width) => stored_end(Storage::Fixed(width), at, bytes),
-        None => end_by_metadata(kinds, i, metadata, at, bytes),
-    }
+    stored_end(storage_at(kinds[i], metadata), at, bytes)
 }
 
 /// Where the values of the next columns end, `count` of them from column `from` on, whose null bits are in one byte; and

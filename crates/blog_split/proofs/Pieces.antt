@@ -5,7 +5,7 @@ use Rattle.std.proofs.lemmas.Bool.{and_parts, false≢true}
 use Rattle.std.proofs.lemmas.Option.{same_Some}
 use Rattle.blog_event.specs.Event.{Event}
 use Rattle.blog_row.specs.RowsEvent.{table_id}
-use Rattle.blog_trans.specs.Kinds.{kind_of, is_map_kind}
+use Rattle.blog_row.specs.Kinds.{kind_of, is_map_kind}
 use Rattle.blog_trans.specs.Groups.{RowsEvent, Statement}
 use Rattle.blog_trans.proofs.PlacedParts.{all-by, all-both, all-filter, all-found}
 use Rattle.blog_flash.proofs.Formed.{is_map_of_id, IsMapEvent, IsRowsEvent, AreDistinct, IsUsed, IsStatement}

@@ -18,8 +18,3 @@ pub use plain_laws::{
     plain_log_opens,
 };
 pub use plain_log::plain;
-
-#[cfg(test)]
-mod log_tests;
-#[cfg(test)]
-mod tests;

@@ -4,8 +4,8 @@ use Rattle.std.proofs.Common.{◌≡◌, ℕ, ◌+◌, ◌≤◌, Bool, false, �
 use Rattle.std.specs.List.{cons_option, filter_map, flat_map, list_any}
 use Rattle.blog_event.specs.File.{Placed}
 use Rattle.blog_row.specs.RowsEvent.{table_id}
+use Rattle.blog_row.specs.Kinds.{is_map_kind}
 use Rattle.blog_trans.specs.Selection.{Selection}
-use Rattle.blog_trans.specs.Kinds.{is_map_kind}
 use Rattle.blog_trans.specs.Places.{is_map}
 use Rattle.blog_trans.specs.Groups.{PlacedRows, PlacedStatement, PlacedTransaction, kept_rows, first_maps, statement_if, transaction_if}
 use Rattle.blog_trans.specs.Progress.{Open, appended_if}
@@ -25,20 +25,12 @@ kept-own sel s p r e = let kept = kept-facts sel s p r e in (ap is_map_kind kept
 abbrev rows_sum : (Placed → ℕ) → List PlacedRows → ℕ
 rows_sum w rows = sum_of (λ (r : PlacedRows). w r.event) rows
 
--- one more event is taken as a map, or kept as a rows event, or neither
-once-step : (w : Placed → ℕ) (p : Placed) (map any : Bool) (o : Option PlacedRows) → ((r : PlacedRows) → o ≡ Some r → (map ≡ false) × (r.event ≡ p))
-    → (with_it without : List Placed) (rows : List PlacedRows) (n : ℕ) → sum_of w with_it + rows_sum w rows ≤ n → sum_of w without + rows_sum w rows ≤ n
-    → sum_of w (if map && any then p ∷ with_it else without) + rows_sum w (cons_option o rows) ≤ w p + n
-once-step w p map any o own with_it without rows n one other = grind arith
-
 -- maps and rows events are taken of different events
 once-total : (w : Placed → ℕ) (sel : Selection) (s es : List Placed) (ids : List (List ℕ))
     → sum_of w (first_maps ids es) + rows_sum w (filter_map (kept_rows sel s) es) ≤ sum_of w es
 once-total w sel s [] ids = omega arith
 once-total w sel s (p ∷ es) ids =
-    once-step w p (is_map p) (list_any (λ id. bytes_eq (table_id p.event.body) id) ids) (kept_rows sel s p) (kept-own sel s p)
-    (first_maps (filter (λ id. not (bytes_eq (table_id p.event.body) id)) ids) es) (first_maps ids es) (filter_map (kept_rows sel s) es) (sum_of w es)
-    (once-total w sel s es (filter (λ id. not (bytes_eq (table_id p.event.body) id)) ids)) (once-total w sel s es ids)
+    grind (arith, once-total w sel s es (filter (λ id. not (bytes_eq (table_id p.event.body) id)) ids), once-total w sel s es ids, kept-own)
 
 -- the sum over a statement, and over a transaction
 abbrev pub statement_sum : (Placed → ℕ) → PlacedStatement → ℕ
@@ -69,9 +61,4 @@ open_sum w statement (Some o) = w o.begin + (sum_of (statement_sum w) o.statemen
 -- its end adds at most its own number
 pub transaction-fits : (w : Placed → ℕ) (begin end : Placed) (ss : List PlacedStatement) (done : List PlacedTransaction)
     → sum_of (transaction_sum w) (appended_if done (transaction_if (record { begin = begin; inside = []; end = end }) ss)) ≤ sum_of (transaction_sum w) done + (w begin + (sum_of (statement_sum w) ss + w end))
-transaction-fits w begin end [] done = omega arith
-transaction-fits w begin end (s ∷ ss) done =
-    let sum = sum-append (transaction_sum w) done (record { begin = begin; statements = s ∷ ss; end = end } ∷ []) in
-    let inside = sum-joined w statement_shown (statement_sum w) (λ x. refl) (s ∷ ss) in
-    let joined = sum-append w (flat_map statement_shown (s ∷ ss)) (end ∷ []) in
-    omega arith
+transaction-fits w begin end ss done = grind (arith, sum-append, sum-joined)

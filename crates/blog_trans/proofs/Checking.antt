@@ -13,15 +13,15 @@ use Rattle.blog_row.specs.Checks.{or_bad}
 use Rattle.blog_row.specs.LayoutView.{layout_columns}
 use Rattle.blog_row.specs.TableMap.{Names, names_of}
 use Rattle.blog_row.specs.RowsEvent.{table_id}
-use Rattle.blog_trans.specs.declared.kind.EventKind.{EventKind}
-use Rattle.blog_trans.specs.declared.kind.EventKind.TheVariants as kind
+use Rattle.blog_row.specs.declared.event_kinds.EventKind.{EventKind}
+use Rattle.blog_row.specs.declared.event_kinds.EventKind.TheVariants as kind
+use Rattle.blog_row.specs.Kinds.{is_begin_kind, is_end_kind, is_map_kind, rows_of_kind}
 use Rattle.blog_trans.specs.declared.checker.Checker.{Checker}
 use Rattle.blog_trans.specs.declared.layouts.SelectedTable.{SelectedTable}
 use Rattle.blog_trans.specs.declared.checker.MapSeen.{MapSeen}
 use Rattle.blog_trans.specs.declared.place.Place.{Place}
 use Rattle.blog_trans.specs.declared.place.Place.TheVariants.{Outside}
 use Rattle.blog_trans.specs.Selection.{Selection}
-use Rattle.blog_trans.specs.Kinds.{is_begin_kind, is_end_kind, is_map_kind, rows_of_kind}
 use Rattle.blog_trans.specs.Acceptance.{is_selected, clashes_by_id, end_checks, event_fault}
 use Rattle.blog_trans.specs.Places.{kind_at, is_begin, is_map, is_rows, is_map_of, leads_to, is_inside, place, since}
 use Rattle.blog_trans.specs.TablesView.{tables_known, HaveGrown, IsNumbered}

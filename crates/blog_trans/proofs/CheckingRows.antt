@@ -1,6 +1,6 @@
 -- What is told and known of a rows event.
 use Rattle.std.proofs.Common.{◌≡◌, ℕ, ◌≤◌, ◌<◌, Bool, true, false, List, [], ◌∷◌, length, map, reverse, Option, Some, None, Result, Ok, Err, refl, sym, subst, ap, ◌∙◌, arith, length-append, rules}
-use Rattle.std.specs.Prelude.{if◌then◌else◌, is_some, nat_eq, nat_le, option_map, option_and_then, slice_get, IsOk}
+use Rattle.std.specs.Prelude.{if◌then◌else◌, is_some, nat_eq, nat_le, option_map, option_and_then, slice_get, IsErrAnd, IsOk}
 use Rattle.std.specs.Result.{result_ok}
 use Rattle.std.specs.List.{concat, list_any, AllByRecursion, IsDistinct}
 use Rattle.std.specs.Map.{lookup, set_value, keys_of, values_of}
@@ -8,7 +8,8 @@ use Rattle.std.proofs.lemmas.Bool.{leb-true}
 use Rattle.std.proofs.lemmas.List.Elements.{All-from_recursion, recursion_from_All}
 use Rattle.std.proofs.lemmas.Map.Views.{All-values-set_value}
 use Rattle.byteorder.specs.Endian.{little_number}
-use Rattle.blog_event.specs.Fault.{first_failing}
+use Rattle.blog_event.specs.declared.fault.Fault.{Fault}
+use Rattle.blog_event.specs.Fault.{fault_at, first_failing}
 use Rattle.blog_event.specs.declared.fault.Fault.TheVariants.{NoMap}
 use Rattle.blog_event.specs.File.{Placed, AreBytes}
 use Rattle.blog_row.specs.declared.fault.RowFault.{RowFault}
@@ -20,9 +21,10 @@ use Rattle.blog_row.specs.Image.{IsSomeImage}
 use Rattle.blog_row.specs.LayoutView.{layout_columns}
 use Rattle.blog_row.specs.TableMap.{Table, layout_of}
 use Rattle.blog_row.specs.RowsEvent.{RowsBody, IsRowsBody, rows_of, table_id, fixed_len}
-use Rattle.blog_row.specs.RowsEventView.{head_of}
+use Rattle.blog_row.specs.declared.rows_event.RowsEvent.{RowsEvent}
+use Rattle.blog_row.specs.RowsEventView.{counted_seen, head_of}
 use Rattle.blog_row.proofs.Images.{image_positive}
-use Rattle.blog_trans.specs.declared.kind.EventKind.TheVariants as kind
+use Rattle.blog_row.specs.declared.event_kinds.EventKind.TheVariants as kind
 use Rattle.blog_trans.specs.declared.checker.Checker.{Checker}
 use Rattle.blog_trans.specs.declared.layouts.SelectedTable.{SelectedTable}
 use Rattle.blog_trans.specs.declared.checker.MapSeen.{MapSeen}
@@ -84,12 +86,13 @@ rows-kept tables sel statement p rows v m t b images is numbered held table read
     (rw (held.found, on.0, on.1, read) refl, rw (held.found, on.0, is, on.1, read) (refl, held.at, number, refl, images_are))
 
 -- one that isn't read is refused
-pub rows-refused : (sel : Selection) (statement : List Placed) (p : Placed) (rows : RowsKind) (v : MapSeen) (m : Placed) (t : SelectedTable) (cause : RowFault)
-    → IsMapHeld sel statement (table_id p.event.body) v m → v.table ≡ Some t → rows_of rows (layout_columns t.layout) p.event.body ≡ Err cause
-    → rows_check sel rows p.event.body (map_in (reverse statement) (table_id p.event.body)) ≡ Some (cause_of_row cause)
-rows-refused sel statement p rows v m t cause held table read =
+pub rows-refused : (sel : Selection) (statement : List Placed) (p : Placed) (rows : RowsKind) (v : MapSeen) (m : Placed) (t : SelectedTable) (read : Result (RowsEvent × ℕ) RowFault) (f : Fault)
+    → IsMapHeld sel statement (table_id p.event.body) v m → v.table ≡ Some t → counted_seen read ≡ rows_of rows (layout_columns t.layout) p.event.body → IsErrAnd read (λ cause. f ≡ cause_of_row cause p.pos)
+    → fault_at p.pos (rows_check sel rows p.event.body (map_in (reverse statement) (table_id p.event.body))) ≡ Some f
+rows-refused sel statement p rows v m t (Err cause) f held table seen is =
     let on = selected (is_selected sel m.event.body) (layout_of m.event.body) (layout_columns t.layout) (ap (option_map (λ (t : SelectedTable). layout_columns t.layout)) (sym table) ∙ held.layout) in
-    rw (held.found, on.0, on.1, read) refl
+    rw (held.found, on.0, on.1, sym seen, is) refl
+rows-refused sel statement p rows v m t (Ok _) f held table seen is = absurd is
 
 -- alone, it decides
 pub alone : {A : Type 0} (check : Option A) → first_failing (check ∷ []) ≡ check

@@ -25,31 +25,19 @@ pub transaction_starts_push : (n s : ℕ) (ts : List PlacedTransaction) (t : Pla
     → transaction_starts n s (ts ++ t ∷ []) ≡ transaction_starts n s ts ++ transaction_start (n + length (entries_of ts)) (s + statements_in ts) ∷ []
 transaction_starts_push n s [] t = ap₂ (λ a b. transaction_start a b ∷ []) (sym (add-zero n)) (sym (add-zero s))
 transaction_starts_push n s (u ∷ us) t =
-    let entry : (n + length (transaction_entries u)) + length (entries_of us) ≡ n + length (entries_of (u ∷ us)) = omega (arith, entries_cons u us) in
-    let statement : (s + length u.statements) + statements_in us ≡ s + statements_in (u ∷ us) = omega (arith, statements_cons u us) in
-    ap (λ xs. transaction_start n s ∷ xs)
-    (transaction_starts_push (n + length (transaction_entries u)) (s + length u.statements) us t
-    ∙ ap₂ (λ a b. transaction_starts (n + length (transaction_entries u)) (s + length u.statements) us ++ transaction_start a b ∷ []) entry statement)
+    grind (arith, transaction_starts_push (n + length (transaction_entries u)) (s + length u.statements) us t, entries_cons, statements_cons)
 
 pub statement_starts_push : (n : ℕ) (ts : List PlacedTransaction) (t : PlacedTransaction)
     → statement_starts n (ts ++ t ∷ []) ≡ statement_starts n ts ++ starts_in ((n + length (entries_of ts)) + 1) t.statements
 statement_starts_push n [] t = append-nil (starts_in (n + 1) t.statements) ∙ ap (λ m. starts_in (m + 1) t.statements) (sym (add-zero n))
-statement_starts_push n (u ∷ us) t =
-    let same : (n + length (transaction_entries u)) + length (entries_of us) ≡ n + length (entries_of (u ∷ us)) = omega (arith, entries_cons u us) in
-    ap (λ xs. starts_in (n + 1) u.statements ++ xs)
-    (statement_starts_push (n + length (transaction_entries u)) us t ∙ ap (λ m. statement_starts (n + length (transaction_entries u)) us ++ starts_in (m + 1) t.statements) same)
-    ∙ sym (append_assoc (starts_in (n + 1) u.statements) (statement_starts (n + length (transaction_entries u)) us) (starts_in ((n + length (entries_of (u ∷ us))) + 1) t.statements))
+statement_starts_push n (u ∷ us) t = grind (arith, statement_starts_push (n + length (transaction_entries u)) us t, entries_cons, append_assoc)
 
 -- ---- one more statement
 
 pub starts_push : (n : ℕ) (ss : List PlacedStatement) (s : PlacedStatement)
     → starts_in n (ss ++ s ∷ []) ≡ starts_in n ss ++ statement_start (n + length (flat_map statement_entries ss)) (length s.maps) ∷ []
 starts_push n [] s = ap (λ m. statement_start m (length s.maps) ∷ []) (sym (add-zero n))
-starts_push n (x ∷ xs) s =
-    let sum : length (flat_map statement_entries (x ∷ xs)) ≡ length (statement_entries x) + length (flat_map statement_entries xs) = length-append (statement_entries x) (flat_map statement_entries xs) in
-    let same : (n + length (statement_entries x)) + length (flat_map statement_entries xs) ≡ n + length (flat_map statement_entries (x ∷ xs)) = omega arith in
-    ap (λ ys. statement_start n (length x.maps) ∷ ys)
-    (starts_push (n + length (statement_entries x)) xs s ∙ ap (λ m. starts_in (n + length (statement_entries x)) xs ++ statement_start m (length s.maps) ∷ []) same)
+starts_push n (x ∷ xs) s = grind (arith, starts_push (n + length (statement_entries x)) xs s, length-append)
 
 -- ---- how many there are
 
@@ -63,14 +51,7 @@ starts_len n (s ∷ ss) = let rest = starts_len (n + length (statement_entries s
 
 pub statements_len : (n : ℕ) (ts : List PlacedTransaction) → length (statement_starts n ts) ≡ statements_in ts
 statements_len n [] = refl
-statements_len n (t ∷ ts) =
-    let both = length-append (starts_in (n + 1) t.statements) (statement_starts (n + length (transaction_entries t)) ts) in
-    let own = starts_len (n + 1) t.statements in
-    let rest = statements_len (n + length (transaction_entries t)) ts in
-    omega (arith, statements_cons t ts)
+statements_len n (t ∷ ts) = grind (arith, statements_len (n + length (transaction_entries t)) ts, length-append, starts_len, statements_cons)
 
 pub statement_len : (s : PlacedStatement) → length (statement_entries s) ≡ length s.maps + length s.rows
-statement_len s =
-    let maps = length-map s.maps event_entry in
-    let rows = length-map s.rows rows_entry in
-    omega (arith, length-append (map event_entry s.maps) (map rows_entry s.rows))
+statement_len s = grind (arith, length-map, length-append)

@@ -4,7 +4,7 @@ use Rattle.std.specs.Option.{option_map_or}
 use Rattle.std.specs.List.{flat_map, slice_get}
 use Rattle.std.proofs.lemmas.Bool.{false≢true}
 use Rattle.std.proofs.lemmas.List.{length-map, take_all, take_more}
-use Rattle.std.proofs.lemmas.Option.{none-some, same_Some, slice_get-map, slice_get_within, get_or_from_slice_get}
+use Rattle.std.proofs.lemmas.Option.{option_and_then_some, none-some, same_Some, slice_get-map, slice_get_within, get_or_from_slice_get}
 use Rattle.blog_event.specs.File.{Placed}
 use Rattle.blog_trans.specs.declared.lists.Entry.{Entry}
 use Rattle.blog_trans.specs.Groups.{PlacedRows, PlacedStatement, PlacedTransaction}
@@ -16,25 +16,20 @@ use Rattle.blog_trans.proofs.Columns.{flat_push, entries_cons, statements_cons, 
 
 -- an element of such a list, and how long it is
 pub mapped : {A B : Type 0} (g : A → B) (o : Option A) (v : B) → option_map g o ≡ Some v → (x : A) × (o ≡ Some x) × (g x ≡ v)
-mapped g None v is = absurd (none-some v is)
-mapped g (Some x) v is = (x, refl, same_Some (g x) v is)
+mapped g o v is = grind arith
 
 pub inner : {A B : Type 0} (f : A → List B) (o : Option A) (n : ℕ) → option_and_then (λ x. slice_get (f x) n) o ≡ slice_get (option_map_or f o []) n
-inner f None n = refl
-inner f (Some x) n = refl
+inner f o n = grind arith
 
 pub counted : {A B : Type 0} (f : A → List B) (o : Option A) (n : ℕ) → option_map (λ x. length (f x)) o ≡ Some n → length (option_map_or f o []) ≡ n
-counted f None n is = absurd (none-some n is)
-counted f (Some x) n is = same_Some (length (f x)) n is
+counted f o n is = grind arith
 
 pub many : {A B : Type 0} (f : A → List B) (o : Option A) (n : ℕ) → IsSome o → length (option_map_or f o []) ≡ n → option_map (λ x. length (f x)) o ≡ Some n
-many f None n some is = absurd (false≢true some)
-many f (Some x) n some is = ap Some is
+many f o n some is = grind arith
 
 -- there is a list that has an element
 pub list_some : {A B : Type 0} (f : A → List B) (o : Option A) (n : ℕ) → IsSome (option_and_then (λ x. slice_get (f x) n) o) → IsSome o
-list_some f None n some = some
-list_some f (Some x) n some = refl
+list_some f o n some = grind arith
 
 -- ---- elements of lists that are put together
 
@@ -58,8 +53,7 @@ get_flat : {X A : Type 0} (f : X → List A) (xs : List X) (n k m : ℕ) (y : A)
 get_flat f [] n k m y found place = absurd (none-some y found)
 get_flat f (a ∷ xs) zero k m y found place = let same : m ≡ k = omega arith in get_front (f a) (flat_map f xs) m y (ap (slice_get (f a)) same ∙ found)
 get_flat f (a ∷ xs) (suc n) k m y found place =
-    let sum = length-append (f a) (flat_map f (take n xs)) in
-    get_behind (f a) (flat_map f xs) (length (flat_map f (take n xs)) + k) m y (omega arith) (get_flat f xs n k (length (flat_map f (take n xs)) + k) y found refl)
+    grind (arith, get_flat f xs n k (length (flat_map f (take n xs)) + k) y found refl, length-append, get_behind)
 
 -- one more of the first elements, and of their lists joined
 pub take_next : {A : Type 0} (xs : List A) (n : ℕ) (x : A) → slice_get xs n ≡ Some x → take (n + 1) xs ≡ take n xs ++ x ∷ []
@@ -81,10 +75,7 @@ pub next_statement : (ts : List PlacedTransaction) (t s : ℕ) (y : PlacedStatem
 next_statement ts t s y at = omega (arith, flat_next statement_entries (statements_at ts t) s y at, statement_len y)
 
 pub last_statement : (ts : List PlacedTransaction) (t s : ℕ) (x : PlacedTransaction) → slice_get ts t ≡ Some x → length x.statements ≤ s → statement_place ts t s + 1 ≡ transaction_place ts (t + 1)
-last_statement ts t s x at all =
-    let here = ap (λ o. length (flat_map statement_entries (take s (option_map_or (λ z. z.statements) o [])))) at in
-    let whole = ap (λ l. length (flat_map statement_entries l)) (take_all s x.statements all) in
-    omega (arith, next_transaction ts t x at)
+last_statement ts t s x at all = grind (arith, take_all, next_transaction)
 
 -- ---- beginnings
 
@@ -105,27 +96,22 @@ get_start n (a ∷ ss) (suc s) k y at place =
 pub get_statement_start : (n : ℕ) (ts : List PlacedTransaction) (t s m k : ℕ) (y : PlacedStatement) → slice_get (statements_at ts t) s ≡ Some y → m ≡ statements_in (take t ts) + s → k ≡ n + statement_place ts t s
     → slice_get (statement_starts n ts) m ≡ Some (statement_start k (length y.maps))
 get_statement_start n [] t s m k y at place start = absurd (none-some y at)
-get_statement_start n (a ∷ ts) zero s m k y at place start =
-    let same : m ≡ s = omega arith in
-    get_front (starts_in (n + 1) a.statements) (statement_starts (n + length (transaction_entries a)) ts) m (statement_start k (length y.maps))
-    (ap (slice_get (starts_in (n + 1) a.statements)) same ∙ get_start (n + 1) a.statements s k y at (omega arith))
+get_statement_start n (a ∷ ts) zero s m k y at place start = grind (arith, get_front, get_start (n + 1) a.statements s k y at)
 get_statement_start n (a ∷ ts) (suc t) s m k y at place start =
-    let first = statements_cons a (take t ts) in
-    let len = starts_len (n + 1) a.statements in
-    get_behind (starts_in (n + 1) a.statements) (statement_starts (n + length (transaction_entries a)) ts) (statements_in (take t ts) + s) m (statement_start k (length y.maps)) (omega arith)
-    (get_statement_start (n + length (transaction_entries a)) ts t s (statements_in (take t ts) + s) k y at refl (omega (arith, entries_cons a (take t ts))))
+    let rest = get_statement_start (n + length (transaction_entries a)) ts t s (statements_in (take t ts) + s) k y at refl in
+    grind (arith, statements_cons, starts_len, get_behind, entries_cons)
 
 -- ---- entries
 
 pub get_begin : (ts : List PlacedTransaction) (t m : ℕ) (x : PlacedTransaction) → slice_get ts t ≡ Some x → m ≡ transaction_place ts t → slice_get (entries_of ts) m ≡ Some (event_entry x.begin)
-get_begin ts t m x at place = get_flat transaction_entries ts t 0 m (event_entry x.begin) (ap (λ o. slice_get (option_map_or transaction_entries o []) 0) at) (omega arith)
+get_begin ts t m x at place = grind (arith, get_flat transaction_entries ts t 0)
 
 pub get_end : (ts : List PlacedTransaction) (t m : ℕ) (x : PlacedTransaction) → slice_get ts t ≡ Some x → m + 1 ≡ transaction_place ts (t + 1) → slice_get (entries_of ts) m ≡ Some (event_entry x.end)
 get_end ts t m x at place =
     let inside = flat_map statement_entries x.statements in
-    get_flat transaction_entries ts t (1 + length inside) m (event_entry x.end)
-    (ap (λ o. slice_get (option_map_or transaction_entries o []) (1 + length inside)) at ∙ get_behind (event_entry x.begin ∷ inside) (event_entry x.end ∷ []) 0 (1 + length inside) (event_entry x.end) (omega arith) refl)
-    (omega (arith, next_transaction ts t x at))
+    let last = event_entry x.end in
+    let behind = get_behind (event_entry x.begin ∷ inside) (last ∷ []) 0 in
+    grind (arith, get_flat transaction_entries ts t (1 + length inside) m last, next_transaction ts t x at)
 
 -- of a statement, by its number in it
 get_statement : (ts : List PlacedTransaction) (t s k m : ℕ) (e : Entry) → slice_get (option_map_or statement_entries (statement_at ts t s) []) k ≡ Some e → m ≡ statement_place ts t s + k
@@ -141,16 +127,13 @@ get_statement ts t s k m e found place =
         get_front (event_entry x.begin ∷ flat_map statement_entries x.statements) (event_entry x.end ∷ []) (suc n) e (get_flat statement_entries x.statements s k n e found refl)
 
 pub get_map : (ts : List PlacedTransaction) (t s k m : ℕ) (p : Placed) → map_at ts t s k ≡ Some p → m ≡ statement_place ts t s + k → slice_get (entries_of ts) m ≡ Some (event_entry p)
-get_map ts t s k m p is place = get_statement ts t s k m (event_entry p) (own (statement_at ts t s) is) place
-  where
-    own : (o : Option PlacedStatement) → option_and_then (λ y. slice_get y.maps k) o ≡ Some p → slice_get (option_map_or statement_entries o []) k ≡ Some (event_entry p)
-    own None is = absurd (none-some p is)
-    own (Some y) is = get_front (map event_entry y.maps) (map rows_entry y.rows) k (event_entry p) (slice_get-map event_entry y.maps k ∙ ap (option_map event_entry) is)
+get_map ts t s k m p is place =
+    option_and_then_some (λ y. slice_get y.maps k) (statement_at ts t s) p is
+    (λ y at found. let front = get_front (map event_entry y.maps) (map rows_entry y.rows) k in
+    get_statement ts t s k m (event_entry p) (grind (arith, at, slice_get-map)) place)
 
 pub get_rows : (ts : List PlacedTransaction) (t s k m : ℕ) (r : PlacedRows) → rows_at ts t s k ≡ Some r → m ≡ rows_place ts t s + k → slice_get (entries_of ts) m ≡ Some (rows_entry r)
-get_rows ts t s k m r is place = get_statement ts t s (length (maps_in ts t s) + k) m (rows_entry r) (own (statement_at ts t s) is) (omega arith)
-  where
-    own : (o : Option PlacedStatement) → option_and_then (λ y. slice_get y.rows k) o ≡ Some r → slice_get (option_map_or statement_entries o []) (length (option_map_or (λ y. y.maps) o []) + k) ≡ Some (rows_entry r)
-    own None is = absurd (none-some r is)
-    own (Some y) is =
-        get_behind (map event_entry y.maps) (map rows_entry y.rows) k (length y.maps + k) (rows_entry r) (omega (arith, length-map y.maps event_entry)) (slice_get-map rows_entry y.rows k ∙ ap (option_map rows_entry) is)
+get_rows ts t s k m r is place =
+    option_and_then_some (λ y. slice_get y.rows k) (statement_at ts t s) r is
+    (λ y at found. let behind = get_behind (map event_entry y.maps) (map rows_entry y.rows) k in
+    get_statement ts t s (length (maps_in ts t s) + k) m (rows_entry r) (grind (arith, at, slice_get-map, length-map)) (omega arith))

@@ -19,19 +19,12 @@ use Rattle.blog_trans.proofs.Columns.{flat_push, entries_push, transaction_start
 -- how long the list of entries is while a transaction is open
 open_len : {A : Type 0} (lists : IndexLists A) (done : List PlacedTransaction) (o : Open) → Shows lists.entries.items lists.transactions.items lists.statements.items (open_behind done o)
     → length lists.entries.items ≡ length (entries_of done) + 1 + length (flat_map statement_entries o.statements) + length o.rows
-open_len lists done o shows =
-    let all = ap length shows.entries_are in
-    let outer = length-append (entries_of done) (event_entry o.begin ∷ (flat_map statement_entries o.statements ++ map rows_entry o.rows)) in
-    let inner = length-append (flat_map statement_entries o.statements) (map rows_entry o.rows) in
-    omega (arith, length-map o.rows rows_entry)
+open_len lists done o shows = grind (arith, length-append, length-map)
 
 -- and how many statements there are then
 open_statements : {A : Type 0} (lists : IndexLists A) (done : List PlacedTransaction) (o : Open) → Shows lists.entries.items lists.transactions.items lists.statements.items (open_behind done o)
     → length lists.statements.items ≡ statements_in done + length o.statements
-open_statements lists done o shows =
-    let all = ap length shows.statements_are in
-    let both = length-append (statement_starts 0 done) (starts_in (length (entries_of done) + 1) o.statements) in
-    omega (arith, statements_len 0 done, starts_len (length (entries_of done) + 1) o.statements)
+open_statements lists done o shows = grind (arith, length-append, statements_len, starts_len)
 
 -- ---- the end of a statement
 
@@ -40,8 +33,7 @@ abbrev one_more : Open → List Placed → List PlacedStatement
 one_more o ms = o.statements ++ record { maps = ms; rows = o.rows } ∷ []
 
 behind_some : (o : Open) (ms : List Placed) (rows : List PlacedRows) → 0 < length rows → o.statements ++ record { maps = ms; rows = rows } ∷ [] ≡ statement_behind o.statements ms rows
-behind_some o ms [] some = absurd (omega arith)
-behind_some o ms (r ∷ rows) some = refl
+behind_some o ms rows some = grind arith
 
 -- the entries of the maps are in front of those of the rows events
 closed_entries : (entries : List Entry) (start : ℕ) (done : List PlacedTransaction) (o : Open) (used : List MapSeen) (ms : List Placed)
@@ -49,17 +41,13 @@ closed_entries : (entries : List Entry) (start : ℕ) (done : List PlacedTransac
     → start ≡ length (entries_of done) + 1 + length (flat_map statement_entries o.statements) → map (λ m. m.at) used ≡ map (λ m. m.pos) ms
     → take start entries ++ (map_entries used ++ drop start entries) ≡ entries_of done ++ (event_entry o.begin ∷ (flat_map statement_entries (one_more o ms) ++ []))
 closed_entries entries start done o used ms is begins same =
-    let before : List Entry = event_entry o.begin ∷ flat_map statement_entries o.statements in
-    let front : List Entry = entries_of done ++ before in
+    let front : List Entry = entries_of done ++ (event_entry o.begin ∷ flat_map statement_entries o.statements) in
     let rows : List Entry = map rows_entry o.rows in
-    let parts : entries ≡ front ++ rows = is ∙ sym (append_assoc (entries_of done) before rows) in
-    let len : length front ≡ start = omega (arith, length-append (entries_of done) before, begins) in
-    let maps : map_entries used ≡ map event_entry ms = sym (map-map (λ n. entry_at n 0) (λ (m : MapSeen). m.at) used) ∙ ap (map (λ n. entry_at n 0)) same ∙ map-map (λ n. entry_at n 0) (λ (m : Placed). m.pos) ms in
-    ap₂ (λ (a b : List Entry). a ++ (map_entries used ++ b)) (ap (take start) parts ∙ take_at front rows start len) (ap (drop start) parts ∙ drop_at front rows start len)
-    ∙ ap (λ es. front ++ (es ++ rows)) maps
-    ∙ append_assoc (entries_of done) before (map event_entry ms ++ rows)
-    ∙ ap (λ es. entries_of done ++ (event_entry o.begin ∷ es))
-    (sym (flat_push statement_entries o.statements (record { maps = ms; rows = o.rows })) ∙ sym (append-nil (flat_map statement_entries (one_more o ms))))
+    let maps : map_entries used ≡ map event_entry ms =
+    sym (map-map (λ n. entry_at n 0) (λ (m : MapSeen). m.at) used) ∙ ap (map (λ n. entry_at n 0)) same
+    ∙ map-map (λ n. entry_at n 0) (λ (m : Placed). m.pos) ms in
+    let push = flat_push statement_entries o.statements (record { maps = ms; rows = o.rows }) in
+    grind (arith, take_at front rows start, drop_at front rows start, append_assoc, append-nil, length-append)
 
 module _ {A : Type 0} (before after : IndexLists A) (done : List PlacedTransaction) where
   -- ---- a transaction begins
@@ -68,20 +56,8 @@ module _ {A : Type 0} (before after : IndexLists A) (done : List PlacedTransacti
       → after.transaction_start ≡ length before.entries.items → after.first_statement ≡ length before.statements.items → after.statement_start ≡ length after.entries.items
       → HasKept before (all_ended done) → HasKept after (open_behind done (between_statements p []))
   begun p entries transactions statements start first next h =
-      let events = h.shows.entries_are ∙ append-nil (entries_of done) in
-      let many = ap length events in
-      record {
-        shows = record {
-          entries_are = entries ∙ ap (λ es. es ++ event_entry p ∷ []) events;
-          transactions_are = transactions ∙ h.shows.transactions_are;
-          statements_are = statements ∙ h.shows.statements_are;
-        };
-        marked = record {
-          transaction_is = start ∙ many;
-          first_is = first ∙ ap length (h.shows.statements_are ∙ append-nil (statement_starts 0 done)) ∙ statements_len 0 done;
-          statement_is = omega (arith, next, ap length entries, length-append before.entries.items (event_entry p ∷ []), many);
-        };
-      }
+      let long = length-append before.entries.items (event_entry p ∷ []) in
+      grind (arith, append-nil (entries_of done), append-nil (statement_starts 0 done), statements_len 0 done)
 
   -- ---- a statement ends
 
@@ -91,24 +67,15 @@ module _ {A : Type 0} (before after : IndexLists A) (done : List PlacedTransacti
       → after.transaction_start ≡ before.transaction_start → after.first_statement ≡ before.first_statement → after.statement_start ≡ length after.entries.items
       → (length before.entries.items ≡ before.statement_start → ⊥) → HasKept before (open_behind done o) → HasKept after (open_behind done (closed_by ms o))
   closed o used ms many same counted entries transactions statements start first next more h =
-      let some : 0 < length o.rows = omega (arith, open_len before done o h.shows, h.marked.statement_is, more) in
-      let length_is : many ≡ length ms = counted ∙ sym (length-map used (λ m. m.at)) ∙ ap length same ∙ length-map ms (λ m. m.pos) in
-      let from = length (entries_of done) + 1 in
+      let starts = starts_push (length (entries_of done) + 1) o.statements (record { maps = ms; rows = o.rows }) in
       let shows : Shows after.entries.items after.transactions.items after.statements.items (open_behind done (between_statements o.begin (one_more o ms))) = record {
         entries_are = entries ∙ closed_entries before.entries.items before.statement_start done o used ms h.shows.entries_are h.marked.statement_is same;
         transactions_are = transactions ∙ h.shows.transactions_are;
-        statements_are = statements ∙ ap₂ (λ zs z. zs ++ z ∷ []) h.shows.statements_are (ap₂ statement_start h.marked.statement_is length_is)
-            ∙ append_assoc (statement_starts 0 done) (starts_in from o.statements) _
-            ∙ ap (λ zs. statement_starts 0 done ++ zs) (sym (starts_push from o.statements (record { maps = ms; rows = o.rows })));
+        statements_are = grind (arith, length-map used (λ m. m.at), length-map ms (λ m. m.pos), append_assoc);
       } in
-      subst (λ (ss : List PlacedStatement). HasKept after (open_behind done (between_statements o.begin ss))) (behind_some o ms o.rows some) (record {
-        shows = shows;
-        marked = record {
-          transaction_is = start ∙ h.marked.transaction_is;
-          first_is = first ∙ h.marked.first_is;
-          statement_is = omega (arith, next, open_len after done (between_statements o.begin (one_more o ms)) shows);
-        };
-      })
+      let some : 0 < length o.rows = omega (arith, open_len before done o h.shows, h.marked.statement_is, more) in
+      subst (λ (ss : List PlacedStatement). HasKept after (open_behind done (between_statements o.begin ss))) (behind_some o ms o.rows some)
+      (record { shows = shows; marked = grind (arith, open_len after done (between_statements o.begin (one_more o ms)) shows) })
 
   -- ---- a transaction ends
 
@@ -116,15 +83,8 @@ module _ {A : Type 0} (before after : IndexLists A) (done : List PlacedTransacti
   pub left_out : (begin : Placed) (inside : List PlacedStatement) (p : Placed) → after.entries.items ≡ take before.transaction_start before.entries.items
       → after.transactions.items ≡ before.transactions.items → after.statements.items ≡ before.statements.items → length before.statements.items ≡ before.first_statement
       → HasKept before (open_behind done (between_statements begin inside)) → HasKept after (ended p done (between_statements begin inside))
-  left_out begin [] p entries transactions statements same h = record {
-    shows = record {
-      entries_are = entries ∙ ap (take before.transaction_start) h.shows.entries_are ∙ take_at (entries_of done) (event_entry begin ∷ []) before.transaction_start (sym h.marked.transaction_is)
-          ∙ sym (append-nil (entries_of done));
-      transactions_are = transactions ∙ h.shows.transactions_are;
-      statements_are = statements ∙ h.shows.statements_are;
-    };
-    marked = tt;
-  }
+  left_out begin [] p entries transactions statements same h =
+      grind (arith, take_at (entries_of done) (event_entry begin ∷ []) before.transaction_start, append-nil)
   left_out begin (s ∷ ss) p entries transactions statements same h = absurd (omega (arith, open_statements before done (between_statements begin (s ∷ ss)) h.shows, h.marked.first_is, same))
 
   -- with statements
@@ -134,16 +94,4 @@ module _ {A : Type 0} (before after : IndexLists A) (done : List PlacedTransacti
   taken begin [] p entries transactions statements more h = absurd (more (omega (arith, open_statements before done (between_statements begin []) h.shows, h.marked.first_is)))
   taken begin (s ∷ ss) p entries transactions statements more h =
       let t : PlacedTransaction = record { begin = begin; statements = s ∷ ss; end = p } in
-      let inside = flat_map statement_entries (s ∷ ss) in
-      record {
-        shows = record {
-          entries_are = entries ∙ ap (λ es. es ++ event_entry p ∷ []) (h.shows.entries_are ∙ ap (λ es. entries_of done ++ (event_entry begin ∷ es)) (append-nil inside))
-              ∙ append_assoc (entries_of done) (event_entry begin ∷ inside) (event_entry p ∷ []) ∙ sym (entries_push done t) ∙ sym (append-nil (entries_of (done ++ t ∷ [])));
-          transactions_are = transactions ∙ ap₂ (λ (zs : List TransactionStart) (z : TransactionStart). zs ++ z ∷ []) h.shows.transactions_are
-              (ap₂ transaction_start (h.marked.transaction_is ∙ sym (zero-add (length (entries_of done)))) (h.marked.first_is ∙ sym (zero-add (statements_in done))))
-              ∙ sym (transaction_starts_push 0 0 done t);
-          statements_are = statements ∙ h.shows.statements_are ∙ ap (λ n. statement_starts 0 done ++ starts_in (n + 1) (s ∷ ss)) (sym (zero-add (length (entries_of done))))
-              ∙ sym (statement_starts_push 0 done t) ∙ sym (append-nil (statement_starts 0 (done ++ t ∷ [])));
-        };
-        marked = tt;
-      }
+      grind (arith, append-nil, append_assoc, entries_push done t, transaction_starts_push 0 0 done t, statement_starts_push 0 done t)

@@ -26,10 +26,7 @@ found-again : {X : Type 0} (f g : ℕ → Option X) → ((n : ℕ) (x : X) → f
 found-again f g goes [] [] are = refl
 found-again f g goes [] (x ∷ xs) are = absurd (cc)
 found-again f g goes (n ∷ ns) [] are = absurd (cc)
-found-again f g goes (n ∷ ns) (x ∷ xs) are =
-    let first : f n ≡ Some x = cc in
-    let rest : map f ns ≡ map Some xs = cc in
-    λ k. goes n x first k ∷ found-again f g goes ns xs rest k
+found-again f g goes (n ∷ ns) (x ∷ xs) are = grind (arith, found-again f g goes ns xs (cc))
 
 -- no element stands at the number of a table that isn't among them, nor at that of the added one
 same-row : {X : Type 0} (rows : List X) (tables : List Table) (t u : Table) → length rows ≤ length tables
@@ -40,10 +37,4 @@ same-row (x ∷ rows) (v ∷ tables) t u few = let later = same-row rows tables 
 
 pub counts-grown : {A : Type 0} (before after : List Table) (cs : List Change) (ts : List Table) (counts : Counts A) → HaveGrown before after
     → AreCounts before cs ts counts → AreCounts after cs ts counts
-counts-grown before after cs ts counts (inl same) are = subst (λ tables. AreCounts tables cs ts counts) (sym same) are
-counts-grown before after cs ts counts (inr (t, is, new)) are = subst (λ tables. AreCounts tables cs ts counts) (sym is) (record {
-  told = λ u. ap (told_of u) (same-row counts.rows.items before t u are.few) ∙ are.told u;
-  firsts = found-again (λ n. slice_get before n) (λ n. slice_get (before ++ t ∷ []) n) (λ n u. front-place before t u n) counts.tables.items (first_tables [] ts) are.firsts;
-  few = omega (arith, are.few, length-append before (t ∷ []));
-  distinct = IsDistinct-push table-laws before t are.distinct new;
-})
+counts-grown before after cs ts counts grown are = grind (arith, same-row, found-again, front-place, length-append, IsDistinct-push, table-laws)

@@ -1,5 +1,5 @@
 -- What is known of an index: its lists, and that the events of its groups stand in its log.
-use Rattle.std.proofs.Common.{◌≡◌, ℕ, zero, suc, ◌+◌, ◌<◌, List, [], ◌∷◌, length, take, drop, Option, Some, None, IsSome, refl, sym, ap, subst, ◌∙◌, arith}
+use Rattle.std.proofs.Common.{rules, ◌≡◌, ℕ, zero, suc, ◌+◌, ◌<◌, List, [], ◌∷◌, length, take, drop, Option, Some, None, IsSome, refl, sym, ap, subst, ◌∙◌, arith}
 use Rattle.std.specs.Option.{option_map_or}
 use Rattle.std.specs.List.{AllByRecursion, slice_get}
 use Rattle.std.proofs.lemmas.Bool.{false≢true}
@@ -35,9 +35,7 @@ stand_read bytes sel accepted =
 
 pub groups_known : (bytes : List ℕ) (sel : Selection) → IsAccepted bytes sel → AllByRecursion (IsPlacedTransaction (Stands bytes) sel) (placed_groups bytes sel)
 unfolding placed_groups
-groups_known bytes sel accepted =
-    groups-placed (Stands bytes) sel (range sel (placed_from 4 (read bytes sel.stop)))
-    (all-by _ _ (λ p h. h.0) _ (all-filter (Stands bytes) (is_in_range sel) (placed_from 4 (read bytes sel.stop)) (stand_read bytes sel accepted)))
+groups_known bytes sel accepted = search (rules, groups-placed, all-by, all-filter, stand_read)
 
 -- ---- of an index, by number
 
@@ -47,8 +45,7 @@ found (x ∷ xs) zero below = (x, refl)
 found (x ∷ xs) (suc n) below = found xs n (omega arith)
 
 pub some_found : {A : Type 0} (o : Option A) → IsSome o → (x : A) × (o ≡ Some x)
-some_found None some = absurd (false≢true some)
-some_found (Some x) some = (x, refl)
+some_found o some = grind arith
 
 known : {A : Type 0} (index : Index A) (t : ℕ) (x : PlacedTransaction) → slice_get (index_groups index) t ≡ Some x → IsPlacedTransaction (Stands (index_bytes index)) (index_selection index) x
 known index t x at = all-at (IsPlacedTransaction (Stands (index_bytes index)) (index_selection index)) (index_groups index) t x (groups_known (index_bytes index) (index_selection index) index.accepted) at
@@ -61,7 +58,7 @@ statement_known index t s y is =
 pub map_known : {A : Type 0} (index : Index A) (t s m : ℕ) (p : Placed) → map_at (index_groups index) t s m ≡ Some p → IsPlacedMap (Stands (index_bytes index)) (index_selection index) p
 map_known index t s m p is =
     option_and_then_some (λ y. slice_get y.maps m) (statement_at (index_groups index) t s) p is
-    (λ y at inside. all-at (IsPlacedMap (Stands (index_bytes index)) (index_selection index)) y.maps m p (statement_known index t s y at).maps inside)
+    (λ y at. all-at _ y.maps m p (statement_known index t s y at).maps)
 
 -- ---- entries
 
@@ -92,15 +89,7 @@ rows_read index t s r n some place =
     let (p, is) = some_found (rows_at (index_groups index) t s r) some in
     let here = ap (λ es. slice_get es n) index.entries_are ∙ get_rows (index_groups index) t s r n p is place in
     option_and_then_some (λ y. slice_get y.rows r) (statement_at (index_groups index) t s) p is
-    (λ y at inside. (
-      p,
-      is,
-      record {
-        here = here;
-        maps = y.maps;
-        known = all-at (IsPlacedRows (Stands (index_bytes index)) (index_selection index) y.maps) y.rows r p (statement_known index t s y at).rows inside;
-      },
-    ))
+    (λ y at inside. (p, is, record { here = here; maps = y.maps; known = all-at _ y.rows r p (statement_known index t s y at).rows inside }))
 
 -- ---- an event that was read is the one that stands there
 
@@ -108,9 +97,7 @@ pub some_at : (bytes : List ℕ) (p : Placed) (at : ℕ) → at ≡ p.pos → St
 some_at bytes p at same stands = rw (same, stands) refl
 
 pub placed_is : (bytes : List ℕ) (p : Placed) (at : ℕ) (e : told.Event) → at ≡ p.pos → Stands bytes p → event_at (drop at bytes) ≡ Some (event_of e) → e.pos ≡ at → placed e ≡ p
-placed_is bytes p at e same stands read pos =
-    let event = same_Some (event_of e) p.event (sym read ∙ ap (λ n. event_at (drop n bytes)) same ∙ stands) in
-    λ i. record { pos = (pos ∙ same) i; event = event i }
+placed_is bytes p at e same stands read pos = grind arith
 
 -- ---- beginnings
 
@@ -126,25 +113,13 @@ pub transaction_read : {A : Type 0} (index : Index A) (t : ℕ) → t < length (
 transaction_read index t below = ap (λ xs. slice_get xs t) index.transactions_are ∙ get_transaction_start 0 0 (index_groups index) t _ _ below (omega arith) (omega arith)
 
 pub below : {A : Type 0} (index : Index A) (t s : ℕ) → IsSome (statement_at (index_groups index) t s) → t < length (index_groups index)
-below index t s some =
-    let (y, is) = some_found (statement_at (index_groups index) t s) some in
-    option_and_then_some (λ x. slice_get x.statements s) (slice_get (index_groups index) t) y is (λ x at inside. slice_get_within (index_groups index) t x at)
+below index t s some = grind (arith, some_found, option_and_then_some, slice_get_within)
 
 pub statement_read : {A : Type 0} (index : Index A) (t s n : ℕ) → IsSome (statement_at (index_groups index) t s) → n ≡ statements_in (take t (index_groups index)) + s
     → slice_get index.statements.items n ≡ Some (statement_start (statement_place (index_groups index) t s) (length (maps_in (index_groups index) t s)))
-statement_read index t s n some place =
-    let ts = index_groups index in
-    let (y, is) = some_found (statement_at ts t s) some in
-    ap (λ xs. slice_get xs n) index.statements_are
-    ∙ get_statement_start 0 ts t s n (statement_place ts t s) y (sym (inner (λ x. x.statements) (slice_get ts t) s) ∙ is) place (omega arith)
-    ∙ ap (λ o. Some (statement_start (statement_place ts t s) (length (option_map_or (λ z. z.maps) o [])))) (sym is)
+statement_read index t s n some place = grind (arith, some_found, get_statement_start, inner)
 
 -- where the next statement begins
 pub end_found : {A : Type 0} (index : Index A) (t s : ℕ) → IsSome (statement_at (index_groups index) t s)
     → statement_place (index_groups index) t (s + 1) ≡ rows_place (index_groups index) t s + length (rows_in (index_groups index) t s)
-end_found index t s some =
-    let ts = index_groups index in
-    let (y, is) = some_found (statement_at ts t s) some in
-    let maps = ap (λ o. length (option_map_or (λ z. z.maps) o [])) is in
-    let rows = ap (λ o. length (option_map_or (λ z. z.rows) o [])) is in
-    omega (arith, next_statement ts t s y (sym (inner (λ x. x.statements) (slice_get ts t) s) ∙ is))
+end_found index t s some = grind (arith, some_found, next_statement, inner)

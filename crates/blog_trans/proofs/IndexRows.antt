@@ -1,5 +1,5 @@
 -- What an index shows of a rows event by its entry.
-use Rattle.std.proofs.Common.{◌≡◌, ℕ, drop, get_or, Bool, true, false, List, [], ◌∷◌, Option, Some, None, Result, Ok, IfSome, refl, sym, ap, ap₂, subst, ◌∙◌}
+use Rattle.std.proofs.Common.{arith, ◌≡◌, ℕ, drop, get_or, Bool, true, false, List, [], ◌∷◌, Option, Some, None, Result, Ok, IfSome, refl, sym, ap, ap₂, subst, ◌∙◌}
 use Rattle.std.specs.Prelude.{◌==◌, ◌||◌, if◌then◌else◌, bytes_eq, codes}
 use Rattle.std.specs.Option.{option_map_or}
 use Rattle.std.proofs.lemmas.Option.{none-some, same_Some}
@@ -12,11 +12,11 @@ use Rattle.blog_row.specs.Column.{Layout, is_one_of}
 use Rattle.blog_row.specs.RowsKind.{rows_kind_of}
 use Rattle.blog_row.specs.TableMap.{layout_of}
 use Rattle.blog_row.specs.RowsEvent.{RowsBody, rows_of}
+use Rattle.blog_row.specs.declared.event_kinds.EventKind.{EventKind}
+use Rattle.blog_row.specs.declared.event_kinds.EventKind.TheVariants as kind
+use Rattle.blog_row.specs.Kinds.{begins_with, kind_of, other_kind, query_kind, query_text, rows_of_kind}
 use Rattle.blog_trans.specs.declared.lists.Entry.{Entry}
 use Rattle.blog_trans.specs.declared.groups.Index.{Index}
-use Rattle.blog_trans.specs.declared.kind.EventKind.{EventKind}
-use Rattle.blog_trans.specs.declared.kind.EventKind.TheVariants as kind
-use Rattle.blog_trans.specs.Kinds.{begins_with, kind_of, other_kind, query_kind, query_text, rows_of_kind}
 use Rattle.blog_trans.specs.Places.{kind_at}
 use Rattle.blog_trans.specs.Acceptance.{rows_under, rows_by_map}
 use Rattle.blog_trans.specs.Groups.{PlacedRows}
@@ -40,30 +40,23 @@ own_map index n e event r is item read pos = placed_is (index_bytes index) r.map
 -- its map can be read
 pub map_told : {A : Type 0} (P : Event → Type 0) (index : Index A) (n : ℕ) (e : Entry) (r : PlacedRows) → IsRowsOfEntry index n r → e ≡ get_or index.entries.items n e → P r.map.event
     → IfSome (event_at (drop e.map (index_bytes index))) P
-map_told P index n e r is item told =
-    subst (λ (o : Option Event). IfSome o P) (sym (ap (λ (x : Entry). event_at (drop x.map (index_bytes index))) (own_entry index n e r is item) ∙ is.known.map.member)) told
+map_told P index n e r is item told = grind (arith, own_entry index n e r is item)
 
 -- ---- what it says
 
 -- of two kinds of which the first isn't one of rows events
 past : (b : Bool) (x y : EventKind) (k : RowsKind) → rows_of_kind x ≡ None → rows_of_kind (if b then x else y) ≡ Some k → rows_of_kind y ≡ Some k
-past true x y k none is = absurd (none-some k (sym none ∙ is))
-past false x y k none is = is
+past b x y k none is = grind arith
 
 neither : (b : Bool) (x y : EventKind) → rows_of_kind x ≡ None → rows_of_kind y ≡ None → rows_of_kind (if b then x else y) ≡ None
-neither true x y first second = first
-neither false x y first second = second
+neither b x y first second = grind arith
 
 no_query : (o : Option (List ℕ)) → rows_of_kind (option_map_or query_kind o kind.BadQuery) ≡ None
 unfolding query_kind
-no_query None = refl
-no_query (Some text) =
-    neither (bytes_eq text (codes "BEGIN")) kind.Begin _ refl (neither (bytes_eq text (codes "COMMIT")) kind.Commit _ refl
-    (neither (bytes_eq text (codes "ROLLBACK") || begins_with (codes "ROLLBACK TO ") text) kind.Rollback _ refl (neither (begins_with (codes "SAVEPOINT ") text) kind.Savepoint kind.OtherQuery refl refl)))
+no_query o = grind (arith, neither)
 
 by_number : (o : Option RowsKind) (other : EventKind) (k : RowsKind) → rows_of_kind other ≡ None → rows_of_kind (option_map_or kind.Rows o other) ≡ Some k → o ≡ Some k
-by_number None other k none is = absurd (none-some k (sym none ∙ is))
-by_number (Some own) other k none is = is
+by_number o other k none is = grind arith
 
 -- the type of a rows event tells its kind
 pub kind_by_type : (e : Event) (k : RowsKind) → kind_of e ≡ kind.Rows k → rows_kind_of e.kind ≡ Some k
@@ -85,8 +78,7 @@ kind_same r event k kind_is same told = same_Some k r.kind (told ∙ type_known 
 -- the body is read by the map's layout
 pub body_read : (r : PlacedRows) (event map : told.Event) (k : RowsKind) (columns : Layout) → rows_by_map r.kind r.map.event.body r.event.event.body ≡ Ok r.body → placed event ≡ r.event → placed map ≡ r.map
     → k ≡ r.kind → layout_of map.body.now ≡ Ok columns → rows_of k columns event.body.now ≡ Ok r.body
-body_read r event map k columns read event_same map_same kind_is laid =
-    ap₂ (λ j l. rows_under j l event.body.now) kind_is (sym laid) ∙ ap₂ (λ (e m : Placed). rows_by_map r.kind m.event.body e.event.body) event_same map_same ∙ read
+body_read r event map k columns read event_same map_same kind_is laid = grind arith
 
 pub same_body : (x y : RowsBody) → ◌≡◌ {A = Result RowsBody RowFault} (Ok x) (Ok y) → x ≡ y
 same_body x y same = cc

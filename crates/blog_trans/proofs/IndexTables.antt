@@ -1,5 +1,5 @@
 -- The numbers by table of an index are those of its groups.
-use Rattle.std.proofs.Common.{◌≡◌, ℕ, List, [], map, length, Some, option_map, sym, ap, ◌∙◌}
+use Rattle.std.proofs.Common.{arith, ◌≡◌, ℕ, List, [], map, length, Some, option_map, sym, ap, ◌∙◌}
 use Rattle.std.specs.List.{flat_map, slice_get}
 use Rattle.std.proofs.lemmas.List.{append-nil, length-map}
 use Rattle.std.proofs.lemmas.List.Folds.{flat_map-map}
@@ -42,9 +42,8 @@ pub counts_same : (bytes : List ℕ) (sel : Selection) (n : ℕ) (c : TableCount
     → option_map (count_of (placed_changes (placed_groups bytes sel))) (slice_get (first_tables [] (placed_tables (placed_groups bytes sel))) n) ≡ Some c
     → slice_get (counts_of (groups bytes sel)) n ≡ Some c
 counts_same bytes sel n c told =
-    slice_get-map (count_of (changes_of (groups bytes sel))) (tables_of (groups bytes sel)) n
-    ∙ ap (λ (cs : List Change). option_map (count_of cs) (slice_get (tables_of (groups bytes sel)) n)) (sym (changes_same bytes sel))
-    ∙ ap (λ (ts : List Table). option_map (count_of (placed_changes (placed_groups bytes sel))) (slice_get ts n)) (sym (tables_same bytes sel)) ∙ told
+    let at = slice_get-map (count_of (changes_of (groups bytes sel))) (tables_of (groups bytes sel)) n in
+    grind (arith, changes_same bytes sel, tables_same bytes sel)
 
 -- ---- tables by their numbers
 

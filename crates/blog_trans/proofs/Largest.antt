@@ -1,5 +1,5 @@
 -- The largest event of the groups, found by their entries.
-use Rattle.std.proofs.Common.{◌≡◌, ℕ, ◌<◌, List, length, Some, option_map, sym, ap, ◌∙◌}
+use Rattle.std.proofs.Common.{arith, ◌≡◌, ℕ, ◌<◌, List, length, Some, option_map, sym, ap, ◌∙◌}
 use Rattle.std.specs.List.{AllByRecursion, slice_get}
 use Rattle.std.proofs.lemmas.List.{length-map}
 use Rattle.std.proofs.lemmas.Option.{slice_get-map}
@@ -34,6 +34,4 @@ entry-shown index i within =
 
 -- how many there are
 pub shown-many : {A : Type 0} (index : Index A) → length (shown (index_bytes index) (index_selection index)) ≡ length index.entries.items
-shown-many index =
-    sym (length-map (shown (index_bytes index) (index_selection index)) (λ (p : Placed). p.pos))
-    ∙ sym (ap length (entries-at index.entries.items (index_bytes index) (index_selection index) index.entries_are)) ∙ length-map index.entries.items (λ (e : Entry). e.at)
+shown-many index = grind (arith, length-map, entries-at index.entries.items (index_bytes index) (index_selection index) index.entries_are)

@@ -23,18 +23,14 @@ unfolding read
 none-read bytes stop mark none = rw (mark, none) refl
 
 -- what is read has a first event exactly where one stands behind the mark, and it is this one
-record IsFirst (events : List Event) (first : Option Event) : Type 0 where
-  some : is_some first ≡ has_first events
-  format : option_map_or format_fault first None ≡ first_format_fault events
+read-by : (o : Option Event) (es : List Event) → (o ≡ None → es ≡ []) → ((e : Event) → o ≡ Some e → (rest : List Event) × (es ≡ e ∷ rest))
+    → (is_some o ≡ has_first es) × (option_map_or format_fault o None ≡ first_format_fault es)
+read-by o es none some = grind arith
 
-first-read : (bytes : List ℕ) (stop : Option ℕ) → bytes_eq (take 4 bytes) magic ≡ true → IsFirst (read bytes stop) (event_at (drop 4 bytes))
-first-read bytes stop mark = by_event (event_at (drop 4 bytes)) refl
-  where
-    by_event : (o : Option Event) → event_at (drop 4 bytes) ≡ o → IsFirst (read bytes stop) o
-    by_event None none = let is = none-read bytes stop mark none in record { some = ap has_first (sym is); format = ap first_format_fault (sym is) }
-    by_event (Some e) stands =
-        let is = read-first bytes stop e ((bytes_eq-Decides (take 4 bytes) magic).0 mark) stands in
-        record { some = ap has_first (sym is); format = ap first_format_fault (sym is) }
+first-read : (bytes : List ℕ) (stop : Option ℕ) → bytes_eq (take 4 bytes) magic ≡ true → (is_some (event_at (drop 4 bytes)) ≡ has_first (read bytes stop))
+    × (option_map_or format_fault (event_at (drop 4 bytes)) None ≡ first_format_fault (read bytes stop))
+first-read bytes stop mark =
+    read-by _ _ (none-read bytes stop mark) (λ e stands. (_, read-first bytes stop e ((bytes_eq-Decides (take 4 bytes) magic).0 mark) stands))
 
 -- ---- lists of checks
 
@@ -53,11 +49,7 @@ front-decides (suc n) (check ∷ checks) f said = let later = front-decides n ch
 -- the fault of opening is the first of the first four lines
 pub opening-lines : (bytes : List ℕ) (sel : Selection) → opening_fault bytes ≡ first_failing (take 4 (lines bytes sel (read bytes sel.stop)))
 unfolding opening_fault
-opening-lines bytes sel =
-    same-front _ _ _ _ _ _ (λ none.
-    let mark = none-at 0 (bytes_eq (take 4 bytes) magic) NotABinlog none in
-    let first = first-read bytes sel.stop mark in
-    (ap (λ b. fault_at 4 (needs b CutEvent)) first.some, ap (fault_at 4) first.format))
+opening-lines bytes sel = grind (arith, same-front, none-at, first-read)
 
 -- what opening refuses is the fault of the log
 pub opening-refused : (bytes : List ℕ) (sel : Selection) (f : Fault) → opening_fault bytes ≡ Some f → fault bytes sel ≡ Some f

@@ -1,5 +1,5 @@
 -- The facts of each group of events.
-use Rattle.std.proofs.Common.{◌≡◌, ℕ, Bool, true, false, ◌&&◌, ◌||◌, not, if◌then◌else◌, List, [], ◌∷◌, map, reverse, Option, Some, bytes_eq, refl, sym, ap, subst, ◌∙◌, arith}
+use Rattle.std.proofs.Common.{rules, ◌≡◌, ℕ, Bool, true, false, ◌&&◌, ◌||◌, not, if◌then◌else◌, List, [], ◌∷◌, map, reverse, Option, Some, bytes_eq, refl, sym, ap, subst, ◌∙◌, arith}
 use Rattle.std.specs.Option.{option_map_or}
 use Rattle.std.specs.List.{AllByRecursion, IsDistinct, filter_map, list_any, Contains}
 use Rattle.std.proofs.lemmas.Bool.{not-true, and_parts, or_left, or_right, false≢true}
@@ -25,79 +25,52 @@ tested o test e = grind arith
 
 -- the map by which a kept rows event of such events goes
 map-placed : (Member : Placed → Type 0) (sel : Selection) (events : List Placed) (p : Placed) (r : PlacedRows) → AllByRecursion Member events → IsKeptOf sel events p r → IsPlacedMap Member sel r.map
-map-placed Member sel events p r all kept =
-    let at = all-found Member (is_map_of (id_at p)) events r.map all kept.found in
-    let names = tested (names_of r.map.event.body) _ kept.selected in
-    let layout = under-found r.kind (layout_of r.map.event.body) p.event.body r.body kept.read in
-    record {
-      member = at.0;
-      is_one = (and_parts (is_map r.map) (bytes_eq (id_at r.map) (id_at p)) at.1).0;
-      selected = kept.selected;
-      names = names.0;
-      names_are = names.1;
-      layout = layout.0;
-      layout_is = layout.1;
-    }
+map-placed Member sel events p r all kept = grind (arith, all-found, tested, under-found, and_parts)
 
 -- the maps that are kept for ids are the first of their ids
 first-asked : (ids : List (List ℕ)) (events : List Placed) → AllByRecursion (λ m. (map_in events (id_at m) ≡ Some m) × (is_id_among ids (id_at m) ≡ true)) (first_maps ids events)
-first-asked ids events =
-    subst (λ l. AllByRecursion (λ m. (map_in events (id_at m) ≡ Some m) × (is_id_among ids (id_at m) ≡ true)) l)
-    (sym (first-filter ids (reverse events)) ∙ ap (first_maps ids) (reverse-reverse events))
-    (all-filter (λ m. map_in events (id_at m) ≡ Some m) (λ m. is_id_among ids (id_at m)) (first_of_ids (reverse events))
-    (all-by (IsFirst (reverse events)) (λ m. map_in events (id_at m) ≡ Some m) (λ m found. ap (λ l. map_in l (id_at m)) (sym (reverse-reverse events)) ∙ found)
-    (first_of_ids (reverse events)) (first-found (reverse events))))
+first-asked ids events = grind (arith, first-filter ids (reverse events), reverse-reverse, all-filter, first-found (reverse events), all-by)
 
 -- no two of them have one id
+differs : (p : Placed) (ids : List (List ℕ)) (m : Placed) → is_id_among (without_id (id_at p) ids) (id_at m) ≡ true
+    → bytes_eq (id_at p) (id_at m) ≡ false
+differs p ids m h = grind (arith, among-without)
+
 firsts-distinct : (ids : List (List ℕ)) (events : List Placed) → IsDistinct bytes_eq (map id_at (first_maps ids events))
 unfolding IsDistinct
 firsts-distinct ids [] = tt
 firsts-distinct ids (p ∷ ps) =
     let others : List (List ℕ) = without_id (id_at p) ids in
-    let apart : AllByRecursion (λ id. bytes_eq (id_at p) id ≡ false) (map id_at (first_maps others ps)) = all-map _ (λ id. bytes_eq (id_at p) id ≡ false) id_at differs (first_maps others ps) (first-asked others ps) in
-    let rest = firsts-distinct others ps in
-    let without = firsts-distinct ids ps in
-    grind arith
-  where
-    differs : (m : Placed) → (map_in ps (id_at m) ≡ Some m) × (is_id_among (without_id (id_at p) ids) (id_at m) ≡ true) → bytes_eq (id_at p) (id_at m) ≡ false
-    differs m h = not-true (bytes_eq (id_at p) (id_at m)) (and_parts (not (bytes_eq (id_at p) (id_at m))) (is_id_among ids (id_at m)) (sym (among-without (id_at p) (id_at m) ids) ∙ h.1)).0
+    let apart = all-map _ (λ id. bytes_eq (id_at p) id ≡ false) id_at (λ m h. differs p ids m h.1) _ (first-asked others ps) in
+    grind (arith, firsts-distinct others ps, firsts-distinct ids ps)
 
 -- the map of an id that is asked for is among those that are kept
+asked-step : (ids : List (List ℕ)) (q p : Placed) (qs : List Placed) (id : List ℕ) → is_id_among ids id ≡ true
+    → (is_id_among (without_id (id_at q) ids) id ≡ true → map_in qs id ≡ Some p
+    → map_in (first_maps (without_id (id_at q) ids) qs) id ≡ Some p)
+    → (map_in qs id ≡ Some p → map_in (first_maps ids qs) id ≡ Some p) → map_in (q ∷ qs) id ≡ Some p
+    → map_in (first_maps ids (q ∷ qs)) id ≡ Some p
+asked-step ids q p qs id asked others rest e = grind (arith, bytes-same (id_at q) id, among-without (id_at q) id ids)
+
 asked-found : (ids : List (List ℕ)) (events : List Placed) (id : List ℕ) (p : Placed) → is_id_among ids id ≡ true → map_in events id ≡ Some p → map_in (first_maps ids events) id ≡ Some p
 asked-found ids [] id p asked e = absurd (none-some p e)
 asked-found ids (q ∷ qs) id p asked e =
-    by_case (is_map q) refl (bytes_eq (id_at q) id) refl (is_id_among ids (id_at q)) refl (asked-found (without_id (id_at q) ids) qs id p) (asked-found ids qs id p asked) e
-  where
-    by_case : (b : Bool) → is_map q ≡ b → (c : Bool) → bytes_eq (id_at q) id ≡ c → (d : Bool) → is_id_among ids (id_at q) ≡ d
-        → (is_id_among (without_id (id_at q) ids) id ≡ true → map_in qs id ≡ Some p → map_in (first_maps (without_id (id_at q) ids) qs) id ≡ Some p)
-        → (map_in qs id ≡ Some p → map_in (first_maps ids qs) id ≡ Some p) → (if b && c then Some q else map_in qs id) ≡ Some p
-        → map_in (if b && d then q ∷ first_maps (without_id (id_at q) ids) qs else first_maps ids qs) id ≡ Some p
-    by_case true is true same true some others rest h = rw (is, same) h
-    by_case true is true same false none others rest h = absurd (false≢true (sym none ∙ ap (is_id_among ids) (bytes-same (id_at q) id same) ∙ asked))
-    by_case true is false differs true some others rest h =
-        rw (is, differs) (others (among-without (id_at q) id ids ∙ ap (λ t. not t && is_id_among ids id) differs ∙ asked) h)
-    by_case true is false differs false none others rest h = rest h
-    by_case false is c same d some others rest h = rest h
+    asked-step ids q p qs id asked (asked-found (without_id (id_at q) ids) qs id p) (asked-found ids qs id p asked) e
 
 -- ---- rows events
 
 -- a rows event that is kept of such events, with its map found among these
 row-placed : (Member : Placed → Type 0) (sel : Selection) (events maps : List Placed) (r : PlacedRows) → AllByRecursion Member events → Member r.event → IsKeptOf sel events r.event r
     → map_in maps (id_at r.event) ≡ Some r.map → IsPlacedRows Member sel maps r
-row-placed Member sel events maps r all member kept found =
-    record { member = member; kind_is = kept.kind_is; map = map-placed Member sel events r.event r all kept; found = found; read = kept.read }
+row-placed Member sel events maps r all member kept found = search (rules, map-placed)
 
 -- it is what is kept of itself
 abbrev IsOwn : (Placed → Type 0) → Selection → List Placed → PlacedRows → Type 0
 IsOwn Member sel events r = Member r.event × IsKeptOf sel events r.event r
 
 rows-own : (Member : Placed → Type 0) (sel : Selection) (events : List Placed) → AllByRecursion Member events → AllByRecursion (IsOwn Member sel events) (filter_map (kept_rows sel events) events)
-rows-own Member sel events all = all-given Member (IsOwn Member sel events) (kept_rows sel events) by events all
-  where
-    by : (p : Placed) (r : PlacedRows) → Member p → kept_rows sel events p ≡ Some r → IsOwn Member sel events r
-    by p r member e =
-        let kept = kept-facts sel events p r e in
-        subst (λ (q : Placed). Member q × IsKeptOf sel events q r) (sym kept.event_is) (member, kept)
+rows-own Member sel events all =
+    all-given Member (IsOwn Member sel events) (kept_rows sel events) (λ p r member e. grind (arith, kept-facts sel events p r e)) events all
 
 -- the rows event of an id
 row-of : (P : PlacedRows → Type 0) (rows : List PlacedRows) (id : List ℕ) → is_id_among (ids_of rows) id ≡ true → AllByRecursion P rows → (r : PlacedRows) × (id ≡ id_at r.event) × P r
@@ -110,10 +83,7 @@ row-of P (r ∷ rows) id e all = elim (bytes_eq id (id_at r.event)) as (λ b. by
 -- each rows event has its own table id
 rows-asked : (rows : List PlacedRows) → AllByRecursion (λ (r : PlacedRows). is_id_among (ids_of rows) (id_at r.event) ≡ true) rows
 rows-asked [] = tt
-rows-asked (r ∷ rows) = (
-  or_left (bytes_eq (id_at r.event) (id_at r.event)) (is_id_among (ids_of rows) (id_at r.event)) (bytes-own (id_at r.event)),
-  all-by _ _ (λ s asked. or_right (bytes_eq (id_at s.event) (id_at r.event)) (is_id_among (ids_of rows) (id_at s.event)) asked) rows (rows-asked rows),
-)
+rows-asked (r ∷ rows) = grind (arith, rows-asked rows, or_left, bytes-own, all-by, or_right)
 
 -- ---- statements
 
@@ -160,28 +130,17 @@ transaction-by : (Member : Placed → Type 0) (sel : Selection) (span : Span) (s
     → AllByRecursion (IsPlacedStatement Member sel) ss → transaction_if span ss ≡ Some t → IsPlacedTransaction Member sel t
 transaction-by Member sel span [] t of_all placed e = absurd (none-some t e)
 transaction-by Member sel span (s ∷ ss) t of_all placed e =
-    subst (IsPlacedTransaction Member sel) (same_Some (record { begin = span.begin; statements = s ∷ ss; end = span.end }) t e) (record {
-      begin_member = of_all.begin;
-      begin_is = of_all.begin_is;
-      end_member = of_all.end;
-      end_is = of_all.end_is;
-      statements = placed;
-      some_statement = (s, ss, refl);
-    })
+    subst (IsPlacedTransaction Member sel) (same_Some (record { begin = span.begin; statements = s ∷ ss; end = span.end }) t e) (search rules)
 
 -- a transaction that is kept of a span of such events
 transaction-placed : (Member : Placed → Type 0) (sel : Selection) (span : Span) (t : PlacedTransaction) → IsSpanOf Member span → kept_transaction sel span ≡ Some t → IsPlacedTransaction Member sel t
-transaction-placed Member sel span t of_all e =
-    let statements = all-given (AllByRecursion Member) (IsPlacedStatement Member sel) (kept_statement sel) (λ events s all kept. statement-placed Member sel events s all kept)
-    (statements_of span.inside) (statements-all Member span.inside of_all.inside) in
-    transaction-by Member sel span (filter_map (kept_statement sel) (statements_of span.inside)) t of_all statements e
+transaction-placed Member sel span t of_all e = search (rules, all-given, statement-placed, statements-all, transaction-by)
 
 -- ---- groups
 
 -- what holds of events holds of those of their groups
 pub groups-placed : (Member : Placed → Type 0) (sel : Selection) (es : List Placed) → AllByRecursion Member es → AllByRecursion (IsPlacedTransaction Member sel) (placed_groups_in sel es)
-groups-placed Member sel es all =
-    all-given (IsSpanOf Member) (IsPlacedTransaction Member sel) (kept_transaction sel) (λ span t of_all kept. transaction-placed Member sel span t of_all kept) (spans es) (spans-all Member es all)
+groups-placed Member sel es all = search (rules, all-given, transaction-placed, spans-all)
 
 -- each event of the groups is one of the events
 pub groups-among : (sel : Selection) (es : List Placed) → AllByRecursion (IsPlacedTransaction (Contains es) sel) (placed_groups_in sel es)

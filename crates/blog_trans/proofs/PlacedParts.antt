@@ -1,5 +1,5 @@
 -- What holds of each of some events holds of those of their spans and statements.
-use Rattle.std.proofs.Common.{◌≡◌, ℕ, zero, suc, Bool, true, false, not, ◌||◌, if◌then◌else◌, List, [], ◌∷◌, map, filter, find, flat_map, Option, Some, None, option_map, refl, ap, subst, arith}
+use Rattle.std.proofs.Common.{rules, ◌≡◌, ℕ, zero, suc, Bool, true, false, not, ◌||◌, if◌then◌else◌, List, [], ◌∷◌, map, filter, find, flat_map, Option, Some, None, option_map, refl, ap, subst, arith}
 use Rattle.std.specs.List.{AllByRecursion, filter_map, slice_get, list_any}
 use Rattle.std.proofs.lemmas.Option.{none-some, same_Some}
 use Rattle.blog_event.specs.File.{Placed}
@@ -74,21 +74,11 @@ pub record IsSpanOf (P : Placed → Type 0) (s : Span) : Type 0 where
 -- the spans of such events
 pub spans-all : (P : Placed → Type 0) (ps : List Placed) → AllByRecursion P ps → AllByRecursion (IsSpanOf P) (spans ps)
 spans-all P [] all = tt
-spans-all P (p ∷ ps) all = by_case (is_begin p) refl (find is_end ps) refl (spans-all P ps all.1)
-  where
-    by_case : (b : Bool) → is_begin p ≡ b → (o : Option Placed) → find is_end ps ≡ o → AllByRecursion (IsSpanOf P) (spans ps)
-        → AllByRecursion (IsSpanOf P)
-        (if b then cons_if (option_map (λ end. record { begin = p; inside = front_while (λ x. not (is_end x)) ps; end = end }) o) (spans ps) else spans ps)
-    by_case true begins None found more = more
-    by_case true begins (Some q) found more =
-        let end = all-found P is_end ps q all.1 found in
-        (record { begin = all.0; begin_is = begins; inside = all-while P _ ps all.1; end = end.0; end_is = end.1 }, more)
-    by_case false begins o found more = more
+spans-all P (p ∷ ps) all = grind (arith, spans-all P ps all.1, all-found, all-while)
 
 -- one more event of the first statement
 onto-first-all : (P : Placed → Type 0) (p : Placed) (ss : List (List Placed)) → P p → AllByRecursion (AllByRecursion P) ss → AllByRecursion (AllByRecursion P) (onto_first p ss)
-onto-first-all P p [] own all = tt
-onto-first-all P p (s ∷ ss) own all = ((own, all.0), all.1)
+onto-first-all P p ss own all = search rules
 
 -- the statements of such events
 pub statements-all : (P : Placed → Type 0) (ps : List Placed) → AllByRecursion P ps → AllByRecursion (AllByRecursion P) (statements_of ps)

@@ -1,5 +1,5 @@
 -- The progress over the range of an accepted log has the log's groups.
-use Rattle.std.proofs.Common.{◌≡◌, ℕ, Bool, true, false, if◌then◌else◌, List, [], ◌∷◌, not, reverse, Option, None, arith}
+use Rattle.std.proofs.Common.{rules, ◌≡◌, ℕ, Bool, true, false, if◌then◌else◌, List, [], ◌∷◌, not, reverse, Option, None, arith}
 use Rattle.std.specs.List.{AllByRecursion}
 use Rattle.blog_event.specs.declared.fault.Fault.{Fault}
 use Rattle.blog_event.specs.declared.fault.Fault.TheVariants.{NoEventAt, Unended}
@@ -10,7 +10,6 @@ use Rattle.blog_trans.specs.Places.{place, is_inside, is_outside}
 use Rattle.blog_trans.specs.Acceptance.{event_fault, range, is_in_range, is_start_inside, read_fault, first_read_fault, lines, fault, IsAccepted, Passes}
 use Rattle.blog_trans.specs.Groups.{placed_groups}
 use Rattle.blog_trans.specs.Progress.{progress}
-use Rattle.blog_trans.proofs.ProgressSteps.{outside-not-inside}
 use Rattle.blog_trans.proofs.ProgressGroups.{progress-is-groups}
 
 -- where no check fails, each passes
@@ -26,20 +25,18 @@ no-fault-at pos check e = grind arith
 pub needed : (b : Bool) (cause : Cause) → needs b cause ≡ None → b ≡ true
 needed b cause e = grind arith
 
--- one more event, in the range or not
-passes-by-range : (sel : Selection) (b : Bool) (earlier ps : List Placed) (p : Placed) → (if b then fault_at p.pos (event_fault sel earlier p) else None) ≡ None
-    → Passes sel (if b then p ∷ earlier else earlier) ps → Passes sel earlier (if b then p ∷ ps else ps)
-passes-by-range sel b earlier ps p e others = let none = no-fault-at p.pos (event_fault sel earlier p) in grind arith
+-- what is read has no fault: the event, if it is in the range, and the others
+read-step : (a : Option Fault) (b : Bool) (at : ℕ) (o : Option Cause) (rest : Option Fault)
+    → first_failing (first_failing (a ∷ (if b then fault_at at o else None) ∷ []) ∷ rest ∷ []) ≡ None
+    → (rest ≡ None) × (b ≡ true → o ≡ None)
+read-step a b at o rest e = grind arith
 
 -- the events of the range pass, where no event that is read has a fault
 pub read-passes : (sel : Selection) (earlier ps : List Placed) → first_read_fault sel earlier ps ≡ None → Passes sel (range sel earlier) (range sel ps)
 read-passes sel earlier [] e = tt
 read-passes sel earlier (p ∷ ps) e =
-    let parts = none-failing (read_fault sel earlier p ∷ first_read_fault sel (p ∷ earlier) ps ∷ []) e in
-    let inside : Option Fault = fault_at sel.start (needs (not (is_start_inside sel p)) NoEventAt) in
-    let by_range : Option Fault = if is_in_range sel p then fault_at p.pos (event_fault sel (range sel earlier) p) else None in
-    let own = none-failing (inside ∷ by_range ∷ []) parts.0 in
-    passes-by-range sel (is_in_range sel p) (range sel earlier) (range sel ps) p own.1.0 (read-passes sel (p ∷ earlier) ps parts.1.0)
+    let parts = read-step _ (is_in_range sel p) p.pos (event_fault sel (range sel earlier) p) _ e in
+    grind (arith, read-passes sel (p ∷ earlier) ps parts.0)
 
 -- of an accepted log no line has a fault
 pub accepted-lines : (bytes : List ℕ) (sel : Selection) → IsAccepted bytes sel → AllByRecursion (λ c. c ≡ None) (lines bytes sel (read bytes sel.stop))
@@ -48,20 +45,15 @@ accepted-lines bytes sel accepted = none-failing (lines bytes sel (read bytes se
 
 -- the events of the range of an accepted log pass
 pub accepted-passes : (bytes : List ℕ) (sel : Selection) → IsAccepted bytes sel → Passes sel [] (range sel (placed_from 4 (read bytes sel.stop)))
-accepted-passes bytes sel accepted =
-    let parts = accepted-lines bytes sel accepted in
-    read-passes sel [] (placed_from 4 (read bytes sel.stop)) parts.1.1.1.1.0
+accepted-passes bytes sel accepted = read-passes sel [] (placed_from 4 (read bytes sel.stop)) (accepted-lines bytes sel accepted).1.1.1.1.0
 
 -- they end outside of a transaction
 pub accepted-outside : (bytes : List ℕ) (sel : Selection) → IsAccepted bytes sel → is_inside (place (reverse (range sel (placed_from 4 (read bytes sel.stop))))) ≡ false
-accepted-outside bytes sel accepted =
-    let parts = accepted-lines bytes sel accepted in
-    let last = place (reverse (range sel (placed_from 4 (read bytes sel.stop)))) in
-    outside-not-inside last (needed (is_outside last) Unended (no-fault-at (end_of 4 (read bytes sel.stop)) (needs (is_outside last) Unended) parts.1.1.1.1.1.1.1.0))
+unfolding fault
+accepted-outside bytes sel accepted = grind arith
 
 -- the groups of an accepted log are what the progress has kept at its end
 pub accepted-groups : (bytes : List ℕ) (sel : Selection) → IsAccepted bytes sel
     → placed_groups bytes sel ≡ (progress sel (reverse (range sel (placed_from 4 (read bytes sel.stop))))).done
 unfolding placed_groups
-accepted-groups bytes sel accepted =
-    progress-is-groups sel (range sel (placed_from 4 (read bytes sel.stop))) (accepted-passes bytes sel accepted) (accepted-outside bytes sel accepted)
+accepted-groups bytes sel accepted = search (rules, progress-is-groups, accepted-passes, accepted-outside)

@@ -47,70 +47,31 @@ bytes-same xs ys = (bytes_eq-Decides xs ys).0
 
 -- another one of them is still among them
 pub among-without : (id other : List ℕ) (ids : List (List ℕ)) → is_id_among (without_id id ids) other ≡ (not (bytes_eq id other) && is_id_among ids other)
-among-without id other ids =
-    any-filter_same (bytes_eq other) (λ x. not (bytes_eq id x)) (not (bytes_eq id other)) (λ x same. ap (λ (y : List ℕ). not (bytes_eq id y)) (sym (bytes-same other x same))) ids
-
--- ---- tests
-
-and-apart : (a d y : Bool) → ((not d && a) && not y) ≡ (a && not (d || y))
-and-apart a d y = search rules
-
-pub or-swap : (a b c : Bool) → (a || (b || c)) ≡ (b || (a || c))
-or-swap a b c = search rules
+among-without id other ids = grind (arith, any-filter_same, bytes-same)
 
 -- ---- the first maps of ids
 
+-- the latest event, where it is one of them
+abbrev last_if : List (List ℕ) → List Placed → Placed → List Placed
+last_if ids events p = if is_map p && (is_id_among ids (id_at p) && not (list_any (is_map_of (id_at p)) events)) then p ∷ [] else []
+
+first-step : (ids : List (List ℕ)) (xs : List Placed) (x p : Placed)
+    → first_maps (without_id (id_at x) ids) (xs ++ p ∷ []) ≡ first_maps (without_id (id_at x) ids) xs ++ last_if (without_id (id_at x) ids) xs p
+    → first_maps ids (xs ++ p ∷ []) ≡ first_maps ids xs ++ last_if ids xs p
+    → first_maps ids (x ∷ (xs ++ p ∷ [])) ≡ first_maps ids (x ∷ xs) ++ last_if ids (x ∷ xs) p
+first-step ids xs x p others all = grind (arith, among-without (id_at x) (id_at p) ids, bytes-same (id_at x) (id_at p))
+
 -- the latest event is among them if it is a map of one of the ids, and the first of its id
 first-latest : (ids : List (List ℕ)) (events : List Placed) (p : Placed)
-    → first_maps ids (events ++ p ∷ []) ≡ first_maps ids events ++ (if is_map p && (is_id_among ids (id_at p) && not (list_any (is_map_of (id_at p)) events)) then p ∷ [] else [])
-first-latest ids [] p = ap (λ t. if is_map p && t then p ∷ [] else []) (sym (and-true (is_id_among ids (id_at p))))
-first-latest ids (x ∷ xs) p =
-    by_case (is_map x) (is_id_among ids (id_at x)) refl (bytes_eq (id_at x) (id_at p)) refl (first-latest (without_id (id_at x) ids) xs p) (first-latest ids xs p)
-  where
-    last : Bool → List Placed
-    last t = if is_map p && t then p ∷ [] else []
-
-    others : List (List ℕ)
-    others = without_id (id_at x) ids
-
-    later : Bool
-    later = list_any (is_map_of (id_at p)) xs
-
-    by_case : (b c : Bool) → is_id_among ids (id_at x) ≡ c → (d : Bool) → bytes_eq (id_at x) (id_at p) ≡ d
-        → first_maps others (xs ++ p ∷ []) ≡ first_maps others xs ++ last (is_id_among others (id_at p) && not later)
-        → first_maps ids (xs ++ p ∷ []) ≡ first_maps ids xs ++ last (is_id_among ids (id_at p) && not later)
-        → (if b && c then x ∷ first_maps others (xs ++ p ∷ []) else first_maps ids (xs ++ p ∷ []))
-        ≡ (if b && c then x ∷ first_maps others xs else first_maps ids xs) ++ last (is_id_among ids (id_at p) && not ((b && d) || later))
-    by_case true true among d is without all =
-        ap (λ l. x ∷ l) (without
-        ∙ ap (λ t. first_maps others xs ++ last (t && not later)) (among-without (id_at x) (id_at p) ids ∙ ap (λ t. not t && is_id_among ids (id_at p)) is)
-        ∙ ap (λ t. first_maps others xs ++ last t) (and-apart (is_id_among ids (id_at p)) d later))
-    by_case true false among true is without all =
-        all ∙ ap (λ t. first_maps ids xs ++ last t) (ap (λ t. t && not later) none ∙ ap (λ t. t && false) (sym none))
-      where
-        none : is_id_among ids (id_at p) ≡ false
-        none = ap (is_id_among ids) (sym (bytes-same (id_at x) (id_at p) is)) ∙ among
-    by_case true false among false is without all = all
-    by_case false c among d is without all = all
+    → first_maps ids (events ++ p ∷ []) ≡ first_maps ids events ++ last_if ids events p
+first-latest ids [] p = grind arith
+first-latest ids (x ∷ xs) p = first-step ids xs x p (first-latest (without_id (id_at x) ids) xs p) (first-latest ids xs p)
 
 -- they are those of the ids among the first maps
 pub first-filter : (ids : List (List ℕ)) (statement : List Placed) → first_maps ids (reverse statement) ≡ filter (λ m. is_id_among ids (id_at m)) (first_of_ids statement)
 first-filter ids [] = refl
 first-filter ids (p ∷ statement) =
-    rw (reverse-latest p statement, first-latest ids (reverse statement) p, sym (list_any-IsPermutation (is_map_of (id_at p)) statement (reverse statement) (IsPermutation-reverse statement)), first-filter ids statement)
-    (by_case (is_map p) earlier)
-  where
-    asked : Placed → Bool
-    asked m = is_id_among ids (id_at m)
-
-    earlier : Bool
-    earlier = list_any (is_map_of (id_at p)) statement
-
-    firsts : List Placed
-    firsts = first_of_ids statement
-
-    by_case : (b d : Bool) → filter asked firsts ++ (if b && (asked p && not d) then p ∷ [] else []) ≡ filter asked (if b && not d then firsts ++ p ∷ [] else firsts)
-    by_case b d = let more = filter-append asked firsts (p ∷ []) in let same = append-nil (filter asked firsts) in grind arith
+    grind (arith, first-filter ids statement, reverse-latest, first-latest, list_any-IsPermutation, IsPermutation-reverse, filter-append, append-nil)
 
 -- nothing is found that isn't there
 find-none : {A : Type 0} (test : A → Bool) (xs : List A) → list_any test xs ≡ false → find test xs ≡ None
@@ -123,21 +84,6 @@ IsFirst statement m = map_in (reverse statement) (id_at m) ≡ Some m
 
 pub first-found : (statement : List Placed) → AllByRecursion (IsFirst statement) (first_of_ids statement)
 first-found [] = tt
-first-found (p ∷ statement) = by_case (is_map p) refl (list_any (is_map_of (id_at p)) statement) refl (first-found statement)
-  where
-    stays : (m : Placed) → IsFirst statement m → IsFirst (p ∷ statement) m
-    stays m found = ap (λ l. map_in l (id_at m)) (reverse-latest p statement) ∙ found-stays (reverse statement) (p ∷ []) (id_at m) m found
-
-    own : is_map p ≡ true → list_any (is_map_of (id_at p)) statement ≡ false → IsFirst (p ∷ statement) p
-    own is none =
-        ap (λ l. map_in l (id_at p)) (reverse-latest p statement)
-        ∙ find-append (is_map_of (id_at p)) (reverse statement) (p ∷ [])
-        ∙ ap (λ o. option_or o (map_in (p ∷ []) (id_at p))) (find-none (is_map_of (id_at p)) (reverse statement)
-        (sym (list_any-IsPermutation (is_map_of (id_at p)) statement (reverse statement) (IsPermutation-reverse statement)) ∙ none))
-        ∙ rw (is, bytes-own (id_at p)) refl
-
-    by_case : (b : Bool) → is_map p ≡ b → (d : Bool) → list_any (is_map_of (id_at p)) statement ≡ d → AllByRecursion (IsFirst statement) (first_of_ids statement)
-        → AllByRecursion (IsFirst (p ∷ statement)) (if b && not d then first_of_ids statement ++ p ∷ [] else first_of_ids statement)
-    by_case true is true some others = all-by _ _ stays _ others
-    by_case true is false none others = all-append (IsFirst (p ∷ statement)) (first_of_ids statement) (p ∷ []) (all-by _ _ stays _ others) (own is none, tt)
-    by_case false is d some others = all-by _ _ stays _ others
+first-found (p ∷ statement) =
+    let any = list_any-IsPermutation (is_map_of (id_at p)) statement (reverse statement) (IsPermutation-reverse statement) in
+    grind (arith, first-found statement, reverse-latest, found-stays, find-append, find-none, bytes-own, all-by, all-append)

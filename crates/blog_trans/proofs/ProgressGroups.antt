@@ -1,5 +1,5 @@
 -- Of events that pass and end outside of a transaction, what the progress keeps are the groups.
-use Rattle.std.proofs.Common.{rules, ◌≡◌, false, List, [], ◌∷◌, ◌++◌, reverse, Option, None, is_some, sym, ap, subst, ◌∙◌, append-nil}
+use Rattle.std.proofs.Common.{arith, rules, ◌≡◌, false, List, [], ◌∷◌, ◌++◌, reverse, Option, None, is_some, sym, ap, subst, ◌∙◌, append-nil}
 use Rattle.std.proofs.lemmas.List.{reverse-reverse}
 use Rattle.blog_event.specs.File.{Placed}
 use Rattle.blog_trans.specs.Selection.{Selection}
@@ -8,22 +8,11 @@ use Rattle.blog_trans.specs.Groups.{placed_groups_in}
 use Rattle.blog_trans.specs.Progress.{progress}
 use Rattle.blog_trans.specs.Acceptance.{HavePassed, Passes}
 use Rattle.blog_trans.proofs.ProgressSteps.{reverse-behind}
-use Rattle.blog_trans.proofs.ProgressState.{groups_left, state-of, open-inside}
-
-none-there : {A : Type 0} (o : Option A) → is_some o ≡ false → o ≡ None
-none-there o none = search rules
+use Rattle.blog_trans.proofs.ProgressState.{groups_left, groups-follow, open-inside}
 
 -- outside of a transaction none is open
 pub none-open : (sel : Selection) (earlier : List Placed) → HavePassed sel earlier → is_inside (place earlier) ≡ false → (progress sel earlier).current ≡ None
-none-open sel earlier passed out = none-there (progress sel earlier).current (open-inside sel earlier passed ∙ out)
-
--- and the transactions that are done are the groups of the events so far
-pub done-groups : (sel : Selection) (earlier : List Placed) → HavePassed sel earlier → is_inside (place earlier) ≡ false → placed_groups_in sel (reverse earlier) ≡ (progress sel earlier).done
-done-groups sel earlier passed out =
-    ap (placed_groups_in sel) (sym (append-nil (reverse earlier)))
-    ∙ (state-of sel earlier passed).groups []
-    ∙ ap (λ c. (progress sel earlier).done ++ groups_left sel (since earlier) c []) (none-open sel earlier passed out)
-    ∙ append-nil (progress sel earlier).done
+none-open sel earlier passed out = grind (arith, open-inside sel earlier passed)
 
 -- events that pass in turn, behind others, have passed with these
 pub passes-passed : (sel : Selection) (earlier ps : List Placed) → HavePassed sel earlier → Passes sel earlier ps → HavePassed sel (reverse ps ++ earlier)
@@ -37,4 +26,5 @@ all-passed sel ps pass = subst (HavePassed sel) (append-nil (reverse ps)) (passe
 -- the progress of events that pass and end outside of a transaction has their groups
 pub progress-is-groups : (sel : Selection) (es : List Placed) → Passes sel [] es → is_inside (place (reverse es)) ≡ false → placed_groups_in sel es ≡ (progress sel (reverse es)).done
 progress-is-groups sel es pass out =
-    ap (placed_groups_in sel) (sym (reverse-reverse es)) ∙ done-groups sel (reverse es) (all-passed sel es pass) out
+    let passed = all-passed sel es pass in
+    grind (arith, reverse-reverse es, groups-follow sel (reverse es) [] passed, none-open sel (reverse es) passed out, append-nil)

@@ -1,13 +1,13 @@
 -- The maps of a kept statement are the first maps that are used. `statement` has its events, the latest first.
-use Rattle.std.proofs.Common.{◌≡◌, ℕ, Bool, true, false, ◌&&◌, ◌||◌, List, [], ◌∷◌, ◌++◌, filter, reverse, Option, Some, None, is_some, bytes_eq, refl, sym, ap, ◌∙◌, append-nil, arith}
+use Rattle.std.proofs.Common.{rules, ◌≡◌, ℕ, Bool, true, false, ◌&&◌, ◌||◌, List, [], ◌∷◌, ◌++◌, filter, reverse, Option, Some, None, is_some, bytes_eq, refl, sym, ap, ◌∙◌, append-nil, arith}
 use Rattle.std.specs.Option.{option_map_or}
 use Rattle.std.specs.List.{AllByRecursion, list_any}
 use Rattle.std.proofs.Math.Bool.{and-or_distrib_left}
 use Rattle.std.proofs.lemmas.Bool.{and_from, and_parts, false≢true}
 use Rattle.std.proofs.lemmas.Option.{same_Some}
 use Rattle.blog_event.specs.File.{Placed}
+use Rattle.blog_row.specs.Kinds.{rows_of_kind}
 use Rattle.blog_trans.specs.Selection.{Selection}
-use Rattle.blog_trans.specs.Kinds.{rows_of_kind}
 use Rattle.blog_trans.specs.Places.{is_rows, since, map_in}
 use Rattle.blog_trans.specs.Acceptance.{is_selected, HavePassed}
 use Rattle.blog_trans.specs.Groups.{PlacedRows, PlacedStatement, kept_rows, first_maps, statement_if}
@@ -16,7 +16,7 @@ use Rattle.blog_trans.specs.StatementMaps.{first_of_ids, is_used}
 use Rattle.blog_trans.proofs.ProgressSteps.{reverse-behind, IsChecked}
 use Rattle.blog_trans.proofs.ProgressRows.{AreChecked, kept_so_far, with-checked, found-stays}
 use Rattle.blog_trans.proofs.ProgressState.{open-kept}
-use Rattle.blog_trans.proofs.ProgressFirsts.{id_at, ids_of, is_id_among, IsFirst, bytes-own, bytes-same, and-false, or-swap, first-filter, first-found}
+use Rattle.blog_trans.proofs.ProgressFirsts.{id_at, ids_of, is_id_among, IsFirst, bytes-own, bytes-same, and-false, first-filter, first-found}
 use Rattle.blog_trans.proofs.KeptRows.{kept-facts}
 
 -- ---- used maps
@@ -29,43 +29,32 @@ has_id o id = option_map_or (λ (r : PlacedRows). bytes_eq id (id_at r.event)) o
 among-appended : (rows : List PlacedRows) (o : Option PlacedRows) (id : List ℕ) → is_id_among (ids_of (appended_if rows o)) id ≡ (has_id o id || is_id_among (ids_of rows) id)
 among-appended rows None id = refl
 among-appended [] (Some r) id = refl
-among-appended (x ∷ rows) (Some r) id =
-    ap (λ t. bytes_eq id (id_at x.event) || t) (among-appended rows (Some r) id) ∙ or-swap (bytes_eq id (id_at x.event)) (bytes_eq id (id_at r.event)) (is_id_among (ids_of rows) id)
+among-appended (x ∷ rows) (Some r) id = grind (arith, among-appended rows (Some r) id)
 
--- two tests that hold together
-both-ways : (a b : Bool) → (a ≡ true → b ≡ true) → (b ≡ true → a ≡ true) → a ≡ b
-both-ways a b to from = grind arith
+-- what is known of a rows event and its map says whether the map is used by it
+used-step : (kept : Option PlacedRows) (at : Option Placed) (m : Placed) (chosen : Placed → Bool) (has : PlacedRows → Bool) (one same : Bool)
+    → ((r : PlacedRows) → kept ≡ Some r → (at ≡ Some r.map) × (chosen r.map ≡ true) × (one ≡ true) × (has r ≡ same))
+    → (one ≡ true → (is_some at ≡ true) × ((c : Placed) → at ≡ Some c → chosen c ≡ true → is_some kept ≡ true))
+    → (same ≡ true → (c : Placed) → at ≡ Some c → c ≡ m)
+    → (chosen m && (one && same)) ≡ option_map_or has kept false
+used-step None None m chosen has one same facts checked own = grind arith
+used-step None (Some c) m chosen has one same facts checked own =
+    grind (arith, λ (t : one ≡ true). (checked t).1 c refl, λ (t : same ≡ true). own t c refl)
+used-step (Some r) at m chosen has one same facts checked own = grind (arith, facts r refl, λ (t : same ≡ true). own t r.map (facts r refl).0)
+
+bytes-turned : (xs ys : List ℕ) → bytes_eq xs ys ≡ bytes_eq ys xs
+bytes-turned xs ys = grind (arith, bytes-same xs ys, bytes-same ys xs, bytes-own xs)
 
 -- a map is used by a rows event that is its statement's and of its id, if this is kept
 used-latest : (sel : Selection) (m : Placed) (statement later : List Placed) (p : Placed) → (is_rows p ≡ true → IsChecked sel statement p)
     → map_in (reverse statement ++ p ∷ later) (id_at m) ≡ Some m → (is_selected sel m.event.body && (is_rows p && bytes_eq (id_at p) (id_at m))) ≡ has_id (kept_rows sel (reverse statement) p) (id_at m)
-used-latest sel m statement later p checked found = both-ways _ _ to (from kept refl)
-  where
-    kept : Option PlacedRows
-    kept = kept_rows sel (reverse statement) p
-
-    -- its map is the one by which it was checked
-    same_map : (c : Placed) → map_in (reverse statement) (id_at p) ≡ Some c → bytes_eq (id_at p) (id_at m) ≡ true → c ≡ m
-    same_map c at same =
-        same_Some c m (sym (found-stays (reverse statement) (p ∷ later) (id_at p) c at) ∙ ap (map_in (reverse statement ++ p ∷ later)) (bytes-same (id_at p) (id_at m) same) ∙ found)
-
-    to : (is_selected sel m.event.body && (is_rows p && bytes_eq (id_at p) (id_at m))) ≡ true → has_id kept (id_at m) ≡ true
-    to h =
-        let (selected, others) = and_parts (is_selected sel m.event.body) (is_rows p && bytes_eq (id_at p) (id_at m)) h in
-        let (one, same) = and_parts (is_rows p) (bytes_eq (id_at p) (id_at m)) others in
-        let c = checked one in
-        let (r, is) = c.kept (ap (λ (x : Placed). is_selected sel x.event.body) (same_map c.map c.found same) ∙ selected) in
-        ap (λ o. has_id o (id_at m)) is ∙ ap (λ (x : Placed). bytes_eq (id_at m) (id_at x)) (kept-facts sel (reverse statement) p r is).event_is
-        ∙ ap (bytes_eq (id_at m)) (bytes-same (id_at p) (id_at m) same) ∙ bytes-own (id_at m)
-
-    from : (o : Option PlacedRows) → kept ≡ o → has_id o (id_at m) ≡ true → (is_selected sel m.event.body && (is_rows p && bytes_eq (id_at p) (id_at m))) ≡ true
-    from None is h = absurd (false≢true h)
-    from (Some r) is h =
-        let facts = kept-facts sel (reverse statement) p r is in
-        let own = bytes-same (id_at m) (id_at p) (sym (ap (λ (x : Placed). bytes_eq (id_at m) (id_at x)) facts.event_is) ∙ h) in
-        let same = ap (λ x. bytes_eq x (id_at m)) (sym own) ∙ bytes-own (id_at m) in
-        and_from _ _ (sym (ap (λ (x : Placed). is_selected sel x.event.body) (same_map r.map facts.found same)) ∙ facts.selected)
-        (and_from _ _ (ap (λ j. is_some (rows_of_kind j)) facts.kind_is) same)
+used-latest sel m statement later p checked found =
+    used-step (kept_rows sel (reverse statement) p) (map_in (reverse statement) (id_at p)) m (λ x. is_selected sel x.event.body) _ (is_rows p) _
+    (λ r is. let k = kept-facts sel (reverse statement) p r is in
+    let has = ap (λ (x : Placed). bytes_eq (id_at m) (id_at x)) k.event_is ∙ bytes-turned (id_at m) (id_at p) in
+    (k.found, k.selected, ap (λ j. is_some (rows_of_kind j)) k.kind_is, has))
+    (λ one. let c = checked one in (c.found, c.kept))
+    (λ same c at. grind (arith, found-stays (reverse statement) (p ∷ later) (id_at p) c at, bytes-same (id_at p) (id_at m) same))
 
 -- the first map of an id is used if a kept rows event has the id
 used-is : (sel : Selection) (m : Placed) (statement : List Placed) → AreChecked sel statement → (later : List Placed) → map_in (reverse statement ++ later) (id_at m) ≡ Some m
@@ -73,12 +62,7 @@ used-is : (sel : Selection) (m : Placed) (statement : List Placed) → AreChecke
 used-is sel m [] checked later found = and-false (is_selected sel m.event.body)
 used-is sel m (p ∷ statement) checked later found =
     let behind = ap (λ l. map_in l (id_at m)) (sym (reverse-behind p statement later)) ∙ found in
-    rw (
-      and-or_distrib_left (is_selected sel m.event.body) (is_rows p && bytes_eq (id_at p) (id_at m)) (list_any (λ q. is_rows q && bytes_eq (id_at q) (id_at m)) statement),
-      used-latest sel m statement later p checked.0 behind,
-      used-is sel m statement checked.1 (p ∷ later) behind,
-    )
-    (sym (among-appended (kept_so_far sel statement) (kept_rows sel (reverse statement) p) (id_at m)))
+    grind (arith, used-is sel m statement checked.1 (p ∷ later) behind, used-latest sel m statement later p checked.0 behind, among-appended)
 
 -- two tests that answer alike leave the same
 filter-same : {A : Type 0} (P : A → Type 0) (f g : A → Bool) → ((x : A) → P x → f x ≡ g x) → (xs : List A) → AllByRecursion P xs → filter f xs ≡ filter g xs
@@ -114,15 +98,13 @@ taken-rows sel earlier p o passed is = ap (λ l. appended_if l (kept_rows sel (r
 pub taken-maps : (sel : Selection) (earlier : List Placed) (p : Placed) (o : Open) → HavePassed sel (p ∷ earlier) → (progress sel earlier).current ≡ Some o
     → first_maps (ids_of (with_rows (kept_rows sel (reverse (since earlier)) p) o).rows) (reverse (p ∷ since earlier))
     ≡ filter (is_used sel (p ∷ since earlier)) (first_of_ids (p ∷ since earlier))
-taken-maps sel earlier p o passed is =
-    ap (λ l. first_maps (ids_of l) (reverse (p ∷ since earlier))) (taken-rows sel earlier p o passed is) ∙ used-maps sel (p ∷ since earlier) (with-checked sel earlier p passed)
+taken-maps sel earlier p o passed is = search (rules, taken-rows, used-maps, with-checked)
 
 -- the statement that they make has these
 pub taken-statement : (sel : Selection) (earlier : List Placed) (p : Placed) (o : Open) → HavePassed sel (p ∷ earlier) → (progress sel earlier).current ≡ Some o
     → statement_if (reverse (p ∷ since earlier)) (with_rows (kept_rows sel (reverse (since earlier)) p) o).rows
     ≡ used_statement sel (p ∷ since earlier) (with_rows (kept_rows sel (reverse (since earlier)) p) o).rows
-taken-statement sel earlier p o passed is =
-    statement-by sel (p ∷ since earlier) (with_rows (kept_rows sel (reverse (since earlier)) p) o).rows (taken-maps sel earlier p o passed is)
+taken-statement sel earlier p o passed is = search (rules, statement-by, taken-maps)
 
 -- and is what the open transaction has at the statement's end
 pub taken-closed : (sel : Selection) (earlier : List Placed) (p : Placed) (o : Open) → HavePassed sel (p ∷ earlier) → (progress sel earlier).current ≡ Some o

@@ -7,8 +7,8 @@ use Rattle.std.proofs.lemmas.List.Elements.{filter_map-append}
 use Rattle.std.proofs.lemmas.List.Folds.{find-append}
 use Rattle.blog_event.specs.File.{Placed}
 use Rattle.blog_row.specs.RowsEvent.{table_id}
+use Rattle.blog_row.specs.Kinds.{rows_of_kind}
 use Rattle.blog_trans.specs.Selection.{Selection}
-use Rattle.blog_trans.specs.Kinds.{rows_of_kind}
 use Rattle.blog_trans.specs.Places.{kind_at, is_rows, since, is_map_of, map_in}
 use Rattle.blog_trans.specs.Acceptance.{is_selected, HavePassed}
 use Rattle.blog_trans.specs.Groups.{PlacedRows, rows_by_kind, kept_rows}
@@ -41,9 +41,7 @@ with-checked sel earlier p passed = (rows-checked sel earlier p passed.0, since-
 
 -- nothing of an event that is no rows event
 pub no-rows-kept : (sel : Selection) (events : List Placed) (p : Placed) → is_rows p ≡ false → kept_rows sel events p ≡ None
-no-rows-kept sel events p none =
-    let kept : (r : PlacedRows) → kept_rows sel events p ≡ Some r → is_rows p ≡ true = λ r e. ap (λ k. is_some (rows_of_kind k)) (kept-facts sel events p r e).kind_is in
-    grind arith
+no-rows-kept sel events p none = grind (arith, kept-facts)
 
 -- the first map of an id stays the first behind which others come
 pub found-stays : (xs ys : List Placed) (id : List ℕ) (m : Placed) → map_in xs id ≡ Some m → map_in (xs ++ ys) id ≡ Some m
@@ -52,20 +50,11 @@ found-stays xs ys id m e = find-append (is_map_of id) xs ys ∙ ap (λ o. option
 -- what is kept of a rows event that was checked stays, whatever comes behind it
 kept-stays : (sel : Selection) (statement later : List Placed) (p : Placed) → (is_rows p ≡ true → IsChecked sel statement p)
     → kept_rows sel (reverse statement ++ later) p ≡ kept_rows sel (reverse statement) p
-kept-stays sel statement later p checked = by_case (is_rows p) refl
-  where
-    by_found : IsChecked sel statement p → kept_rows sel (reverse statement ++ later) p ≡ kept_rows sel (reverse statement) p
-    by_found c = ap (option_and_then (λ m. if is_selected sel m.event.body then rows_by_kind p m (kind_at p) else None))
-        (found-stays (reverse statement) later (table_id p.event.body) c.map c.found ∙ sym c.found)
-
-    by_case : (b : Bool) → is_rows p ≡ b → kept_rows sel (reverse statement ++ later) p ≡ kept_rows sel (reverse statement) p
-    by_case true is = by_found (checked is)
-    by_case false is = no-rows-kept sel (reverse statement ++ later) p is ∙ sym (no-rows-kept sel (reverse statement) p is)
+kept-stays sel statement later p checked = grind (arith, found-stays, no-rows-kept)
 
 -- one more, if there is one, stands before what follows
 pub kept-before : {A : Type 0} (xs ys : List A) (o : Option A) → xs ++ cons_option o ys ≡ appended_if xs o ++ ys
-kept-before xs ys None = refl
-kept-before xs ys (Some x) = sym (append_assoc xs (x ∷ []) ys)
+kept-before xs ys o = grind (arith, append_assoc)
 
 -- the whole statement keeps those that were kept as they came, whatever comes behind them
 pub kept-are : (sel : Selection) (statement : List Placed) → AreChecked sel statement → (later : List Placed)
@@ -79,8 +68,7 @@ kept-are sel (p ∷ statement) checked later =
 -- the rows events that a statement keeps
 pub statement-keeps : (sel : Selection) (statement : List Placed) → AreChecked sel statement
     → filter_map (kept_rows sel (reverse statement)) (reverse statement) ≡ kept_so_far sel statement
-statement-keeps sel statement checked =
-    ap (λ events. filter_map (kept_rows sel events) (reverse statement)) (sym (append-nil (reverse statement))) ∙ kept-are sel statement checked []
+statement-keeps sel statement checked = grind (arith, append-nil (reverse statement), kept-are sel statement checked [])
 
 -- none, if there is none
 pub none-kept : (sel : Selection) (statement : List Placed) → list_any is_rows statement ≡ false → kept_so_far sel statement ≡ []

@@ -1,5 +1,5 @@
 -- Groups have events of the range, and none of them twice.
-use Rattle.std.proofs.Common.{◌≡◌, ℕ, ◌+◌, ◌≤◌, ◌<◌, Bool, true, false, if◌then◌else◌, List, [], ◌∷◌, ◌++◌, length, map, take, reverse, None, refl, sym, ap, ◌∙◌, subst, arith}
+use Rattle.std.proofs.Common.{rules, ◌≡◌, ℕ, ◌+◌, ◌≤◌, ◌<◌, Bool, true, false, if◌then◌else◌, List, [], ◌∷◌, ◌++◌, length, map, take, reverse, None, refl, sym, ap, ◌∙◌, subst, arith}
 use Rattle.std.specs.Prelude.{◌==◌, Contains}
 use Rattle.std.specs.List.{AllByRecursion, IsDistinct, flat_map}
 use Rattle.std.proofs.lemmas.Bool.{eqb-true, eq-eqb}
@@ -21,7 +21,7 @@ use Rattle.blog_trans.specs.Entries.{entries_of}
 use Rattle.blog_trans.specs.Shown.{statement_shown, transaction_shown, shown, shown_positions, events_in_range, ShowsEachOnce}
 use Rattle.blog_trans.proofs.Sums.{sum_of, sum-joined, sum-filter, sum-reverse, sum-ones}
 use Rattle.blog_trans.proofs.Apart.{transaction_sum}
-use Rattle.blog_trans.proofs.ProgressState.{state-of}
+use Rattle.blog_trans.proofs.ProgressState.{sums-fit}
 use Rattle.blog_trans.proofs.ProgressGroups.{all-passed}
 use Rattle.blog_trans.proofs.Opening.{opening-refused}
 use Rattle.blog_trans.proofs.PlacedFacts.{groups-among}
@@ -38,11 +38,9 @@ statement-within Member sel s placed =
 
 -- of a transaction
 pub transaction-within : (Member : Placed → Type 0) (sel : Selection) (t : PlacedTransaction) → IsPlacedTransaction Member sel t → AllByRecursion Member (transaction_shown t)
-transaction-within Member sel t placed = (
-  placed.begin_member,
-  all-append Member (flat_map statement_shown t.statements) (t.end ∷ [])
-      (all-joined (IsPlacedStatement Member sel) Member statement_shown (statement-within Member sel) t.statements placed.statements) (placed.end_member, tt),
-)
+transaction-within Member sel t placed =
+    let inside = all-joined (IsPlacedStatement Member sel) Member statement_shown (statement-within Member sel) t.statements in
+    grind (arith, all-append Member (flat_map statement_shown t.statements) (t.end ∷ []))
 
 -- ---- positions
 
@@ -52,14 +50,11 @@ at_pos pos p = if pos == p.pos then 1 else 0
 
 -- of events that follow each other none stands in front of the first, and at most one at any position
 one-more : (pos at size n : ℕ) (b : Bool) → (pos == at) ≡ b → 0 < size → (pos < at + size → n ≡ 0) → n ≤ 1 → (pos < at → (if b then 1 else 0) + n ≡ 0) × ((if b then 1 else 0) + n ≤ 1)
-one-more pos at size n true same some none most = let equal = eqb-true pos at same in let behind = none (omega arith) in (λ below. absurd (omega arith), omega arith)
-one-more pos at size n false same some none most = (λ below. let behind = none (omega arith) in omega arith, omega arith)
+one-more pos at size n b same some none most = grind (arith, eqb-true)
 
 one-at : (pos at : ℕ) (es : List Event) → (pos < at → sum_of (at_pos pos) (placed_from at es) ≡ 0) × (sum_of (at_pos pos) (placed_from at es) ≤ 1)
 one-at pos at [] = (λ below. refl, omega arith)
-one-at pos at (e ∷ es) =
-    let others = one-at pos (at + event_size e) es in
-    one-more pos at (event_size e) (sum_of (at_pos pos) (placed_from (at + event_size e) es)) (pos == at) refl (omega arith) others.0 others.1
+one-at pos at (e ∷ es) = grind (arith, one-at pos (at + event_size e) es)
 
 -- where none stands at a position, each position is another
 none-at : (pos : ℕ) (ps : List Placed) → sum_of (at_pos pos) ps ≤ 0 → AllByRecursion (λ y. (pos == y) ≡ false) (map (λ (p : Placed). p.pos) ps)
@@ -85,10 +80,6 @@ end-placed : (pos : ℕ) (es : List Event) → end_of pos es ≡ pos + sum_of ow
 end-placed pos [] = omega arith
 end-placed pos (e ∷ es) = let others = end-placed (pos + event_size e) es in omega arith
 
--- the events of the range behind the first are no longer than those behind it
-range-fits : (sel : Selection) (format : Event) (rest : List Event) → sum_of own_size (range sel (placed_from 4 (format ∷ rest))) ≤ sum_of own_size (placed_from (4 + event_size format) rest)
-range-fits sel format rest = sum-filter own_size (is_in_range sel) (placed_from (4 + event_size format) rest)
-
 -- ---- the theorem
 
 -- an accepted log is opened
@@ -100,25 +91,15 @@ shown-sum : (w : Placed → ℕ) (bytes : List ℕ) (sel : Selection) → IsAcce
 unfolding shown
 shown-sum w bytes sel accepted =
     let es = events_in_range bytes sel in
-    let fits = (state-of sel (reverse es) (all-passed sel es (accepted-passes bytes sel accepted))).fits w in
+    let fits = sums-fit sel (reverse es) w (all-passed sel es (accepted-passes bytes sel accepted)) in
     let joined = sum-joined w transaction_shown (transaction_sum w) (λ x. refl) (placed_groups bytes sel) in
-    let same = ap (sum_of (transaction_sum w)) (accepted-groups bytes sel accepted) in
-    omega (arith, sum-reverse w es)
+    grind (arith, accepted-groups bytes sel accepted, sum-reverse w es)
 
 -- the sizes of an accepted log's shown events
 pub shown-sizes : (bytes : List ℕ) (sel : Selection) → IsAccepted bytes sel → end_of 4 (take 1 (read bytes sel.stop)) + sum_of own_size (shown bytes sel) ≤ length bytes
 shown-sizes bytes sel accepted =
     let on : ReadsOn bytes sel.stop = opened-reads-on bytes sel.stop (accepted-opens bytes sel accepted) in
-    let format : Event = on.first in
-    let rest : List Event = on.later in
-    let within = on.inside in
-    let end = end-placed 4 (format ∷ rest) in
-    let range_of : List Event → ℕ = λ (es : List Event). sum_of own_size (range sel (placed_from 4 es)) in
-    let same : range_of (read bytes sel.stop) ≡ range_of (format ∷ rest) = ap range_of on.read_is in
-    let start : end_of 4 (take 1 (read bytes sel.stop)) ≡ 4 + event_size format = ap (λ (es : List Event). end_of 4 (take 1 es)) on.read_is in
-    let below = range-fits sel format rest in
-    let kept : sum_of own_size (shown bytes sel) ≤ range_of (read bytes sel.stop) = shown-sum own_size bytes sel accepted in
-    omega arith
+    grind (arith, on.inside, on.read_is, end-placed, sum-filter own_size (is_in_range sel), shown-sum own_size bytes sel accepted)
 
 -- the events of the groups are of the range
 shown-within : (bytes : List ℕ) (sel : Selection) → AllByRecursion (Contains (events_in_range bytes sel)) (shown bytes sel)
@@ -129,19 +110,11 @@ shown-within bytes sel =
 
 -- and stand at distinct positions
 shown-once : (bytes : List ℕ) (sel : Selection) → IsAccepted bytes sel → IsDistinct (λ a b. a == b) (map (λ (p : Placed). p.pos) (shown bytes sel))
-shown-once bytes sel accepted = positions-distinct (shown bytes sel) (λ pos.
-    let kept = shown-sum (at_pos pos) bytes sel accepted in
-    let ranged = sum-filter (at_pos pos) (is_in_range sel) (placed_from 4 (read bytes sel.stop)) in
-    let one = (one-at pos 4 (read bytes sel.stop)).1 in
-    omega arith)
+shown-once bytes sel accepted = grind (arith, positions-distinct, shown-sum, sum-filter, one-at)
 
 -- they are no more than those of the range
 shown-few : (bytes : List ℕ) (sel : Selection) → IsAccepted bytes sel → length (shown bytes sel) ≤ length (events_in_range bytes sel)
-shown-few bytes sel accepted =
-    let kept = shown-sum (λ p. 1) bytes sel accepted in
-    let counted = sum-ones (shown bytes sel) in
-    let all = sum-ones (events_in_range bytes sel) in
-    omega arith
+shown-few bytes sel accepted = omega (arith, shown-sum (λ p. 1) bytes sel accepted, sum-ones (shown bytes sel), sum-ones (events_in_range bytes sel))
 
 -- of each accepted log
 pub shows-each-once : (bytes : List ℕ) (sel : Selection) → IsAccepted bytes sel → ShowsEachOnce bytes sel
@@ -184,7 +157,4 @@ pub entries-few : (entries : List Entry) (bytes : List ℕ) (sel : Selection) �
     → length entries ≤ length (events_in_range bytes sel)
 entries-few entries bytes sel accepted is =
     let same = ap length (entries-at entries bytes sel is) in
-    let own = length-map entries at_of in
-    let others = length-map (shown bytes sel) pos_of in
-    let few = shown-few bytes sel accepted in
-    omega arith
+    omega (arith, length-map entries at_of, length-map (shown bytes sel) pos_of, shown-few bytes sel accepted)

@@ -22,22 +22,17 @@ since-no-last (p ∷ earlier) = let others = since-no-last earlier in grind arit
 -- such events, with no end of a statement behind them, are in no statement
 pub cut-none : (statement left : List Placed) → AllByRecursion IsNoLast statement → statements_of left ≡ [] → statements_of (reverse statement ++ left) ≡ []
 cut-none [] left none e = e
-cut-none (p ∷ statement) left none e =
-    ap statements_of (reverse-behind p statement left) ∙ cut-none statement (p ∷ left) none.1 (rw none.0 (ap (onto_first p) e))
+cut-none (p ∷ statement) left none e = grind (arith, cut-none statement (p ∷ left) none.1, reverse-behind)
 
 -- they stand in the first statement of what is behind them
 cut-first : (statement left s : List Placed) (ss : List (List Placed)) → AllByRecursion IsNoLast statement → statements_of left ≡ s ∷ ss
     → statements_of (reverse statement ++ left) ≡ (reverse statement ++ s) ∷ ss
 cut-first [] left s ss none e = e
-cut-first (p ∷ statement) left s ss none e =
-    ap statements_of (reverse-behind p statement left)
-    ∙ cut-first statement (p ∷ left) (p ∷ s) ss none.1 (rw none.0 (ap (onto_first p) e))
-    ∙ ap (λ l. l ∷ ss) (sym (reverse-behind p statement s))
+cut-first (p ∷ statement) left s ss none e = grind (arith, cut-first statement (p ∷ left) (p ∷ s) ss none.1, reverse-behind)
 
 -- the events of the open statement with a last rows event are a statement
 pub cut-last : (earlier left : List Placed) (p : Placed) → is_last_rows p ≡ true → statements_of (reverse (since earlier) ++ p ∷ left) ≡ reverse (p ∷ since earlier) ∷ statements_of left
-cut-last earlier left p is =
-    cut-first (since earlier) (p ∷ left) (p ∷ []) (statements_of left) (since-no-last earlier) (rw is refl) ∙ ap (λ l. l ∷ statements_of left) (sym (reverse-latest p (since earlier)))
+cut-last earlier left p is = grind (arith, cut-first (since earlier) (p ∷ left) (p ∷ []) (statements_of left), since-no-last, reverse-latest)
 
 -- ---- all statements
 
@@ -68,20 +63,13 @@ one-more earlier p are is = ap statements_of (reverse-latest p earlier) ∙ are 
 
 -- another event makes none
 none-more : (earlier : List Placed) (p : Placed) → AreCut earlier → is_last_rows p ≡ false → statements_of (reverse (p ∷ earlier)) ≡ statements_of (reverse earlier)
-none-more earlier p are no_last =
-    rw (reverse-latest p earlier, are (p ∷ []), cut-none (since earlier) (p ∷ []) (since-no-last earlier) (rw no_last refl)) (append-nil (statements_of (reverse earlier)))
+none-more earlier p are no_last = grind (arith, reverse-latest, cut-none, since-no-last, append-nil)
 
 are-cut : (earlier : List Placed) → AllByRecursion IsNoBegin earlier → AreCut earlier
 are-cut [] none left = refl
-are-cut (p ∷ earlier) none left = by_case (is_last_rows p) refl (are-cut earlier none.1)
-  where
-    by_case : (b : Bool) → is_last_rows p ≡ b → AreCut earlier
-        → statements_of (reverse (p ∷ earlier) ++ left) ≡ statements_of (reverse (p ∷ earlier)) ++ statements_of (reverse (since (p ∷ earlier)) ++ left)
-    by_case true is are =
-        rw (reverse-behind p earlier left, are (p ∷ left), cut-last earlier left p is, one-more earlier p are is, since-cut earlier p is)
-        (sym (append_assoc (statements_of (reverse earlier)) (reverse (p ∷ since earlier) ∷ []) (statements_of left)))
-    by_case false no_last are =
-        rw (reverse-behind p earlier left, are (p ∷ left), none-more earlier p are no_last, since-on earlier p none.0 no_last, reverse-behind p (since earlier) left) refl
+are-cut (p ∷ earlier) none left =
+    let are = are-cut earlier none.1 in
+    grind (arith, reverse-behind, reverse-latest p earlier, cut-last earlier, none-more earlier p are, one-more earlier p are, append_assoc)
 
 -- the last event of a statement ends the one that is seen looking back from it
 pub statements-ended : (earlier left : List Placed) (p : Placed) → AllByRecursion IsNoBegin earlier → is_last_rows p ≡ true
@@ -91,22 +79,6 @@ statements-ended earlier left p none is = are-cut earlier none (p ∷ left) ∙ 
 -- what is in no statement is the open one
 pub statements-joined : (earlier : List Placed) → AllByRecursion IsNoBegin earlier → joined_statements (statements_of (reverse earlier)) ++ reverse (since earlier) ≡ reverse earlier
 statements-joined [] none = refl
-statements-joined (p ∷ earlier) none = by_case (is_last_rows p) refl (statements-joined earlier none.1) ∙ sym (reverse-latest p earlier)
-  where
-    before : List (List Placed)
-    before = statements_of (reverse earlier)
-
-    by_case : (b : Bool) → is_last_rows p ≡ b → joined_statements before ++ reverse (since earlier) ≡ reverse earlier
-        → joined_statements (statements_of (reverse (p ∷ earlier))) ++ reverse (since (p ∷ earlier)) ≡ reverse earlier ++ p ∷ []
-    by_case true is joined =
-        ap₂ (λ ss st. joined_statements ss ++ reverse st) (one-more earlier p (are-cut earlier none.1) is) (since-cut earlier p is)
-        ∙ append-nil (joined_statements (before ++ reverse (p ∷ since earlier) ∷ []))
-        ∙ flat_map-append (λ s. s) before (reverse (p ∷ since earlier) ∷ [])
-        ∙ ap (λ l. joined_statements before ++ l) (append-nil (reverse (p ∷ since earlier)) ∙ reverse-latest p (since earlier))
-        ∙ sym (append_assoc (joined_statements before) (reverse (since earlier)) (p ∷ []))
-        ∙ ap (λ l. l ++ p ∷ []) joined
-    by_case false no_last joined =
-        ap₂ (λ ss st. joined_statements ss ++ reverse st) (none-more earlier p (are-cut earlier none.1) no_last) (since-on earlier p none.0 no_last)
-        ∙ ap (λ l. joined_statements before ++ l) (reverse-latest p (since earlier))
-        ∙ sym (append_assoc (joined_statements before) (reverse (since earlier)) (p ∷ []))
-        ∙ ap (λ l. l ++ p ∷ []) joined
+statements-joined (p ∷ earlier) none =
+    let joined = statements-joined earlier none.1 in
+    grind (arith, reverse-latest, one-more, are-cut, since-cut, append-nil, flat_map-append, append_assoc, none-more, since-on)

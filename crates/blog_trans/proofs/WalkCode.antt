@@ -186,10 +186,10 @@ module _ {A : Type 0} (bytes : List ℕ) (sel : Selection) (at : ℕ) (builder :
               last false = append-nil (reverse (range sel ps))
 
 -- the fault of a log that was read to its end, as the program computes it
-pub end-is-fault : {A : Type 0} (bytes : List ℕ) (sel : Selection) (end at : ℕ) (builder : IndexBuilder A) (o : Option Fault) → opening_fault bytes ≡ None → end ≡ length bytes
-    → IsThrough bytes sel (Ok at) builder → o ≡ end_fault end sel builder.checker.place at → fault bytes sel ≡ o
-end-is-fault bytes sel end at builder o opened ends through is =
-    end-refused bytes sel opened through.0 ∙ last-is bytes sel end at builder.checker.place ends through.1 through.2.checker.place_is ∙ sym is
+pub end-is-fault : {A : Type 0} (bytes : List ℕ) (sel : Selection) (end at : ℕ) (builder : IndexBuilder A) → opening_fault bytes ≡ None → end ≡ length bytes
+    → IsThrough bytes sel (Ok at) builder → fault bytes sel ≡ end_fault end sel builder.checker.place at
+end-is-fault bytes sel end at builder opened ends through =
+    end-refused bytes sel opened through.0 ∙ last-is bytes sel end at builder.checker.place ends through.1 through.2.checker.place_is
 
 -- what is kept of one that has none
 pub keeps-groups : {A : Type 0} (bytes : List ℕ) (sel : Selection) (at : ℕ) (builder : IndexBuilder A) → IsThrough bytes sel (Ok at) builder → IsAccepted bytes sel → Keeps (all_ended (placed_groups bytes sel)) builder

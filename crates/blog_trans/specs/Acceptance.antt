@@ -16,8 +16,8 @@ use Rattle.blog_row.specs.declared.kind.RowsKind.{RowsKind}
 use Rattle.blog_row.specs.Column.{Layout}
 use Rattle.blog_row.specs.TableMap.{Table, Names, names_of, layout_of, is_same_layout}
 use Rattle.blog_row.specs.RowsEvent.{RowsBody, rows_of, table_id, fixed_len}
-use Rattle.blog_trans.specs.declared.kind.EventKind.{EventKind}
-use Rattle.blog_trans.specs.declared.kind.EventKind.TheVariants as kind
+use Rattle.blog_row.specs.declared.event_kinds.EventKind.{EventKind}
+use Rattle.blog_row.specs.declared.event_kinds.EventKind.TheVariants as kind
 use Rattle.blog_trans.specs.Selection.{Selection, is_wanted}
 use Rattle.blog_trans.specs.Places.{kind_at, is_map, is_rows, place, is_inside, is_outside, since, is_map_of, map_in}
 

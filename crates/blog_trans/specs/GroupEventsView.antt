@@ -1,12 +1,10 @@
 -- What a contract sees of an iterator over the events of groups.
-use Rattle.std.specs.Prelude.{◌≡◌, ℕ, ◌+◌, List, [], ◌∷◌, ◌++◌, map, drop, take, if◌then◌else◌, Option, Some, IfSome, Ok, slice_get}
+use Rattle.std.specs.Prelude.{◌≡◌, ℕ, List, [], ◌∷◌, ◌++◌, map, drop, take, if◌then◌else◌, Option, Some, IfSome, Ok, slice_get}
 use Rattle.std.specs.Option.{option_map_or}
 use Rattle.std.specs.List.{flat_map}
 use Rattle.std.specs.Iterator.{YieldsFirstBy}
 use Rattle.blog_event.specs.declared.event.Event as told
 use Rattle.blog_event.specs.Event.{event_of, event_size}
-use Rattle.blog_row.specs.declared.order.Order.{Order}
-use Rattle.blog_row.specs.declared.order.Order.TheVariants.{Forward, Backward}
 use Rattle.blog_row.specs.TableMap.{names_of, layout_of, map_names}
 use Rattle.blog_row.specs.LayoutView.{layout_columns}
 use Rattle.blog_row.specs.RowsEventView.{rows_kind, rows_layout, rows_body}
@@ -19,7 +17,7 @@ use Rattle.blog_trans.specs.declared.group_events.GroupRows.{GroupRows}
 use Rattle.blog_trans.specs.declared.group_events.GroupEvent as seen
 use Rattle.blog_trans.specs.declared.group_events.GroupEvent.TheVariants as given
 use Rattle.blog_trans.specs.declared.group_events.GroupEvents.{GroupEvents}
-use Rattle.blog_trans.specs.declared.group_events.Numbers.{Numbers}
+use Rattle.std.specs.declared.ops.Range.{Range}
 
 -- which event of the groups it is
 abbrev pub event_seen : seen.GroupEvent → GroupEvent
@@ -47,7 +45,7 @@ IsWhole (given.End event) = HasSize event
 -- ---- what is left
 
 -- the elements whose numbers are left
-abbrev pub among : {A : Type 0} → Numbers → List A → List A
+abbrev pub among : {A : Type 0} → Range ℕ → List A → List A
 among numbers xs = drop numbers.start (take numbers.end xs)
 
 -- the end event of a transaction, none where there is no such one
@@ -74,12 +72,3 @@ events_left events =
 pub record GivesEvent {A : Type 0} (before : GroupEvents A) (event : Option seen.GroupEvent) (after : GroupEvents A) : Type 0 where
   pub first : YieldsFirstBy event_seen events_left before event after
   pub whole : IfSome event IsWhole
-
--- the number that comes first in an order is taken
-abbrev pub TakesNumber : Order → Numbers → ℕ → Numbers → Type 0
-TakesNumber Forward before n after = (n ≡ before.start) × (after.start ≡ before.start + 1) × (after.end ≡ before.end)
-TakesNumber Backward before n after = (n + 1 ≡ before.end) × (after.start ≡ before.start) × (after.end ≡ n)
-
--- all of them
-abbrev pub IsFrom0 : ℕ → Numbers → Type 0
-IsFrom0 n numbers = (numbers.start ≡ 0) × (numbers.end ≡ n)

@@ -9,8 +9,8 @@ use Rattle.blog_row.specs.declared.fault.RowFault.{RowFault}
 use Rattle.blog_row.specs.declared.kind.RowsKind.{RowsKind}
 use Rattle.blog_row.specs.RowsEvent.{RowsBody, table_id}
 use Rattle.blog_row.specs.RowsWriting.{RowsContent, content_of}
-use Rattle.blog_trans.specs.declared.kind.EventKind.{EventKind}
-use Rattle.blog_trans.specs.declared.kind.EventKind.TheVariants as kind
+use Rattle.blog_row.specs.declared.event_kinds.EventKind.{EventKind}
+use Rattle.blog_row.specs.declared.event_kinds.EventKind.TheVariants as kind
 use Rattle.blog_trans.specs.Selection.{Selection}
 use Rattle.blog_trans.specs.Places.{kind_at, is_begin, is_end, is_map, is_last_rows, map_in}
 use Rattle.blog_trans.specs.Acceptance.{is_selected, rows_by_map, range}

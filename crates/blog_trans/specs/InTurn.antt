@@ -1,6 +1,7 @@
 -- The events of groups one after the other, in the order in which they are written: that of the log, or backward.
-use Rattle.std.specs.Prelude.{Bool, true, false, List, [], ◌∷◌, ◌++◌, map, reverse}
+use Rattle.std.specs.Prelude.{◌≡◌, ℕ, ◌+◌, Bool, true, false, List, [], ◌∷◌, ◌++◌, map, reverse}
 use Rattle.std.specs.List.{flat_map}
+use Rattle.std.specs.declared.ops.Range.{Range}
 use Rattle.blog_event.specs.File.{Placed}
 use Rattle.blog_row.specs.declared.order.Order.{Order}
 use Rattle.blog_row.specs.declared.order.Order.TheVariants.{Forward, Backward}
@@ -15,6 +16,11 @@ pub data GroupEvent : Type 0 where
 abbrev pub in_order : {A : Type 0} → Order → List A → List A
 in_order Forward xs = xs
 in_order Backward xs = reverse xs
+
+-- the number that comes first in an order is taken
+abbrev pub TakesNumber : Order → Range ℕ → ℕ → Range ℕ → Type 0
+TakesNumber Forward before n after = (n ≡ before.start) × (after.start ≡ before.start + 1) × (after.end ≡ before.end)
+TakesNumber Backward before n after = (n + 1 ≡ before.end) × (after.start ≡ before.start) × (after.end ≡ n)
 
 -- the rows events of a statement; of the last one it is said that it is
 abbrev pub rows_in_turn : List PlacedRows → List GroupEvent

@@ -1,7 +1,6 @@
 pub mod Selection
 pub mod TableIdHash
 pub mod TableNameHash
-pub mod Kinds
 pub mod Places
 pub mod Acceptance
 pub mod Groups

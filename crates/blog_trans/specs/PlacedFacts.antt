@@ -5,7 +5,7 @@ use Rattle.blog_event.specs.File.{Placed}
 use Rattle.blog_row.specs.Column.{Layout}
 use Rattle.blog_row.specs.TableMap.{Names, names_of, layout_of}
 use Rattle.blog_row.specs.RowsEvent.{table_id}
-use Rattle.blog_trans.specs.declared.kind.EventKind.TheVariants as kind
+use Rattle.blog_row.specs.declared.event_kinds.EventKind.TheVariants as kind
 use Rattle.blog_trans.specs.Selection.{Selection}
 use Rattle.blog_trans.specs.Places.{kind_at, is_begin, is_end, is_map, map_in}
 use Rattle.blog_trans.specs.Acceptance.{is_selected, rows_by_map}

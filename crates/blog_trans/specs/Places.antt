@@ -7,11 +7,11 @@ use Rattle.blog_event.specs.Event.{event_of}
 use Rattle.blog_event.specs.File.{Placed}
 use Rattle.blog_event.specs.Format.{front_while}
 use Rattle.blog_row.specs.RowsEvent.{table_id, has_end_flag}
-use Rattle.blog_trans.specs.declared.kind.EventKind.{EventKind}
-use Rattle.blog_trans.specs.declared.kind.EventKind.TheVariants as kind
+use Rattle.blog_row.specs.declared.event_kinds.EventKind.{EventKind}
+use Rattle.blog_row.specs.declared.event_kinds.EventKind.TheVariants as kind
+use Rattle.blog_row.specs.Kinds.{kind_of, is_begin_kind, is_end_kind, is_map_kind, rows_of_kind}
 use Rattle.blog_trans.specs.declared.place.Place.{Place}
 use Rattle.blog_trans.specs.declared.place.Place.TheVariants.{Outside, Announced, Inside}
-use Rattle.blog_trans.specs.Kinds.{kind_of, is_begin_kind, is_end_kind, is_map_kind, rows_of_kind}
 
 -- an event of the program with its place
 abbrev pub placed : told.Event → Placed

@@ -1,19 +1,19 @@
 //! Walking through a log: each event of the range is checked, and what the groups take of it is kept.
 
-ghost use Rattle.std.specs.Prelude.{◌≡◌, ◌+◌, ◌≤◌, ◌<◌, ◌^◌, Option, List, [], ◌∷◌, length, OnOk, IfErr, MatchResult, vec_len, IfOk};
+ghost use Rattle.std.specs.Prelude.{◌≡◌, ◌+◌, ◌≤◌, ◌<◌, ◌^◌, Option, List, [], ◌∷◌, length, None, Some, OnOk, IfErr, MatchResult, vec_len, IfOk};
 ghost use Rattle.indexmap.specs.IndexMap.{index_map_len};
 ghost use Rattle.blog_event.specs.declared.fault.Fault.TheVariants.{OutOfMemory};
 ghost use Rattle.blog_event.specs.Fault.{fault_at};
 ghost use Rattle.blog_event.specs.Event.{event_of, event_size};
 ghost use Rattle.blog_event.specs.File.{Placed, is_below};
+ghost use Rattle.blog_row.specs.declared.event_kinds.EventKind.TheVariants as told;
+ghost use Rattle.blog_row.specs.Kinds.{kind_of};
 ghost use Rattle.blog_trans.specs.Selection.{Selection as Sel, selection_of};
 ghost use Rattle.blog_trans.specs.Acceptance.{event_fault, IsRefusal, IsAccepted, fault, is_start_inside, range, read_fault};
 ghost use Rattle.blog_trans.specs.Groups.{PlacedRows, PlacedTransaction};
 ghost use Rattle.blog_trans.specs.Progress.{Open, with_rows};
 ghost use Rattle.blog_trans.specs.TablesView.{tables_known};
 ghost use Rattle.blog_trans.specs.StatementMaps.{used_of};
-ghost use Rattle.blog_trans.specs.Kinds.{kind_of};
-ghost use Rattle.blog_trans.specs.declared.kind.EventKind.TheVariants as told;
 ghost use Rattle.blog_trans.specs.CheckerView.{IsKept, HasChecked, images_of};
 ghost use Rattle.blog_trans.specs.ListsView.{closed_by, open_behind};
 ghost use Rattle.blog_trans.specs.BuilderView.{HasTaken, IsWithin, IsTakenOrRefused, Keeps, placed};
@@ -25,12 +25,11 @@ ghost use Rattle.blog_trans.specs.Shown.{ShowsEachOnce};
 use crate::checker::{Checker, KeptRows};
 use crate::counts::Counts;
 use crate::groups::Index;
-use crate::kind::{EventKind, event_kind};
 use crate::lists::IndexLists;
 use crate::place::Place;
 use crate::selection::Selection;
 use blog_event::{Event, Fault, Log};
-use blog_row::RowsKind;
+use blog_row::{EventKind, RowsKind, event_kind};
 use std::alloc::Allocator;
 
 /// The size of an Xid event's body in bytes.
@@ -149,6 +148,43 @@ impl<'a, A: Allocator + Copy> IndexBuilder<'a, A> {
         }
         Ok(())
     }
+
+    /// One more event that is read: before the range nothing is asked of it but that the start isn't inside it.
+    fn read(&mut self, sel: &Selection<'_>, event: &Event<'a>) -> Result<(), Fault>
+        requires behind { 4 < event.now.pos }
+        requires size { event.now.header.size ≡ event_size (event_of event.now) }
+        requires ends { event.now.pos + event_size (event_of event.now) < 2 ^ 32 }
+        requires within { IsWithin event.now.pos self.old }
+        ensures walks { (earlier : List Placed) → HasTaken (selection_of sel.now) (range (selection_of sel.now) earlier) self.old
+            → IsRead (read_fault (selection_of sel.now) earlier (placed event.now)) (selection_of sel.now) (placed event.now ∷ earlier) result self.new }
+        ensures within { OnOk result (IsWithin (event.now.pos + event_size (event_of event.now)) self.new) }
+    {
+        if is_start_inside(sel, event) {
+            return Err(Fault::NoEventAt { pos: sel.start });
+        }
+        if event.pos >= sel.start {
+            self.step(sel, event)?;
+        }
+        Ok(())
+    }
+
+    /// Walks through the events of a log from a position on, as far as they are read. Answers where the last one ends.
+    fn walk(&mut self, log: &Log<'a>, sel: &Selection<'_>, from: u32) -> Result<u32, Fault>
+        requires reached { IsReached (log_bytes log.now) (selection_of sel.now) from }
+        requires begins { IsWithin 0 self.old }
+        requires walks { HasTaken (selection_of sel.now) [] self.old }
+        ensures through { IsThrough (log_bytes log.now) (selection_of sel.now) result self.new }
+    {
+        let mut at = from;
+        'events: while is_below(at, sel.stop) && at != log.end() {
+            let Ok(event) = log.event_at(at) else {
+                return Err(Fault::CutEvent { pos: at });
+            };
+            self.read(sel, &event)?;
+            at += event.header.size;
+        }
+        Ok(at)
+    }
 }
 
 /// Whether a position lies below a stop, where there is one.
@@ -168,64 +204,18 @@ pub(crate) fn is_start_inside(sel: &Selection<'_>, event: &Event<'_>) -> bool
         && sel.start - event.pos < event.header.size
 }
 
-/// One more event that is read: before the range nothing is asked of it but that the start isn't inside it.
-fn read<'a, A: Allocator + Copy>(
-    builder: &mut IndexBuilder<'a, A>,
-    sel: &Selection<'_>,
-    event: &Event<'a>,
-) -> Result<(), Fault>
-    requires behind { 4 < event.now.pos }
-    requires size { event.now.header.size ≡ event_size (event_of event.now) }
-    requires ends { event.now.pos + event_size (event_of event.now) < 2 ^ 32 }
-    requires within { IsWithin event.now.pos builder.old }
-    ensures walks { (earlier : List Placed) → HasTaken (selection_of sel.now) (range (selection_of sel.now) earlier) builder.old
-        → IsRead (read_fault (selection_of sel.now) earlier (placed event.now)) (selection_of sel.now) (placed event.now ∷ earlier) result builder.new }
-    ensures within { OnOk result (IsWithin (event.now.pos + event_size (event_of event.now)) builder.new) }
-{
-    if is_start_inside(sel, event) {
-        return Err(Fault::NoEventAt { pos: sel.start });
-    }
-    if event.pos >= sel.start {
-        builder.step(sel, event)?;
-    }
-    Ok(())
-}
-
-/// Walks through the events of a log from a position on, as far as they are read. Answers where the last one ends.
-pub(crate) fn walk<'a, A: Allocator + Copy>(
-    builder: &mut IndexBuilder<'a, A>,
-    log: &Log<'a>,
-    sel: &Selection<'_>,
-    from: u32,
-) -> Result<u32, Fault>
-    requires reached { IsReached (log_bytes log.now) (selection_of sel.now) from }
-    requires begins { IsWithin 0 builder.old }
-    requires walks { HasTaken (selection_of sel.now) [] builder.old }
-    ensures through { IsThrough (log_bytes log.now) (selection_of sel.now) result builder.new }
-{
-    let mut at = from;
-    'events: while is_below(at, sel.stop) && at != log.end() {
-        let Ok(event) = log.event_at(at) else {
-            return Err(Fault::CutEvent { pos: at });
-        };
-        read(builder, sel, &event)?;
-        at += event.header.size;
-    }
-    Ok(at)
-}
-
-/// The fault of a log that was read up to `at`, where none of its events has one: a start past its end, or a range that
-/// ends inside a transaction or behind a transaction's id.
-fn end_fault(end: u32, sel: &Selection<'_>, place: Place, at: u32) -> Option<Fault>
-    ensures { result ≡ end_fault end (selection_of sel.now) place at }
+/// Checks the end of a log that was read up to `at`, where none of its events has a fault: `NoEventAt` where the range
+/// starts past its end, `Unended` where it ends inside a transaction or behind a transaction's id.
+fn check_end(end: u32, sel: &Selection<'_>, place: Place, at: u32) -> Result<(), Fault>
+    ensures { MatchResult result (λ done. end_fault end (selection_of sel.now) place at ≡ None) (λ fault. end_fault end (selection_of sel.now) place at ≡ Some fault) }
 {
     if is_below(sel.start, sel.stop) && sel.start > end {
-        return Some(Fault::NoEventAt { pos: sel.start });
+        return Err(Fault::NoEventAt { pos: sel.start });
     }
     if !place.is_outside() {
-        return Some(Fault::Unended { pos: at });
+        return Err(Fault::Unended { pos: at });
     }
-    None
+    Ok(())
 }
 
 /// Goes through a log once, and answers its groups under a selection. Nothing is copied from the log: the index has 8 bytes
@@ -267,14 +257,20 @@ pub fn index_from<'a, 's, A: Allocator + Copy>(
     ensures refused { IfErr result (IsRefusal (fault (log_bytes log.now) (selection_of sel.now))) }
 {
     let mut builder = IndexBuilder::new(alloc);
-    let at = walk(&mut builder, log, sel, from)?;
-    if let Some(fault) = end_fault(log.end(), sel, builder.checker.place, at) {
-        return Err(fault);
-    }
+    let at = builder.walk(log, sel, from)?;
+    check_end(log.end(), sel, builder.checker.place, at)?;
     let IndexBuilder {
         checker,
         lists,
         counts,
     } = builder;
-    Ok(Index::new(*log, *sel, lists, checker.layouts, counts))
+    Ok(Index {
+        log: *log,
+        sel: *sel,
+        entries: lists.entries,
+        transactions: lists.transactions,
+        statements: lists.statements,
+        layouts: checker.layouts,
+        counts,
+    })
 }

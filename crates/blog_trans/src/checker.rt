@@ -8,15 +8,15 @@ ghost use Rattle.blog_event.specs.Event.{Event as Fields, event_of};
 ghost use Rattle.blog_event.specs.Fault.{first_failing};
 ghost use Rattle.blog_event.specs.File.{Placed, AreBytes};
 ghost use Rattle.blog_row.specs.TableMap.{HasNames, map_names};
+ghost use Rattle.blog_row.specs.declared.event_kinds.EventKind.TheVariants as told;
+ghost use Rattle.blog_row.specs.Kinds.{kind_of, is_end_kind};
 ghost use Rattle.blog_trans.specs.Acceptance.{end_checks};
-ghost use Rattle.blog_trans.specs.Kinds.{kind_of, is_end_kind};
-ghost use Rattle.blog_trans.specs.declared.kind.EventKind.TheVariants as told;
 ghost use Rattle.blog_trans.specs.CheckerView.{HasChecked, IsChecked, IsCheckedBy, AreChecked, IsReadBy, IsMapCompared, images_of};
 ghost use Rattle.blog_trans.specs.Places.{since};
 ghost use Rattle.blog_trans.specs.TablesView.{tables_known, HaveGrown};
 ghost use Rattle.blog_trans.specs.Selection.{Selection as Sel, selection_of};
 
-use crate::layouts::{Layouts, SelectedTable, body_fault, take_table};
+use crate::layouts::{Layouts, SelectedTable, in_body, take_table};
 use crate::place::Place;
 use crate::selection::Selection;
 use crate::table_ids::TableIdHasher;
@@ -88,15 +88,13 @@ fn kept_rows<'a>(
     let Some(table) = &map.table else {
         return Ok(None);
     };
-    let read = match RowsEvent::read_counted(kind, event.body, &table.layout) {
-        Ok(read) => read,
-        Err(fault) => return Err(body_fault(fault, event.pos)),
-    };
+    let counted = RowsEvent::read_counted(kind, event.body, &table.layout);
+    let (_, images) = in_body(counted, event.pos)?;
     Ok(Some(KeptRows {
         map: map.at,
         table: table.number,
         action: kind.action,
-        images: read.1,
+        images,
     }))
 }
 
@@ -185,16 +183,9 @@ impl<'a, A: Allocator + Copy> Checker<'a, A> {
         if !self.place.is_inside() {
             return Err(Fault::OutOfPlace { pos });
         }
-        let map = match TableMap::read(event.body) {
-            Ok(map) => map,
-            Err(fault) => return Err(body_fault(fault, pos)),
-        };
+        let map = in_body(TableMap::read(event.body), pos)?;
         let first = self.is_first(&map, event)?;
-        let name = TableName {
-            schema: map.schema(),
-            table: map.table(),
-        };
-        let table = take_table(&mut self.layouts, sel, name, &map, pos)?;
+        let table = take_table(&mut self.layouts, sel, &map, pos)?;
         are_bytes(event.body);
         if first {
             let seen = MapSeen {
@@ -224,10 +215,7 @@ impl<'a, A: Allocator + Copy> Checker<'a, A> {
         if !self.place.is_inside() {
             return Err(Fault::OutOfPlace { pos });
         }
-        let head = match RowsHead::read(kind.version, event.body) {
-            Ok(head) => head,
-            Err(fault) => return Err(body_fault(fault, pos)),
-        };
+        let head = in_body(RowsHead::read(kind.version, event.body), pos)?;
         are_bytes(event.body);
         let Some(map) = self.maps.get_mut(&head.table_id()) else {
             return Err(Fault::NoMap { pos });

@@ -1,14 +1,16 @@
 //! Going through the events of groups, one after the other, as they are written.
 
-ghost use Rattle.std.specs.Prelude.{◌≡◌, ◌<◌, ◌≤◌, ℕ, true, false, drop, length, Some, IsSome};
+ghost use Rattle.std.specs.Prelude.{◌≡◌, ◌<◌, ◌≤◌, ℕ, true, false, drop, length, Some, IsSome, MatchOption};
 ghost use Rattle.std.specs.Option.{ForSome};
 ghost use Rattle.blog_event.specs.Event.{event_at, event_of};
+ghost use Rattle.blog_trans.specs.InTurn.{TakesNumber};
 ghost use Rattle.blog_trans.specs.IndexView.{index_bytes, index_groups, map_at, rows_at, rows_place, statement_at};
 
 use crate::groups::{Index, MapRead};
 use blog_event::Event;
 use blog_row::{Order, RowsEvent, TableMap};
 use std::alloc::{Allocator, Global};
+use std::ops::Range;
 
 /// A rows event of groups, with the map by which it goes.
 #[derive(Clone, Copy, Debug)]
@@ -38,29 +40,22 @@ pub enum GroupEvent<'a> {
     End(Event<'a>),
 }
 
-/// Numbers that are left, from the first up to the last and without that.
-#[derive(Clone, Copy, Debug)]
-struct Numbers {
-    start: usize,
-    end: usize,
-}
-
 /// The events of the groups of an index, in an order.
 #[derive(Drop)]
 pub struct GroupEvents<'i, 'a, 's, A: Allocator = Global> {
     index: &'i Index<'a, 's, A>,
     order: Order,
     // Transactions that aren't begun.
-    transactions: Numbers,
+    transactions: Range<usize>,
     // Whether a transaction was begun that hasn't ended, and its number.
     is_open: bool,
     transaction: usize,
     // Its statements of which nothing was given.
-    statements: Numbers,
+    statements: Range<usize>,
     // The number of the one of which some was given, and what is left of it.
     statement: usize,
-    maps: Numbers,
-    rows: Numbers,
+    maps: Range<usize>,
+    rows: Range<usize>,
     // The entry of its first rows event.
     first_rows: usize,
     // The map that was read last.
@@ -74,40 +69,13 @@ pub struct GroupEvents<'i, 'a, 's, A: Allocator = Global> {
     ghost read_stands: { ForSome read (λ m. event_at (drop m.event.pos (index_bytes index.now)) ≡ Some (event_of m.event)) },
 }
 
-impl Numbers {
-    ghost use Rattle.blog_trans.specs.GroupEventsView.{IsFrom0, TakesNumber};
-
-    /// As many, from 0 on.
-    fn new(len: usize) -> Self
-        ensures { IsFrom0 len result }
-    {
-        Numbers { start: 0, end: len }
-    }
-
-    /// Whether none is left.
-    fn is_empty(self) -> bool
-        ensures none { result ≡ true → self.end ≤ self.start }
-        ensures some { result ≡ false → self.start < self.end }
-    {
-        self.start >= self.end
-    }
-
-    /// Takes the one that comes first in an order.
-    fn take(&mut self, order: Order) -> usize
-        requires { self.old.start < self.old.end }
-        ensures { TakesNumber order self.old result self.new }
-    {
-        match order {
-            Order::Forward => {
-                let first = self.start;
-                self.start += 1;
-                first
-            }
-            Order::Backward => {
-                self.end -= 1;
-                self.end
-            }
-        }
+/// Takes the number that comes first in an order.
+fn take(numbers: &mut Range<usize>, order: Order) -> Option<usize>
+    ensures { MatchOption result ((numbers.old.end ≤ numbers.old.start) × (numbers.new ≡ numbers.old)) (λ n. (numbers.old.start < numbers.old.end) × TakesNumber order numbers.old n numbers.new) }
+{
+    match order {
+        Order::Forward => numbers.next(),
+        Order::Backward => numbers.next_back(),
     }
 }
 
@@ -124,13 +92,13 @@ impl<'a, 's, A: Allocator> Index<'a, 's, A> {
         GroupEvents {
             index: self,
             order,
-            transactions: Numbers::new(self.transactions()),
+            transactions: 0..self.transactions(),
             is_open: false,
             transaction: 0,
-            statements: Numbers::new(0),
+            statements: 0..0,
             statement: 0,
-            maps: Numbers::new(0),
-            rows: Numbers::new(0),
+            maps: 0..0,
+            rows: 0..0,
             first_rows: 0,
             read: None,
         }
@@ -138,8 +106,7 @@ impl<'a, 's, A: Allocator> Index<'a, 's, A> {
 }
 
 impl<'i, 'a, 's, A: Allocator> GroupEvents<'i, 'a, 's, A> {
-    ghost use Rattle.std.specs.Prelude.{◌+◌};
-    ghost use Rattle.blog_trans.specs.GroupEventsView.{GivesEvent, events_left};
+    ghost use Rattle.blog_trans.specs.GroupEventsView.{GivesEvent};
 
     /// Begins the next transaction, if any is left.
     #[inline(always)]
@@ -147,79 +114,33 @@ impl<'i, 'a, 's, A: Allocator> GroupEvents<'i, 'a, 's, A> {
         requires { self.old.is_open ≡ false }
         ensures { GivesEvent self.old result self.new }
     {
-        if self.transactions.is_empty() {
-            return None;
-        }
-        let t = self.transactions.take(self.order);
+        let t = take(&mut self.transactions, self.order)?;
         self.is_open = true;
         self.transaction = t;
-        self.statements = Numbers::new(self.index.statements(t));
-        self.maps = Numbers::new(0);
-        self.rows = Numbers::new(0);
+        self.statements = 0..self.index.statements(t);
+        self.maps = 0..0;
+        self.rows = 0..0;
         Some(GroupEvent::Begin(self.index.begin(t)))
-    }
-
-    /// Opens the next statement.
-    #[inline(always)]
-    fn open_statement(&mut self)
-        requires open { self.old.is_open ≡ true }
-        requires some { self.old.statements.start < self.old.statements.end }
-        requires no_maps { self.old.maps.end ≤ self.old.maps.start }
-        requires no_rows { self.old.rows.end ≤ self.old.rows.start }
-        ensures left { events_left self.new ≡ events_left self.old }
-        ensures open { self.new.is_open ≡ true }
-        ensures fewer { (self.new.statements.end + self.old.statements.start) + 1 ≡ self.new.statements.start + self.old.statements.end }
-    {
-        let s = self.statements.take(self.order);
-        self.statement = s;
-        self.maps = Numbers::new(self.index.maps(self.transaction, s));
-        self.rows = Numbers::new(self.index.rows(self.transaction, s));
-        self.first_rows = self.index.first_rows(self.transaction, s);
-    }
-
-    /// The next map of the open statement.
-    #[inline(always)]
-    fn map(&mut self) -> GroupEvent<'a>
-        requires open { self.old.is_open ≡ true }
-        requires some { self.old.maps.start < self.old.maps.end }
-        ensures { GivesEvent self.old (Some result) self.new }
-    {
-        let m = self.maps.take(Order::Forward);
-        let (event, _) = self.index.map(self.transaction, self.statement, m);
-        GroupEvent::Map(event)
     }
 
     /// The next rows event of the open statement.
     #[inline(always)]
-    fn rows(&mut self) -> GroupEvent<'a>
+    fn rows(&mut self) -> Option<GroupEvent<'a>>
         requires open { self.old.is_open ≡ true }
         requires no_maps { self.old.maps.end ≤ self.old.maps.start }
         requires some { self.old.rows.start < self.old.rows.end }
-        ensures { GivesEvent self.old (Some result) self.new }
+        ensures { GivesEvent self.old result self.new }
     {
-        let r = self.rows.take(self.order);
+        let r = take(&mut self.rows, self.order)?;
         let (event, map, rows) = self.index.group_rows(self.first_rows + r, self.read);
         self.read = Some(map);
-        GroupEvent::Rows(GroupRows {
+        Some(GroupEvent::Rows(GroupRows {
             event,
             map: map.event,
             table: map.table,
             rows,
             last: self.rows.is_empty(),
-        })
-    }
-
-    /// Ends the open transaction.
-    #[inline(always)]
-    fn end(&mut self) -> GroupEvent<'a>
-        requires open { self.old.is_open ≡ true }
-        requires no_maps { self.old.maps.end ≤ self.old.maps.start }
-        requires no_rows { self.old.rows.end ≤ self.old.rows.start }
-        requires no_statements { self.old.statements.end ≤ self.old.statements.start }
-        ensures { GivesEvent self.old (Some result) self.new }
-    {
-        self.is_open = false;
-        GroupEvent::End(self.index.end(self.transaction))
+        }))
     }
 }
 
@@ -238,18 +159,20 @@ impl<'i, 'a, 's, A: Allocator> Iterator for GroupEvents<'i, 'a, 's, A> {
         if !self.is_open {
             return self.begin();
         }
-        'statements: while self.maps.is_empty()
-            && self.rows.is_empty()
-            && !self.statements.is_empty()
-        {
-            self.open_statement();
+        'statements: while self.maps.is_empty() && self.rows.is_empty() {
+            let Some(s) = take(&mut self.statements, self.order) else {
+                self.is_open = false;
+                return Some(GroupEvent::End(self.index.end(self.transaction)));
+            };
+            self.statement = s;
+            self.maps = 0..self.index.maps(self.transaction, s);
+            self.rows = 0..self.index.rows(self.transaction, s);
+            self.first_rows = self.index.first_rows(self.transaction, s);
         }
-        if !self.maps.is_empty() {
-            return Some(self.map());
+        if let Some(m) = take(&mut self.maps, Order::Forward) {
+            let (event, _) = self.index.map(self.transaction, self.statement, m);
+            return Some(GroupEvent::Map(event));
         }
-        if !self.rows.is_empty() {
-            return Some(self.rows());
-        }
-        Some(self.end())
+        self.rows()
     }
 }

@@ -16,7 +16,7 @@ ghost use Rattle.blog_trans.specs.Entries.{entries_of, statement_starts, stateme
 
 use crate::counts::Counts;
 use crate::layouts::Layouts;
-use crate::lists::{Entry, IndexLists, StatementStart, TransactionStart};
+use crate::lists::{Entry, StatementStart, TransactionStart};
 use crate::selection::Selection;
 use blog_event::{Event, Log};
 use blog_row::{Layout, RowsEvent, RowsKind, TableMap};
@@ -27,13 +27,13 @@ use std::alloc::{Allocator, Global};
 /// those of what is there. Nothing is copied from the log.
 #[derive(Drop)]
 pub struct Index<'a, 's, A: Allocator = Global> {
-    log: Log<'a>,
-    sel: Selection<'s>,
-    entries: Vec<Entry, A>,
-    transactions: Vec<TransactionStart, A>,
-    statements: Vec<StatementStart, A>,
-    layouts: Layouts<'a, A>,
-    counts: Counts<A>,
+    pub(crate) log: Log<'a>,
+    pub(crate) sel: Selection<'s>,
+    pub(crate) entries: Vec<Entry, A>,
+    pub(crate) transactions: Vec<TransactionStart, A>,
+    pub(crate) statements: Vec<StatementStart, A>,
+    pub(crate) layouts: Layouts<'a, A>,
+    pub(crate) counts: Counts<A>,
     pub ghost accepted: { fault (log_bytes log) (selection_of sel) ≡ None },
     ghost entries_are: { entries.items ≡ entries_of (placed_groups (log_bytes log) (selection_of sel)) },
     ghost transactions_are: { transactions.items ≡ transaction_starts 0 0 (placed_groups (log_bytes log) (selection_of sel)) },
@@ -80,32 +80,6 @@ impl<'a, 's, A: Allocator> Index<'a, 's, A> {
     ghost use Rattle.blog_trans.specs.Entries.{ShowsGroups, statement_place, transaction_place};
     ghost use Rattle.blog_trans.specs.Shown.{events_in_range, largest, shown, shown_positions};
 
-    /// The groups of a log, of what was kept of it.
-    pub(crate) fn new(
-        log: Log<'a>,
-        sel: Selection<'s>,
-        lists: IndexLists<A>,
-        layouts: Layouts<'a, A>,
-        counts: Counts<A>,
-    ) -> Self
-        requires accepted { fault (log_bytes log) (selection_of sel) ≡ None }
-        requires kept { ShowsGroups lists.entries.items lists.transactions.items lists.statements.items (placed_groups (log_bytes log) (selection_of sel)) }
-        requires counted { AreCounts (tables_known layouts) (placed_changes (placed_groups (log_bytes log) (selection_of sel)))
-            (placed_tables (placed_groups (log_bytes log) (selection_of sel))) counts }
-        ensures bytes { index_bytes result ≡ log_bytes log.entry }
-        ensures selection { index_selection result ≡ selection_of sel.entry }
-    {
-        Index {
-            log,
-            sel,
-            entries: lists.entries,
-            transactions: lists.transactions,
-            statements: lists.statements,
-            layouts,
-            counts,
-        }
-    }
-
     /// The log.
     pub fn log(&self) -> Log<'a>
         ensures bytes { log_bytes result ≡ index_bytes self.now }
@@ -144,10 +118,7 @@ impl<'a, 's, A: Allocator> Index<'a, 's, A> {
         ensures pos { result.pos ≡ at }
         ensures size { result.header.size ≡ event_size (event_of result) }
     {
-        let Ok(event) = self.log.event_at(at) else {
-            unreachable!();
-        };
-        event
+        self.log.event_at(at).unwrap()
     }
 
     /// The event of an entry.

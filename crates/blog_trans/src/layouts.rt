@@ -1,14 +1,14 @@
 //! The columns of the selected tables of the range.
 
-ghost use Rattle.std.specs.Prelude.{◌≡◌, ◌&&◌, ◌+◌, ◌<◌, ◌≤◌, ◌^◌, List, Some, None, IfOk, IfSome, OnOk, option_map, slice_get};
+ghost use Rattle.std.specs.Prelude.{◌≡◌, ◌&&◌, ◌+◌, ◌<◌, ◌≤◌, ◌^◌, List, Some, None, Ok, IfOk, IfSome, OnOk, IsErrAnd, MatchResult, option_map, slice_get};
 ghost use Rattle.indexmap.specs.IndexMap.{index_map_len};
 ghost use Rattle.blog_event.specs.Event.{Event as Fields};
 ghost use Rattle.blog_event.specs.File.{Placed};
 ghost use Rattle.blog_row.specs.TableMap.{names_of, map_names};
+ghost use Rattle.blog_row.specs.declared.event_kinds.EventKind.TheVariants as kind;
+ghost use Rattle.blog_row.specs.Kinds.{kind_of};
 ghost use Rattle.blog_trans.specs.Acceptance.{cause_of_row};
 ghost use Rattle.blog_trans.specs.CheckerView.{LayoutsAgree, AreColumns};
-ghost use Rattle.blog_trans.specs.Kinds.{kind_of};
-ghost use Rattle.blog_trans.specs.declared.kind.EventKind.TheVariants as kind;
 ghost use Rattle.blog_trans.specs.Selection.{selection_of, is_wanted};
 ghost use Rattle.blog_trans.specs.TablesView.{table_named, tables_known, HaveGrown};
 
@@ -38,14 +38,15 @@ pub(crate) struct SelectedTable<'a> {
     pub(crate) layout: Layout<'a>,
 }
 
-/// The fault of a body at an event.
-pub(crate) fn body_fault(fault: RowFault, pos: u32) -> Fault
-    ensures { result ≡ cause_of_row fault pos }
+/// What was read of an event's body, or the event's fault.
+pub(crate) fn in_body<T>(read: Result<T, RowFault>, pos: u32) -> Result<T, Fault>
+    ensures { MatchResult result (λ x. read ≡ Ok x) (λ f. IsErrAnd read (λ cause. f ≡ cause_of_row cause pos)) }
 {
-    match fault {
-        RowFault::PartialImage => Fault::PartialImage { pos },
-        RowFault::UnknownType => Fault::UnknownType { pos },
-        RowFault::BadBody => Fault::BadBody { pos },
+    match read {
+        Ok(read) => Ok(read),
+        Err(RowFault::PartialImage) => Err(Fault::PartialImage { pos }),
+        Err(RowFault::UnknownType) => Err(Fault::UnknownType { pos }),
+        Err(RowFault::BadBody) => Err(Fault::BadBody { pos }),
     }
 }
 
@@ -56,41 +57,30 @@ fn is_wanted(wanted: Option<&[u8]>, name: &[u8]) -> bool
     wanted.is_none_or(|wanted| name == wanted)
 }
 
-/// Whether a table is selected.
-fn is_selected(sel: &Selection<'_>, name: &TableName<'_>) -> bool
-    ensures { result ≡ (is_wanted (selection_of sel.now).database name.now.schema.now && is_wanted (selection_of sel.now).table name.now.table.now) }
-{
-    is_wanted(sel.database, name.schema) && is_wanted(sel.table, name.table)
-}
-
 /// Takes a table map's table, where it is selected: its columns are those of the table's earlier maps in the range.
 pub(crate) fn take_table<'a, A: Allocator>(
     layouts: &mut Layouts<'a, A>,
     sel: &Selection<'_>,
-    name: TableName<'a>,
     map: &TableMap<'a>,
     pos: u32,
 ) -> Result<Option<SelectedTable<'a>>, Fault>
-    requires name { table_named name ≡ (map_names map.now).table }
     requires few { index_map_len layouts.old < 2 ^ 32 }
     ensures columns { (e : Fields) (earlier : List Placed) → kind_of e ≡ kind.TableMap → names_of e.body ≡ Some (map_names map.now) → LayoutsAgree (selection_of sel.now) earlier layouts.old → AreColumns (selection_of sel.now) earlier (record { pos = pos; event = e }) result layouts.new }
-    ensures number { IfOk result (λ table. IfSome table (λ t. slice_get (tables_known layouts.new) t.number ≡ Some (table_named name.entry))) }
+    ensures number { IfOk result (λ table. IfSome table (λ t. slice_get (tables_known layouts.new) t.number ≡ Some (map_names map.now).table)) }
     ensures grown { OnOk result (HaveGrown (tables_known layouts.old) (tables_known layouts.new)) }
     ensures few { OnOk result (index_map_len layouts.new ≤ index_map_len layouts.old + 1) }
 {
-    if !is_selected(sel, &name) {
+    let (schema, table) = (map.schema(), map.table());
+    if !(is_wanted(sel.database, schema) && is_wanted(sel.table, table)) {
         return Ok(None);
     }
-    let layout = match map.layout() {
-        Ok(layout) => layout,
-        Err(fault) => return Err(body_fault(fault, pos)),
-    };
-    let (number, known) = layouts.insert_full(name, layout)?;
+    let layout = in_body(map.layout(), pos)?;
+    let (number, known) = layouts.insert_full(TableName { schema, table }, layout)?;
     match known {
         Some(known) if !known.same(&layout) => Err(Fault::MapClash { pos }),
-        _ => Ok(Some(SelectedTable {
-            number: number as u32,
-            layout,
-        })),
+        _ => {
+            let number = number as u32;
+            Ok(Some(SelectedTable { number, layout }))
+        }
     }
 }

@@ -6,7 +6,6 @@ mod checker;
 mod counts;
 mod group_events;
 mod groups;
-mod kind;
 mod laws;
 mod layouts;
 mod lists;
@@ -15,10 +14,10 @@ mod selection;
 mod table_ids;
 mod table_name;
 
+pub use blog_row::{EventKind, event_kind, query_text};
 pub use builder::{index, index_from};
 pub use group_events::{GroupEvent, GroupEvents, GroupRows};
 pub use groups::{Index, TableCount};
-pub use kind::{EventKind, event_kind, query_text};
 pub use laws::{
     accepted_logs_have_groups, groups_are_of_events, opening_asks_the_first_lines,
     progress_gives_groups, statements_are_those_since, statements_have_used_maps,

@@ -67,7 +67,7 @@ impl Entry {
 }
 
 impl<A: Allocator + Copy> IndexLists<A> {
-    ghost use Rattle.blog_trans.specs.ListsView.{HasKept, all_ended};
+    ghost use Rattle.blog_trans.specs.ListsView.{HasKept, all_ended, between_statements, closed_by, open_behind};
 
     /// Nothing is kept yet.
     pub(crate) fn new(alloc: A) -> Self
@@ -82,10 +82,6 @@ impl<A: Allocator + Copy> IndexLists<A> {
             first_statement: 0,
         }
     }
-}
-
-impl<A: Allocator> IndexLists<A> {
-    ghost use Rattle.blog_trans.specs.ListsView.{HasKept, all_ended, between_statements, closed_by, open_behind};
 
     /// A transaction begins.
     pub(crate) fn begin(&mut self, at: u32) -> Result<(), Fault>
@@ -163,23 +159,6 @@ impl<A: Allocator> IndexLists<A> {
     }
 }
 
-/// Adds an entry for each map that is used.
-fn push_maps<'a, A: Allocator>(entries: &mut Vec<Entry, A>, maps: &Maps<'a, A>) -> Result<(), Fault>
-    ensures items { OnOk result (entries.new.items ≡ entries.old.items ++ map_entries (used_maps (values maps.now))) }
-    ensures refused { IfErr result (λ fault. fault ≡ OutOfMemory) }
-    ensures least { vec_len entries.old ≤ vec_len entries.new }
-    ensures few { vec_len entries.new ≤ vec_len entries.old + index_map_len maps.now }
-    ensures room { vec_len entries.old + index_map_len maps.now ≤ vec_capacity entries.old → IsOk result }
-    ensures capacity { vec_capacity entries.old ≤ vec_capacity entries.new }
-{
-    for map in maps.values() {
-        if map.used {
-            entries.push(Entry { at: map.at, map: 0 })?;
-        }
-    }
-    Ok(())
-}
-
 /// Puts entries of the maps that are used in front of those from `start` on, and answers their number.
 fn put_maps<'a, A: Allocator>(
     entries: &mut Vec<Entry, A>,
@@ -197,7 +176,11 @@ fn put_maps<'a, A: Allocator>(
     ensures capacity { vec_capacity entries.old ≤ vec_capacity entries.new }
 {
     let before = entries.len();
-    push_maps(entries, maps)?;
+    for map in maps.values() {
+        if map.used {
+            entries.push(Entry { at: map.at, map: 0 })?;
+        }
+    }
     let added = entries.len() - before;
     entries[start..].rotate_right(added);
     Ok(added as u32)

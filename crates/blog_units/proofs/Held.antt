@@ -3,10 +3,10 @@ use Rattle.std.proofs.Common.{◌≡◌, Bool, true, false, not, ◌&&◌, ◌||
 use Rattle.std.specs.Prelude.{◌⊎◌, if◌then◌else◌, option_map}
 use Rattle.std.specs.List.{AllByRecursion}
 use Rattle.blog_event.specs.File.{Placed}
-use Rattle.blog_trans.specs.declared.kind.EventKind.{EventKind}
-use Rattle.blog_trans.specs.declared.kind.EventKind.TheVariants as kind
+use Rattle.blog_row.specs.declared.event_kinds.EventKind.{EventKind}
+use Rattle.blog_row.specs.declared.event_kinds.EventKind.TheVariants as kind
+use Rattle.blog_row.specs.Kinds.{is_begin_kind}
 use Rattle.blog_trans.specs.Groups.{cons_if}
-use Rattle.blog_trans.specs.Kinds.{is_begin_kind}
 use Rattle.blog_trans.specs.Places.{kind_at, is_begin, is_end}
 use Rattle.blog_trans.proofs.ProgressSteps.{begin-kind}
 use Rattle.blog_units.specs.declared.part.Part.{Part}

@@ -1,7 +1,7 @@
 //! Which events belong to a unit.
 
 ghost use Rattle.std.specs.Prelude.{◌≡◌, ◌||◌};
-ghost use Rattle.blog_trans.specs.Kinds.{kind_of, is_end_kind};
+ghost use Rattle.blog_row.specs.Kinds.{kind_of, is_end_kind};
 ghost use Rattle.blog_trans.specs.Places.{placed, kind_at};
 ghost use Rattle.blog_units.specs.Units.{after_gtid, continued, goes_on, is_of_rows, is_query_or_rows, is_rollback, opened_by};
 

@@ -12,7 +12,8 @@ mod wrong_words;
 
 use crate::commands::command;
 use blog_flash::Watched;
-use logs::{INSERT_ONE_ROW, with_byte};
+use logs::with_byte;
+use spelled_logs::small::INSERT_ONE_ROW;
 use std::alloc::AllocError;
 use std::path::PathBuf;
 use std::process::{Abort, ExitCode};

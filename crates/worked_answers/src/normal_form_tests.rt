@@ -2,6 +2,7 @@
 
 use blog_event::Fault;
 use blog_trans::Selection;
+use spelled_logs::samples::{ALTER_BETWEEN, INSERT, MULTI_TABLE, SAVEPOINT_KEPT, UPDATE};
 use std::alloc::AllocError;
 use std::process::Abort;
 use std::test::Fail;
@@ -12,7 +13,6 @@ use worked_logs::logs::{
     one_insert, query_inside, two_inserts, two_statements, two_tables, two_transactions,
     two_updates,
 };
-use worked_logs::samples::{ALTER_BETWEEN, INSERT, MULTI_TABLE, SAVEPOINT_KEPT, UPDATE};
 use worked_logs::selections::{BEFORE, BEHIND};
 use worked_logs::undone::{newer_server_copied, two_transactions_copied};
 

@@ -3,10 +3,10 @@
 use crate::group_tests::{Counted, check_tables};
 use blog_row::RowsAction::{Update, Write};
 use blog_trans::Selection;
+use spelled_logs::samples::{ALTER_BETWEEN, INSERT, MULTI_TABLE, SAVEPOINT_KEPT, UPDATE};
 use std::process::Abort;
 use worked_logs::index_view::Shown::{Begin, End, Map, Rows, Statement};
 use worked_logs::index_view::{Shown, groups_of};
-use worked_logs::samples::{ALTER_BETWEEN, INSERT, MULTI_TABLE, SAVEPOINT_KEPT, UPDATE};
 use worked_logs::selections::{BEFORE, BEHIND};
 
 /// The groups of a transaction of one statement, with one map and one rows event.

@@ -8,6 +8,5 @@ pub mod index_view;
 pub mod logs;
 pub mod printed_logs;
 pub mod replay;
-pub mod samples;
 pub mod selections;
 pub mod undone;

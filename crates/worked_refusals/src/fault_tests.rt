@@ -3,13 +3,13 @@
 use crate::refusing_calls::{Built, Edited, check_built, check_edited, check_fault};
 use blog_event::Fault;
 use blog_trans::Selection;
+use spelled_logs::samples::ALTER_BETWEEN;
 use std::process::Abort;
 use std::test::Fail;
 use worked_logs::builder::{
     ANONYMOUS_GTID, BEGIN, COMMIT, FRONT, GTID, Part, ROTATE, T, XID, build, delete, insert,
 };
 use worked_logs::logs::{map_twice, one_insert, query_inside, two_transactions, with_last};
-use worked_logs::samples::ALTER_BETWEEN;
 use worked_logs::selections::{from, up_to};
 
 #[test]

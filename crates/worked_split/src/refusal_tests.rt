@@ -1,7 +1,8 @@
 //! Memory that runs out: each request of a call is refused in turn, and the call answers that memory was refused.
 
+use blog_device::Watched;
 use blog_event::Fault;
-use blog_split::{SplitFault, split};
+use blog_split::{SplitFault, SplitRunFault, split, split_by_chunks};
 use linked_list_allocator::LocalHeap;
 use refusing::Refusing;
 use std::test::Fail;
@@ -36,6 +37,28 @@ fn a_refused_request_is_answered(rt: HostRuntime) -> Result<(), Fail> {
                 assert_eq!(rt; fault, SplitFault::Log(Fault::OutOfMemory));
             }
         }
+    }
+    Err("more requests than are tried".into())
+}
+
+#[test]
+fn a_refused_request_writes_nothing(rt: HostRuntime) -> Result<(), Fail> {
+    let log = two_tables(&rt)?;
+    let heap = LocalHeap::new(rt.alloc(), ROOM)?;
+    for number in 0..MOST_REQUESTS {
+        let alloc = Refusing::new(&heap, number + 1);
+        let mut writer = Watched::new(Vec::new(rt.alloc()));
+        let answer = split_by_chunks(&alloc, &mut writer, &log, 1, 1);
+        if answer.is_ok() {
+            assert!(rt; !alloc.has_refused());
+            assert!(rt; writer.device().len() > log.len());
+            assert!(rt; number >= 5);
+            return Ok(());
+        }
+        let refused = SplitFault::Log(Fault::OutOfMemory);
+        assert_eq!(rt; answer, Err(SplitRunFault::Split(refused)));
+        assert!(rt; alloc.has_refused());
+        assert!(rt; writer.device().is_empty());
     }
     Err("more requests than are tried".into())
 }

@@ -3,6 +3,7 @@
 use blog_event::Fault;
 use blog_flash::{Selection, flashback, forward, sql, summary};
 use blog_split::{SplitFault, split};
+use spelled_logs::samples::{ALTER_BETWEEN, INSERT, MULTI_TABLE, SAVEPOINT_KEPT, UPDATE};
 use std::alloc::AllocError;
 use std::process::Abort;
 use std::test::Fail;
@@ -10,7 +11,6 @@ use worked_logs::logs::{
     extra_bytes, longer_format, map_alone, map_twice, newer_server, nine_columns, no_changes,
     one_delete, one_insert, two_inserts, two_statements, two_tables, two_transactions, two_updates,
 };
-use worked_logs::samples::{ALTER_BETWEEN, INSERT, MULTI_TABLE, SAVEPOINT_KEPT, UPDATE};
 
 type Built = Result<Vec<u8>, AllocError>;
 
@@ -29,20 +29,23 @@ fn printed<R: AllocGlobal + Abort>(rt: &R, log: &[u8], undo: bool) -> Vec<u8> {
     sql(rt.alloc(), log, &Selection::all(), undo).expect(rt, "an accepted log")
 }
 
-/// The lines of a summary behind the number of statements.
-fn behind_statements(summary: &[u8]) -> &[u8] {
+/// The first line of a summary, of transactions, and what is behind the second, of statements.
+fn counted(summary: &[u8]) -> (&[u8], &[u8]) {
     let mut lines = summary.splitn(3, |byte| *byte == b'\n');
+    let transactions = lines.next().unwrap_or(&[]);
     lines.next();
-    lines.next();
-    lines.next().unwrap_or(&[])
+    (transactions, lines.next().unwrap_or(&[]))
 }
 
-/// Two logs have as many rows of each table.
+/// Two logs have as many transactions, and as many rows of each table.
 fn check_counts<R: AllocGlobal + Abort>(rt: &R, cut: &[u8], log: &[u8]) {
     let all = Selection::all();
-    let counts = summary(rt.alloc(), log, &all).expect(rt, "an accepted log");
     let cut_counts = summary(rt.alloc(), cut, &all).expect(rt, "an accepted log");
-    assert_eq!(rt; behind_statements(&cut_counts), behind_statements(&counts));
+    let counts = summary(rt.alloc(), log, &all).expect(rt, "an accepted log");
+    let (cut_transactions, cut_rows) = counted(&cut_counts);
+    let (transactions, rows) = counted(&counts);
+    assert_eq!(rt; cut_transactions, transactions);
+    assert_eq!(rt; cut_rows, rows);
 }
 
 /// Cut at this size the log has the same changes in as many transactions, and what undoes it undoes them.

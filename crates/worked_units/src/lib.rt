@@ -8,6 +8,4 @@ mod parts;
 #[cfg(test)]
 mod range_tests;
 #[cfg(test)]
-mod samples;
-#[cfg(test)]
 mod unit_tests;

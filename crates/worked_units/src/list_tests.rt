@@ -1,16 +1,16 @@
 //! Lists of the units of logs, as text and as JSON.
 
 use crate::parts::{MAP, ONE, PAYLOAD, ROLLBACK};
-use crate::samples::SHOP;
 use blog_device::Watched;
 use blog_event::Fault;
 use blog_list::{Form, Wanted, list, seconds_of};
+use spelled_logs::samples::{ALTER_BETWEEN, INSERT, MULTI_TABLE, SAVEPOINT_KEPT, UPDATE};
+use spelled_logs::summed::IN_USE_PLAIN;
 use std::process::Abort;
 use std::test::Fail;
 use worked_logs::builder::{
     BEGIN, DROP_TABLE, GTID, PREVIOUS_GTIDS, Part, ROTATE, XID, build, map_of,
 };
-use worked_logs::samples::{ALTER_BETWEEN, INSERT, MULTI_TABLE, SAVEPOINT_KEPT, UPDATE};
 
 const HEADER: &str = "     start       stop  time (UTC)           rows\n";
 
@@ -118,7 +118,7 @@ units 3, not undoable 1, rows 2
     check_all(&rt, &ALTER_BETWEEN, lines)
 }
 
-/// The lines of `SHOP`.
+/// The lines of `IN_USE_PLAIN`.
 #[rattlefmt::skip]
 const SHOP_LINES: [&str; 7] = [
     "       194        466  2026-11-21 03:00:00  283c105d-e730-11f1-97ff-02fc00000001:8  `shop`.`orders` inserts 1\n",
@@ -130,7 +130,7 @@ const SHOP_LINES: [&str; 7] = [
     "      1760       1925  2026-11-21 03:06:00  283c105d-e730-11f1-97ff-02fc00000001:14  Statement at 1833: truncate table t2\n",
 ];
 
-/// Checks the list of `SHOP`: the lines of these numbers, and the last one.
+/// Checks the list of `IN_USE_PLAIN`: the lines of these numbers, and the last one.
 fn check_shop(
     rt: &(impl AllocGlobal + Abort),
     wanted: &Wanted<'_>,
@@ -142,7 +142,7 @@ fn check_shop(
         text.push_str(SHOP_LINES.get(*n).expect(rt, "a line"))?;
     }
     text.push_str(last)?;
-    check(rt, &SHOP, wanted, text.as_str(), None)
+    check(rt, &IN_USE_PLAIN, wanted, text.as_str(), None)
 }
 
 /// The numbers of all lines.
@@ -192,7 +192,7 @@ fn json_has_an_object_a_line(rt: HostRuntime) -> Result<(), Fail> {
 {\"start\":1474,\"stop\":1760,\"time\":\"2026-11-21 03:05:00\",\"gtid\":\"283c105d-e730-11f1-97ff-02fc00000001:13\",\"tables\":[{\"schema\":\"shop\",\"table\":\"items\",\"inserts\":0,\"updates\":0,\"deletes\":2}]}
 {\"units\":2,\"not_undoable\":1,\"rows\":2}
 ";
-    check_json(&rt, &SHOP, &wanted, lines)?;
+    check_json(&rt, &IN_USE_PLAIN, &wanted, lines)?;
     let bytes = build(&rt, &[BEGIN, map_of(1, b"\xff\""), ONE, XID])?;
     let lines =
         "{\"start\":120,\"stop\":260,\"time\":\"1970-01-01 00:00:00\",\"gtid\":null,\"tables\":[{\"schema\":\"d\",\"table\":\"\u{FFFD}\\\"\",\"table_hex\":\"FF22\",\"inserts\":1,\"updates\":0,\"deletes\":0}]}
@@ -248,11 +248,30 @@ units 2, not undoable 1, rows 1
     check(&rt, cut, &all, lines, end)?;
     let ended = bytes.get(..371).expect(&rt, "a log");
     let end = Some(Fault::Unended { pos: 371 });
-    check(&rt, ended, &all, lines, end)?;
-    let cut = bytes.get(..300).expect(&rt, "a log");
+    check(&rt, ended, &all, lines, end)
+}
+
+/// Checks the list of a log of one whole unit, where what is wanted stops at a position.
+fn check_up_to(
+    rt: &(impl AllocGlobal + Abort),
+    bytes: &[u8],
+    stop: u32,
+    end: Option<Fault>,
+) -> Result<(), Fail> {
     let lines = "       120        259  1970-01-01 00:00:00  `d`.`t` inserts 1
 units 1, not undoable 0, rows 1
 ";
-    let stop = Some(259);
-    check(&rt, cut, &Wanted { stop, ..all }, lines, None)
+    let stop = Some(stop);
+    let all = Wanted::all();
+    check(rt, bytes, &Wanted { stop, ..all }, lines, end)
+}
+
+#[test]
+fn a_log_that_ends_early_behind_the_stop_is_not_told(rt: HostRuntime) -> Result<(), Fail> {
+    let bytes = build(&rt, &[BEGIN, MAP, ONE, XID, BEGIN, MAP, ONE, XID])?;
+    let cut = bytes.get(..300).expect(&rt, "a log");
+    check_up_to(&rt, cut, 259, None)?;
+    let cut = bytes.get(..280).expect(&rt, "a log");
+    check_up_to(&rt, cut, 259, None)?;
+    check_up_to(&rt, cut, 260, Some(Fault::CutEvent { pos: 259 }))
 }

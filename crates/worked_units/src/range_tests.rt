@@ -1,14 +1,14 @@
 //! The range of each unit: it is undone where the unit can be, and refused by the unit's fault where it can't.
 
 use crate::parts::{MAP, ONE, PAYLOAD, ROLLBACK};
-use crate::samples::SHOP;
 use blog_event::Log;
 use blog_flash::{Mode, Selection, answer};
 use blog_units::Units;
+use spelled_logs::samples::{ALTER_BETWEEN, INSERT, MULTI_TABLE, SAVEPOINT_KEPT, UPDATE};
+use spelled_logs::summed::IN_USE_PLAIN;
 use std::process::Abort;
 use std::test::Fail;
 use worked_logs::builder::{BEGIN, DROP_TABLE, GTID, Part, XID, build};
-use worked_logs::samples::{ALTER_BETWEEN, INSERT, MULTI_TABLE, SAVEPOINT_KEPT, UPDATE};
 
 /// Undoes the range of each unit of a log. Answers how many can be undone and how many can't.
 fn undo_each(rt: &(impl AllocGlobal + Abort), bytes: &[u8]) -> Result<(usize, usize), Fail> {
@@ -50,7 +50,7 @@ fn units_of_a_server_are_undone_or_refused(rt: HostRuntime) -> Result<(), Fail> 
     check_each(&rt, &MULTI_TABLE, 1, 0)?;
     check_each(&rt, &SAVEPOINT_KEPT, 1, 0)?;
     check_each(&rt, &ALTER_BETWEEN, 2, 1)?;
-    check_each(&rt, &SHOP, 4, 3)
+    check_each(&rt, &IN_USE_PLAIN, 4, 3)
 }
 
 #[rattlefmt::skip]

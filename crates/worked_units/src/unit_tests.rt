@@ -4,13 +4,13 @@ use crate::parts::{INSERTED_NONE, MAP, ONE, PAYLOAD, ROLLBACK, TWO};
 use blog_event::{Fault, Log};
 use blog_trans::{Index, Selection, index};
 use blog_units::{GlobalId, Unit, Units};
+use spelled_logs::samples::{ALTER_BETWEEN, INSERT, MULTI_TABLE, SAVEPOINT_KEPT, UPDATE};
 use std::process::Abort;
 use std::test::Fail;
 use worked_logs::builder::{
     ANONYMOUS_GTID, BEGIN, COMMIT, DROP_TABLE, GTID, PREVIOUS_GTIDS, Part, ROTATE, ROWS_QUERY, XID,
     build,
 };
-use worked_logs::samples::{ALTER_BETWEEN, INSERT, MULTI_TABLE, SAVEPOINT_KEPT, UPDATE};
 
 /// What is told of a range.
 #[derive(Clone, Copy)]
@@ -181,8 +181,7 @@ const TWO_TRANSACTIONS: &[Part<'static>] = &[
     ROTATE,
 ];
 
-const OF_TWO_TRANSACTIONS: &[Told<'static>] =
-    &[(1, 6, Answer::Rows(1)), (7, 12, Answer::Rows(2))];
+const OF_TWO_TRANSACTIONS: &[Told<'static>] = &[(1, 6, Answer::Rows(1)), (7, 12, Answer::Rows(2))];
 
 #[test]
 fn transactions_are_units(rt: HostRuntime) -> Result<(), Fail> {
@@ -194,8 +193,10 @@ fn transactions_are_units(rt: HostRuntime) -> Result<(), Fail> {
 
 const WITHOUT_CHANGES: &[Part<'static>] = &[BEGIN, MAP, COMMIT, BEGIN, INSERTED_NONE, XID];
 
-const OF_WITHOUT_CHANGES: &[Told<'static>] =
-    &[(0, 3, Answer::Rows(0)), (3, 6, Answer::Refused("NoMap", 4))];
+const OF_WITHOUT_CHANGES: &[Told<'static>] = &[
+    (0, 3, Answer::Rows(0)),
+    (3, 6, Answer::Refused("NoMap", 4)),
+];
 
 #[test]
 fn logs_without_changes_have_empty_units_or_none(rt: HostRuntime) -> Result<(), Fail> {
@@ -335,8 +336,8 @@ const SHORT: Part<'static> = Part::Other {
     kind: 33,
     flags: 0,
     body: &[
-        1, 0x28, 0x3C, 0x10, 0x5D, 0xE7, 0x30, 0x11, 0xF1, 0x97, 0xFF, 0x02, 0xFC, 0, 0, 0, 1, 9, 1,
-        0, 0, 0, 0, 0,
+        1, 0x28, 0x3C, 0x10, 0x5D, 0xE7, 0x30, 0x11, 0xF1, 0x97, 0xFF, 0x02, 0xFC, 0, 0, 0, 1, 9,
+        1, 0, 0, 0, 0, 0,
     ],
 };
 

@@ -2,12 +2,13 @@
 
 use super::both_outputs::{COUNTED, DONE, UNDONE};
 use super::file_names::{check_bytes, has_bytes};
-use super::logs::{INSERT_ONE_ROW, with_byte};
+use super::logs::with_byte;
 use super::{Outcome, ROWS_TYPE, check, path_of, push_words, words_of};
 use crate::commands::command;
 use blog_flash::Watched;
 use linked_list_allocator::LocalHeap;
 use refusing::Refusing;
+use spelled_logs::small::INSERT_ONE_ROW;
 use std::alloc::Allocator;
 use std::fs;
 use std::process::ExitCode;

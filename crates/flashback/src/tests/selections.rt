@@ -2,7 +2,8 @@
 
 use super::ROWS_TYPE;
 use super::both_outputs::{check_both_outputs, check_refused};
-use super::logs::{DROP_TABLE, INSERT_ONE_ROW, with_byte};
+use super::logs::with_byte;
+use spelled_logs::small::{DROP_TABLE, INSERT_ONE_ROW};
 use std::test::Fail;
 
 /// Where the events of the log begin.

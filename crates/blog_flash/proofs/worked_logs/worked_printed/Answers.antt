@@ -7,7 +7,7 @@ use Rattle.blog_row.specs.Image.{values_front, image_front, images_up_to, row_of
 use Rattle.blog_row.specs.TableMap.{name_front, names_of, layout_fields, layout_of}
 use Rattle.blog_row.specs.RowsEvent.{rows_of}
 use Rattle.blog_row.specs.RowsWriting.{written_body}
-use Rattle.blog_trans.specs.Kinds.{query_text, query_kind, kind_of}
+use Rattle.blog_row.specs.Kinds.{query_text, query_kind, kind_of}
 use Rattle.blog_trans.specs.Groups.{placed_groups, groups}
 use Rattle.blog_flash.specs.Texts.{laid_out, flashback_text}
 use Rattle.blog_flash.specs.Printed.{sql_text, summary_text}

@@ -5,7 +5,7 @@ use Rattle.blog_row.proofs.TypeTables.{width_at}
 use Rattle.blog_row.proofs.type_tables.plain_width.Goals as goal
 
 pub returns-else-width-eq0 : goal.returns-else-width-eq0
-returns-else-width-eq0 c metadata =
+returns-else-width-eq0 c metadata known =
     let entry : c.from-else-width-eq0.result ≡ get_or PLAIN_WIDTHS c.args.kind 0 = c.from-else-width-eq0.ensures ∙ ap (λ k. get_or PLAIN_WIDTHS k 0) c.from.ensures in
     let some : get_or PLAIN_WIDTHS c.args.kind 0 ≢ 0 = λ e. c.if-width-eq0.false (ap (λ k. get_or PLAIN_WIDTHS k 0) c.from.ensures ∙ e) in
-    width_at c.args.kind (omega (arith, c.ranges.kind.fits)) some metadata ∙ ap (λ n. Some (Fixed n)) (sym entry)
+    width_at c.args.kind (omega (arith, c.ranges.kind.fits)) some metadata known ∙ ap (λ n. Some (Fixed n)) (sym entry)

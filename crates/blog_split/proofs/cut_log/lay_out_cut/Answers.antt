@@ -1,15 +1,13 @@
-use Rattle.std.proofs.Common.{◌≡◌, ℕ, ◌++◌, List, length, vec_len, sym, ap, ap₂, subst, ◌∙◌, arith}
+use Rattle.std.proofs.Common.{ℕ, length, sym, ap, subst, ◌∙◌, arith}
 use Rattle.std.proofs.lemmas.Result.{err_from_is_err_and}
-use Rattle.blog_event.specs.Event.{Event}
 use Rattle.blog_trans.specs.Groups.{groups}
 use Rattle.blog_trans.specs.IndexView.{index_bytes, index_selection}
-use Rattle.blog_flash.specs.LaidOut.{text_from}
 use Rattle.blog_flash.specs.Texts.{group_events}
 use Rattle.blog_flash.proofs.Sizes.{end-total, text-end}
-use Rattle.blog_split.specs.CutView.{events_left}
 use Rattle.blog_split.specs.Greedy.{cut_groups}
 use Rattle.blog_split.specs.Putting.{Refuses}
 use Rattle.blog_split.specs.Sizes.{HasSizes}
+use Rattle.blog_split.proofs.Splitting.{whole-text}
 use Rattle.blog_split.proofs.cut_log.lay_out_cut.Goals as goal
 
 pub returns-in_err-sizes : goal.returns-in_err-sizes
@@ -30,16 +28,6 @@ unwrap-requires g c =
 pub returns : goal.returns
 returns g c =
     let ts = cut_groups c.args.limit (groups (index_bytes c.args.index.now) (index_selection c.args.index.now)) in
-    let es = group_events ts in
-    let front = c.front-front.result.now in
-    let sizes : HasSizes (length front) es c.in_ok-sizes.sizes = c.in_ok-sizes.ensures in
-    let len = rw c.unwrap.ensures at c.extend_from_slice.ensures.len in
-    let here : vec_len c.extend_from_slice.new.self ≡ length front = omega (arith, len, c.in-Ok.ensures.len) in
-    let none = c.in-Ok.ensures.items in
-    let put = rw c.unwrap.ensures at c.extend_from_slice.ensures.items in
-    let items : c.extend_from_slice.new.self.items ≡ front = rw none at put in
-    let text = c.put_events.ensures ∙ ap₂ (λ (held : List ℕ) (n : ℕ). held ++ text_from n (events_left c.in_ok-events.events)) items here
-    ∙ ap (λ (fs : List Event). front ++ text_from (length front) fs) c.in_ok-events.ensures.left in (
-      text ∙ c.front-front.ensures.any ts,
-      omega (arith, ap length text, text-end front es, sizes.len, sizes.short),
-    )
+    let (text, short) = whole-text c.front-front.result.now _ (group_events ts) (c.front-front.ensures.any ts) c.in_ok-sizes.ensures c.in-Ok.ensures.items c.in-Ok.ensures.len c.unwrap.ensures c.extend_from_slice.ensures.items c.extend_from_slice.ensures.len c.in_ok-events.ensures.left in
+    let laid = c.put_events.ensures ∙ text in
+    (laid, omega (arith, ap length laid, short))

@@ -1,4 +1,4 @@
-use Rattle.std.proofs.Common.{◌≡◌, ℕ, ◌≤◌, ◌++◌, List, length, vec_len, sym, ap, ap₂, subst, ◌∙◌, arith}
+use Rattle.std.proofs.Common.{ℕ, ◌≤◌, length, sym, ap, subst, ◌∙◌, arith}
 use Rattle.std.specs.Prelude.{vec_capacity}
 use Rattle.std.specs.List.{AllByRecursion}
 use Rattle.std.specs.Io.KnownBytes.{Appends}
@@ -8,13 +8,12 @@ use Rattle.blog_event.specs.Event.{Event, event_size}
 use Rattle.blog_trans.specs.Groups.{groups}
 use Rattle.blog_trans.specs.IndexView.{index_bytes, index_selection}
 use Rattle.blog_trans.proofs.PlacedParts.{all-by}
-use Rattle.blog_flash.specs.LaidOut.{text_from}
 use Rattle.blog_flash.specs.Texts.{group_events}
 use Rattle.blog_flash.proofs.Sizes.{text-end}
-use Rattle.blog_split.specs.CutView.{events_left}
 use Rattle.blog_split.specs.Greedy.{cut_groups}
 use Rattle.blog_split.specs.Putting.{Refuses}
 use Rattle.blog_split.specs.Sizes.{HasSizes}
+use Rattle.blog_split.proofs.Splitting.{whole-text}
 use Rattle.blog_split.proofs.written_cut.write_cut.Goals as goal
 
 pub returns-in-Err-clause-written : goal.returns-in-Err-clause-written
@@ -35,33 +34,11 @@ write_events-requires-clause-room g c =
 pub returns-in-Ok-write_events-clause-written : goal.returns-in-Ok-write_events-clause-written
 returns-in-Ok-write_events-clause-written g c =
     let ts = cut_groups c.args.limit (groups (index_bytes c.args.index.now) (index_selection c.args.index.now)) in
-    let front = c.front-front.result.now in
-    let sizes : HasSizes (length front) (group_events ts) c.in-Ok.sizes = c.in-Ok.ensures in
-    let end = sym (text-end front (group_events ts)) ∙ ap length (c.front-front.ensures.any ts) in
-    let len = rw c.unwrap.ensures at c.extend_from_slice.ensures.len in
-    let here : vec_len c.extend_from_slice.new.self ≡ length front = omega (arith, len, c.in-Ok-with_capacity.ensures.len) in
-    let none = c.in-Ok-with_capacity.ensures.items in
-    let put = rw c.unwrap.ensures at c.extend_from_slice.ensures.items in
-    let items : c.extend_from_slice.new.self.items ≡ front = rw none at put in
-    let text = ap₂ (λ (held : List ℕ) (n : ℕ). held ++ text_from n (events_left c.in-Ok-new.events)) items here
-    ∙ ap (λ (fs : List Event). front ++ text_from (length front) fs) c.in-Ok-new.ensures.left ∙ c.front-front.ensures.any ts in (
-      subst (Appends (g.W.Write.contents (device_of c.args.writer.now)) (g.W.Write.contents (device_of c.write_events.new.writer))) text c.in-Ok-write_events.ensures.written,
-      omega (arith, end, sizes.len, sizes.short),
-    )
+    let (text, short) = whole-text c.front-front.result.now _ (group_events ts) (c.front-front.ensures.any ts) c.in-Ok.ensures c.in-Ok-with_capacity.ensures.items c.in-Ok-with_capacity.ensures.len c.unwrap.ensures c.extend_from_slice.ensures.items c.extend_from_slice.ensures.len c.in-Ok-new.ensures.left in
+    (subst (Appends (g.W.Write.contents (device_of c.args.writer.now)) (g.W.Write.contents (device_of c.write_events.new.writer))) text c.in-Ok-write_events.ensures.written, short)
 
 pub returns-clause-written : goal.returns-clause-written
 returns-clause-written g c =
     let ts = cut_groups c.args.limit (groups (index_bytes c.args.index.now) (index_selection c.args.index.now)) in
-    let front = c.front-front.result.now in
-    let sizes : HasSizes (length front) (group_events ts) c.in-Ok.sizes = c.in-Ok.ensures in
-    let end = sym (text-end front (group_events ts)) ∙ ap length (c.front-front.ensures.any ts) in
-    let len = rw c.unwrap.ensures at c.extend_from_slice.ensures.len in
-    let here : vec_len c.extend_from_slice.new.self ≡ length front = omega (arith, len, c.in-Ok-with_capacity.ensures.len) in
-    let none = c.in-Ok-with_capacity.ensures.items in
-    let put = rw c.unwrap.ensures at c.extend_from_slice.ensures.items in
-    let items : c.extend_from_slice.new.self.items ≡ front = rw none at put in
-    let text = ap₂ (λ (held : List ℕ) (n : ℕ). held ++ text_from n (events_left c.in-Ok-new.events)) items here
-    ∙ ap (λ (fs : List Event). front ++ text_from (length front) fs) c.in-Ok-new.ensures.left ∙ c.front-front.ensures.any ts in (
-      subst (AppendsBeginning (g.W.Write.contents (device_of c.args.writer.now)) (g.W.Write.contents (device_of c.write_events.new.writer))) text c.in-Err-write_events.ensures.beginning,
-      omega (arith, end, sizes.len, sizes.short),
-    )
+    let (text, short) = whole-text c.front-front.result.now _ (group_events ts) (c.front-front.ensures.any ts) c.in-Ok.ensures c.in-Ok-with_capacity.ensures.items c.in-Ok-with_capacity.ensures.len c.unwrap.ensures c.extend_from_slice.ensures.items c.extend_from_slice.ensures.len c.in-Ok-new.ensures.left in
+    (subst (AppendsBeginning (g.W.Write.contents (device_of c.args.writer.now)) (g.W.Write.contents (device_of c.write_events.new.writer))) text c.in-Err-write_events.ensures.beginning, short)

@@ -1,7 +1,7 @@
 use Rattle.std.proofs.Common.{◌≡◌, ◌∙◌, true, None, ap, sym, subst, refl, rules, inl, inr}
 use Rattle.std.proofs.lemmas.Result.{err_from_is_err_and}
 use Rattle.blog_event.specs.Fault.{fault_at}
-use Rattle.blog_trans.specs.declared.kind.EventKind.TheVariants as kind
+use Rattle.blog_row.specs.declared.event_kinds.EventKind.TheVariants as kind
 use Rattle.blog_trans.specs.Selection.{selection_of}
 use Rattle.blog_trans.specs.Places.{kind_at, is_inside, is_outside}
 use Rattle.blog_trans.specs.Acceptance.{event_fault, IsRefusal}

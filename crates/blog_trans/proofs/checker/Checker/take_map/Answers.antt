@@ -1,16 +1,16 @@
 use Rattle.std.proofs.Common.{◌≡◌, ℕ, true, false, Some, None, rules, refl, sym, subst, ap, ◌∙◌}
-use Rattle.std.specs.Prelude.{nat_eq, not, IfSome, slice_get}
+use Rattle.std.specs.Prelude.{nat_eq, not, IfOk}
 use Rattle.std.specs.List.{list_any}
 use Rattle.indexmap.specs.IndexMap.{get}
 use Rattle.indexmap.proofs.CallerLemmas.{insert_entry-new}
 use Rattle.blog_event.specs.Event.{event_of}
 use Rattle.blog_event.specs.File.{Placed}
-use Rattle.blog_row.specs.TableMap.{Names, names_of, map_names}
+use Rattle.blog_row.specs.TableMap.{HasNames, Names, names_of, map_names, map_seen}
 use Rattle.blog_trans.specs.Acceptance.{event_fault}
 use Rattle.blog_trans.specs.Places.{is_inside, is_map_of, place, since}
 use Rattle.blog_trans.specs.Selection.{Selection, selection_of}
 use Rattle.blog_trans.specs.CheckerView.{IsPassed}
-use Rattle.blog_trans.specs.TablesView.{table_named, tables_known}
+use Rattle.blog_trans.specs.TablesView.{tables_known}
 use Rattle.blog_trans.proofs.TableNumbers.{new-numbered}
 use Rattle.blog_trans.specs.declared.checker.MapSeen.{MapSeen}
 use Rattle.blog_row.specs.RowsEvent.{table_id}
@@ -23,9 +23,9 @@ returns-in_ok-insert-clause-checked g c = λ earlier h.
     let sel : Selection = selection_of c.args.sel.now in
     let e = event_of c.args.event.now in
     let p : Placed = record { pos = c.args.event.now.pos; event = e } in
-    let n : Names = map_names c.in-Ok.map in
-    let names : names_of e.body ≡ Some n = or-bad-some (names_of e.body) n (sym c.in-Ok.ensures.exact) in
-    let id = map-id e.body n c.are_bytes.ensures c.in-Ok.ensures.found in
+    let n : Names = map_names c.in_ok-map.map in
+    let names : names_of e.body ≡ Some n = or-bad-some (names_of e.body) n (sym c.read.ensures.exact ∙ ap map_seen c.in_ok-map.ensures) in
+    let id = map-id e.body n c.are_bytes.ensures (subst (λ r. IfOk r (λ map. HasNames e.body (map_names map))) c.in_ok-map.ensures c.read.ensures.found) in
     let now : is_inside c.args.self.now.place ≡ true = search rules in
     let inside : is_inside (place earlier) ≡ true = ap is_inside (sym h.place_is) ∙ now in
     let compared = c.in_ok-first.ensures.compared sel (since earlier) earlier h in
@@ -36,12 +36,10 @@ returns-in_ok-insert-clause-checked g c = λ earlier h.
     let new : list_any (is_map_of (table_id e.body)) (since earlier) ≡ false = compared.1 ∙ ap not c.if-first.true in
     let v : MapSeen = record { at = c.args.event.now.pos; body = c.args.event.now.body; table = c.in_ok-table.table; used = false } in
     let layouts = c.take_table.new.layouts in
-    let name : table_named (record { schema = c.schema.result; table = c.table.result }) ≡ n.table = λ i. record { schema = c.schema.ensures i; name = c.table.ensures i } in
-    let number = subst (λ t. IfSome v.table (λ x. slice_get (tables_known layouts) x.number ≡ Some t)) name c.in_ok-table.ensures.number in
     let last = new-facts sel p (since earlier) c.id.result v c.requires.kind h.passed new (c.id.ensures ∙ id.1) refl refl columns.0 refl in (
       fault,
       knows-map-new sel p earlier c.args.self.now _ c.requires.kind passed compared.0 refl refl columns.3 c.in_ok-table.ensures.grown h c.id.result v new
-          (c.in_ok-insert.ensures.entries ∙ insert_entry-new nat_eq c.args.self.now.maps c.id.result v none) (new-numbered (tables_known layouts) v n names number refl) last,
+          (c.in_ok-insert.ensures.entries ∙ insert_entry-new nat_eq c.args.self.now.maps c.id.result v none) (new-numbered (tables_known layouts) v n names c.in_ok-table.ensures.number refl) last,
     )
 
 pub returns-else-first-clause-checked : goal.returns-else-first-clause-checked
@@ -49,9 +47,9 @@ returns-else-first-clause-checked g c = λ earlier h.
     let sel : Selection = selection_of c.args.sel.now in
     let e = event_of c.args.event.now in
     let p : Placed = record { pos = c.args.event.now.pos; event = e } in
-    let n : Names = map_names c.in-Ok.map in
-    let names : names_of e.body ≡ Some n = or-bad-some (names_of e.body) n (sym c.in-Ok.ensures.exact) in
-    let id = map-id e.body n c.are_bytes.ensures c.in-Ok.ensures.found in
+    let n : Names = map_names c.in_ok-map.map in
+    let names : names_of e.body ≡ Some n = or-bad-some (names_of e.body) n (sym c.read.ensures.exact ∙ ap map_seen c.in_ok-map.ensures) in
+    let id = map-id e.body n c.are_bytes.ensures (subst (λ r. IfOk r (λ map. HasNames e.body (map_names map))) c.in_ok-map.ensures c.read.ensures.found) in
     let now : is_inside c.args.self.now.place ≡ true = search rules in
     let inside : is_inside (place earlier) ≡ true = ap is_inside (sym h.place_is) ∙ now in
     let compared = c.in_ok-first.ensures.compared sel (since earlier) earlier h in

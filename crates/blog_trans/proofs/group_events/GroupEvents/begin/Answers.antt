@@ -1,21 +1,20 @@
 use Rattle.std.proofs.Common.{[], ◌∷◌, slice_get, refl, ap, ◌∙◌, arith}
 use Rattle.std.specs.Option.{option_map_or}
 use Rattle.blog_trans.specs.Entries.{statements_at}
-use Rattle.blog_trans.specs.IndexView.{index_groups, maps_in, placed, rows_in}
+use Rattle.blog_trans.specs.IndexView.{index_groups, placed, rows_in}
 use Rattle.blog_trans.specs.InTurn.{Ends}
 use Rattle.blog_trans.proofs.EntriesFound.{counted, mapped}
-use Rattle.blog_trans.proofs.Turns.{all-among, first-taken, none-among, none-in-order}
+use Rattle.blog_trans.proofs.Turns.{all-among, first-taken, none-in-order}
 use Rattle.blog_trans.proofs.group_events.GroupEvents.begin.Goals as goal
 
 pub returns : goal.returns
 returns g c =
     let before = c.args.self.now in
     let ts = index_groups before.index.now in
-    let t = c.take-t.result in
+    let t = c.in_ok-t.t in
     let (x, at, begins) = mapped (λ x. x.begin) (slice_get ts t) (placed c.begin.result) c.begin.ensures.event in
-    let first = first-taken before.order ts before.transactions t c.take-t.new.self x c.take-t.ensures (c.is_empty.ensures.some c.if-is_empty.false) at in
-    let maps = none-among c.new-self-2.result (maps_in ts t before.statement) (omega (arith, c.new-self-2.ensures.0, c.new-self-2.ensures.1)) in
-    let rows = none-in-order before.order c.new-self-3.result (rows_in ts t before.statement) (omega (arith, c.new-self-3.ensures.0, c.new-self-3.ensures.1)) in
-    let all = all-among (statements_at ts t) c.statements.result c.new-self.result (counted (λ x. x.statements) (slice_get ts t) c.statements.result c.statements.ensures) c.new-self.ensures ∙ ap (λ o. option_map_or (λ x. x.statements) o []) at in
+    let first = first-taken before.order ts before.transactions t c.take.new.numbers x c.in_ok-t.ensures.1 c.in_ok-t.ensures.0 at in
+    let rows = none-in-order before.order (record { start = 0; end = 0 }) (rows_in ts t before.statement) (omega arith) in
+    let all = all-among (statements_at ts t) c.statements.result (counted (λ x. x.statements) (slice_get ts t) c.statements.result c.statements.ensures) ∙ ap (λ o. option_map_or (λ x. x.statements) o []) at in
     let ends = ap (λ o. option_map_or (λ x. Ends x.end ∷ []) o []) at in
-    record { first = rw (c.requires, first, maps, rows, all, ends, begins) refl; whole = c.begin.ensures.size }
+    record { first = rw (c.requires, first, rows, all, ends, begins) refl; whole = c.begin.ensures.size }

@@ -8,4 +8,4 @@ use Rattle.blog_trans.proofs.groups.Index.in_turn.Goals as goal
 pub returns : goal.returns
 unfolding in_turn
 returns g c =
-    ap (λ ts. flat_map (transaction_in_turn c.args.order) (in_order c.args.order ts)) (all-among (index_groups c.args.self.now) c.transactions.result c.new.result (sym c.transactions.ensures) c.new.ensures)
+    ap (λ ts. flat_map (transaction_in_turn c.args.order) (in_order c.args.order ts)) (all-among (index_groups c.args.self.now) c.transactions.result (sym c.transactions.ensures))

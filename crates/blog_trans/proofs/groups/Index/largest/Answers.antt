@@ -20,6 +20,4 @@ loop-n-preserved g c =
     ∙ sym (ap (largest c.loop-n.most) (drop-at all c.loop-n.n p at)) ∙ c.loop-n.invariant
 
 pub returns : goal.returns
-returns g c =
-    let all = shown (index_bytes c.args.self.now) (index_selection c.args.self.now) in
-    ap (largest c.loop-n.most) (sym (drop_all c.loop-n.n all (omega (arith, shown-many c.args.self.now)))) ∙ c.loop-n.invariant
+returns g c = grind (arith, drop_all, shown-many)

@@ -11,9 +11,7 @@ pub statement-requires : goal.statement-requires
 statement-requires g c = list_some (λ x. x.maps) (statement_at (index_groups c.args.self.now) c.args.t c.args.s) c.args.m c.requires
 
 pub overflow_add-statement : goal.overflow_add-statement
-overflow_add-statement g c =
-    let (p, is, of) = map_read c.args.self.now c.args.t c.args.s c.args.m (c.statement.result.entry + c.args.m) c.requires (ap (λ n. n + c.args.m) c.statement.ensures.entry) in
-    omega (arith, slice_get_within c.args.self.now.entries.items (c.statement.result.entry + c.args.m) of.entry of.here)
+overflow_add-statement g c = grind (arith, map_read, slice_get_within)
 
 pub event-event-requires : goal.event-event-requires
 event-event-requires g c =

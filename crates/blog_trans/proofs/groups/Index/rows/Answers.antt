@@ -8,5 +8,4 @@ pub overflow_sub-result : goal.overflow_sub-result
 overflow_sub-result g c = omega (arith, end_found c.args.self.now c.args.t c.args.s c.requires)
 
 pub returns : goal.returns
-returns g c =
-    many (λ x. x.rows) (statement_at (index_groups c.args.self.now) c.args.t c.args.s) _ c.requires (omega (arith, end_found c.args.self.now c.args.t c.args.s c.requires))
+returns g c = grind (arith, many, end_found)

@@ -15,7 +15,4 @@ pub transaction-requires : goal.transaction-requires
 transaction-requires g c = omega (arith, below c.args.self.now c.args.t c.args.s c.requires)
 
 pub returns-else-statements-s : goal.returns-else-statements-s
-returns-else-statements-s g c =
-    let (x, at) = found (index_groups c.args.self.now) c.args.t (below c.args.self.now c.args.t c.args.s c.requires) in
-    let all : length x.statements ≡ c.statements.result = same_Some (length x.statements) c.statements.result (sym (ap (option_map (λ z. length z.statements)) at) ∙ c.statements.ensures) in
-    omega (arith, last_statement (index_groups c.args.self.now) c.args.t (c.args.s + 1) x at (omega arith))
+returns-else-statements-s g c = grind (arith, found, below, same_Some, last_statement)

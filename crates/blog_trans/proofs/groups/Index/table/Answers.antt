@@ -9,9 +9,7 @@ use Rattle.blog_trans.proofs.TableNumbers.{named_at}
 use Rattle.blog_trans.proofs.groups.Index.table.Goals as goal
 
 pub table-number-requires : goal.table-number-requires
-table-number-requires g c =
-    let x = c.args.self.now in
-    omega (arith, x.counts.tables.ok.0, many_firsts (tables_known x.layouts) x.counts.tables.items (placed_tables (index_groups x)) x.tallied.firsts, many_same (index_bytes x) (index_selection x))
+table-number-requires g c = grind (arith, many_firsts, many_same)
 
 pub unreachable-requires : goal.unreachable-requires
 unreachable-requires g c =

@@ -17,9 +17,4 @@ returns-then-t-transactions g c =
     record { entry = ap (λ (x : TransactionStart). x.entry) is; statement = ap (λ (x : TransactionStart). x.statement) is }
 
 pub returns-else-t-transactions : goal.returns-else-t-transactions
-returns-else-t-transactions g c =
-    let index = c.args.self.now in
-    let all = take_all c.args.t (index_groups index) (omega arith) in
-    let entries = ap length index.entries_are ∙ ap (λ ts. length (entries_of ts)) (sym all) in
-    let statements = many_statements index ∙ ap statements_in (sym all) in
-    record { entry = omega (arith, entries); statement = omega (arith, statements) }
+returns-else-t-transactions g c = grind (arith, take_all, many_statements)

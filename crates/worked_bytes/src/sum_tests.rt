@@ -1,0 +1,72 @@
+//! The sum against a loop over its bits, and values from outside.
+
+use crate::bytes::part_of;
+use blog_sum::{Crc, crc32};
+use std::process::Abort;
+use std::test::Fail;
+
+/// CRC-32 bit by bit.
+fn bit_by_bit(bytes: &[u8]) -> u32 {
+    let mut register = u32::MAX;
+    for byte in bytes {
+        register ^= u32::from(*byte);
+        for _ in 0..8 {
+            let odd = register & 1 == 1;
+            register >>= 1;
+            if odd {
+                register ^= 0xEDB8_8320;
+            }
+        }
+    }
+    register ^ u32::MAX
+}
+
+/// Bytes, and zlib's crc32 of them.
+static KNOWN: [(&[u8], u32); 4] = [
+    (b"", 0),
+    (b"a", 0xE8B7_BE43),
+    (b"123456789", 0xCBF4_3926),
+    (b"The quick brown fox jumps over the lazy dog", 0x414F_A339),
+];
+
+#[test]
+fn known_values(rt: HostRuntime) {
+    for (bytes, value) in &KNOWN {
+        assert!(rt; crc32(bytes) == *value, "{bytes:?}");
+    }
+}
+
+/// The sum is that of the loop.
+fn check_sum(rt: &impl Abort, bytes: &[u8]) {
+    assert!(rt; crc32(bytes) == bit_by_bit(bytes), "{bytes:?}");
+}
+
+#[test]
+fn each_length(rt: HostRuntime) -> Result<(), Fail> {
+    let mut bytes = Vec::new(rt.alloc());
+    for n in 0..70u8 {
+        check_sum(&rt, &bytes);
+        bytes.push(n ^ (n << 5 & 0xff) ^ 0x95)?;
+    }
+    Ok(())
+}
+
+/// The sum of two pieces is that of the loop over both.
+fn check_pieces(rt: &impl Abort, bytes: &[u8], cut: usize) {
+    let mut crc = Crc::new();
+    crc.update(part_of(rt, bytes, 0, cut));
+    crc.update(part_of(rt, bytes, cut, bytes.len()));
+    assert!(rt; crc.value() == bit_by_bit(bytes), "cut at {cut}");
+}
+
+#[test]
+fn each_cut(rt: HostRuntime) -> Result<(), Fail> {
+    let mut bytes = Vec::new(rt.alloc());
+    for n in 0..70u8 {
+        bytes.push(n ^ 0x95)?;
+    }
+    for cut in 0..=70 {
+        check_pieces(&rt, &bytes, cut);
+    }
+    Ok(())
+}
