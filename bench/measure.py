@@ -17,6 +17,8 @@ import threading
 import time
 
 NAMES = ["cat", "plain", "streaming", "mariadb-binlog", "flashback"]
+# other ways to run flashback, which are compared with the plain program alone
+WAYS = ["flashback", "-r", "--summary"]
 # memory that flashback may take beside the log and its largest event: for each event, and else
 BYTES_AN_EVENT, BYTES_ELSE = 16, 3_000_000
 
@@ -74,10 +76,11 @@ def measure(log, programs, runs, limit, out):
         for name, words in programs.items():
             if name in failed:
                 continue
-            path = os.devnull if name == "cat" else os.path.join(out, name + ".undo")
+            path = os.path.join(out, name + ".undo")
             if os.path.isfile(path):
                 os.remove(path)
-            why = run(words + [log], path, limit, best[name])
+            named = ["-r", path] if name == "-r" else []
+            why = run(words + named + [log], os.devnull if named or name in ("cat", "--summary") else path, limit, best[name])
             if why:
                 failed[name] = why
                 del best[name]
@@ -111,14 +114,14 @@ class Tables:
         self.speed = [f"| Log | MB | Events | {heads}| of plain | of mariadb-binlog |", f"|---|{line}---|---|"]
         self.memory = [f"| Log | Most | {heads}|", f"|{line}"]
         self.processor = [f"| Log | MB | {heads}|", f"|{line}"]
+        self.ways = ["| Log | MB | -B > OUT | -B -r OUT | --summary |", "|---|---|---|---|---|"]
 
     def add(self, shape, counts, best):
         size, events, largest = counts
         wall = {name: each.wall for name, each in best.items()}
-        ours = wall.get("flashback")
 
-        def times(name):
-            return wall[name] / ours if ours and name in wall else None
+        def times(name, way="flashback"):
+            return wall[name] / wall[way] if way in wall and name in wall else None
 
         def row(of, form):
             return " | ".join(cell(of(best[name]) if name in best else None, form) for name in NAMES)
@@ -129,15 +132,17 @@ class Tables:
                           f"{cell(times('plain'), '{:.2f}')} | {cell(times('mariadb-binlog'), '{:.1f}')} |")
         self.memory.append(f"| {shape} | {most:,.0f} | {row(lambda each: each.peak / 1e6, '{:,.0f}')} |")
         self.processor.append(f"| {shape} | {mb} | {row(lambda each: each.processor, '{:.2f}')} |")
+        ways = " | ".join(cell(times("plain", way), "{:.2f}") for way in WAYS)
+        self.ways.append(f"| {shape} | {mb} | {ways} |")
 
     def __str__(self):
         return "\n".join(["Speed, MB/s:", "", *self.speed, "", "Peak memory, MB:", "", *self.memory, "",
-                          "Processor seconds:", "", *self.processor])
+                          "Processor seconds:", "", *self.processor, "", "Speed, of the plain program's:", "", *self.ways])
 
 
 def main(plain, mariadb, flashback, runs, limit, out, *logs):
     programs = {"cat": ["cat"], "plain": [plain, "-B"], "streaming": [plain, "--stream"], "mariadb-binlog": [mariadb, "--flashback"],
-                "flashback": [flashback, "-B"]}
+                "flashback": [flashback, "-B"], "-r": [flashback, "-B"], "--summary": [flashback, "--summary"]}
     programs = {name: words for name, words in programs.items() if words[0]}
     tables, status = Tables(), 0
     for log in logs:
@@ -153,6 +158,9 @@ def main(plain, mariadb, flashback, runs, limit, out, *logs):
             sys.exit(f"measure.py: the two forms of the plain program don't write the same log for {log}")
         if "flashback" in programs and not ("flashback" in best and filecmp.cmp(undo[0], undo[1], shallow=False)):
             print(f"flashback and the plain program don't write the same log for {log}", file=sys.stderr)
+            status = 1
+        if "-r" in best and not filecmp.cmp(undo[0], os.path.join(out, "-r.undo"), shallow=False):
+            print(f"flashback -r and the plain program don't write the same log for {log}", file=sys.stderr)
             status = 1
         if "mariadb-binlog" in best and not is_same_as_mariadb(undo[0], undo[2]):
             status = 1
