@@ -4,7 +4,8 @@
     same_as_mariadb.py UNDO TEXT
 
 Compared are type, flags and body of each such event, in order. Headers differ (mariadb-binlog keeps the old positions),
-and the ends of transactions aren't base64 in its text, so neither is compared.
+and the ends of transactions aren't base64 in its text, so neither is compared. A table map that it prints again in a
+statement is passed over: the log that undoes has each map of a statement once.
 """
 
 import base64
@@ -13,7 +14,7 @@ import mmap
 import struct
 import sys
 
-KINDS = (19, 30, 31, 32)
+TABLE_MAP, KINDS = 19, (19, 30, 31, 32)
 
 
 def written(path):
@@ -46,9 +47,22 @@ def printed(path):
                     yield event[4], event[17:19], event[19:]
 
 
+def without_repeated_maps(events):
+    """The events without the maps that stand in their statement before."""
+    maps = set()
+    for kind, flags, body in events:
+        if kind == TABLE_MAP:
+            if body in maps:
+                continue
+            maps.add(body)
+        elif body[6] & 1:  # the statement ends
+            maps.clear()
+        yield kind, flags, body
+
+
 def main(undo, text):
     count = 0
-    for ours, theirs in itertools.zip_longest(written(undo), printed(text)):
+    for ours, theirs in itertools.zip_longest(written(undo), without_repeated_maps(printed(text))):
         if ours != theirs:
             print(f"table map or rows event {count + 1} isn't that of mariadb-binlog", file=sys.stderr)
             return 1
