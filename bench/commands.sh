@@ -11,17 +11,10 @@ cd "$(dirname "$0")/.."
 BINLOG=${BINLOG:-bin/binlog} FLASHBACK=${FLASHBACK:-bin/flashback} RUNS=${RUNS:-3} LIMIT=${LIMIT:-600} OUT=${OUT:-bench/out}
 are_there commands.sh "$BINLOG" "$FLASHBACK" || exit 0
 [ $# -gt 0 ] || set -- mixed 100 mixed 1000 one_row 60 one_row 240 many_maps 50 many_events 60
-[ $(($# % 2)) -eq 0 ] || { echo "commands.sh: a size in MB for each shape is wanted" >&2; exit 2; }
-mkdir -p "$OUT"
-
-# each two words become a log
-left=$#
-while [ "$left" -gt 0 ]; do
-    make_log "$1" "$2"
-    shift 2
-    set -- "$@" "$log"
-    left=$((left - 2))
-done
+make_logs "$@"
 
 print_machine
-exec python3 bench/commands.py "$BINLOG" "$FLASHBACK" "$RUNS" "$LIMIT" "$OUT" "$@"
+# the paths are words of their own, whatever is in them
+set -f
+IFS=$NEWLINE
+exec python3 bench/commands.py "$BINLOG" "$FLASHBACK" "$RUNS" "$LIMIT" "$OUT" $logs

@@ -1,5 +1,8 @@
 # For the scripts beside this file: makes logs, each once.
 
+NEWLINE='
+'
+
 # make_log SHAPE SIZE [--sums]: makes the log if it isn't there or is older than the generator, and leaves its path in log
 make_log() {
     log=$OUT/$1-$2${3+-sums}.binlog
@@ -8,6 +11,24 @@ make_log() {
         python3 bench/make_log.py ${3+"$3"} "$1" "$2" "$log" > "$OUT/counts"
         mv "$OUT/counts" "$log.counts"
     fi
+}
+
+# make_logs [--sums] SHAPE SIZE..: makes the logs, with --sums each with checksums too, and leaves the paths in logs, a
+# line each: with --sums those of the logs with checksums
+make_logs() {
+    logs= sums=
+    if [ "$1" = --sums ]; then
+        sums=$1
+        shift
+    fi
+    [ $(($# % 2)) -eq 0 ] || { echo "${0##*/}: a size in MB for each shape is wanted" >&2; exit 2; }
+    mkdir -p "$OUT"
+    while [ $# -gt 0 ]; do
+        make_log "$1" "$2"
+        [ -z "$sums" ] || make_log "$1" "$2" "$sums"
+        logs=$logs$log$NEWLINE
+        shift 2
+    done
 }
 
 # the line that heads the figures

@@ -13,7 +13,6 @@ PLAIN=bench/plain/target/release/plain
 [ $# -gt 0 ] || set -- mixed 10 mixed 100 mixed 1000 \
     version_one 250 one_row 250 wide 250 many_maps 50 many_tables 100 many_statements 250 \
     null_rows 250 half_null 250 many_events 50 tiny_rows 8 repeated_map 25
-[ $(($# % 2)) -eq 0 ] || { echo "run.sh: a size in MB for each shape is wanted" >&2; exit 2; }
 mkdir -p "$OUT"
 
 cargo build --quiet --release --offline --manifest-path bench/plain/Cargo.toml
@@ -23,16 +22,12 @@ WORKED=examples/insert_one_row.binlog
 { head -c 200 $WORKED; printf '\040'; tail -c +202 $WORKED; } > "$OUT/worked"
 $PLAIN -B $WORKED | cmp - "$OUT/worked"
 
-# each two words become one log
-left=$#
-while [ "$left" -gt 0 ]; do
-    make_log "$1" "$2"
-    shift 2
-    set -- "$@" "$log"
-    left=$((left - 2))
-done
+make_logs "$@"
 
 [ -x "$FLASHBACK" ] || { echo "run.sh: $FLASHBACK isn't there, so it isn't measured; make builds it" >&2; FLASHBACK=; }
 MARIADB=$(command -v mariadb-binlog) || echo "run.sh: mariadb-binlog isn't installed, so it isn't measured" >&2
 print_machine
-exec python3 bench/measure.py "$PLAIN" "$MARIADB" "$FLASHBACK" "$RUNS" "$LIMIT" "$OUT" "$@"
+# the paths are words of their own, whatever is in them
+set -f
+IFS=$NEWLINE
+exec python3 bench/measure.py "$PLAIN" "$MARIADB" "$FLASHBACK" "$RUNS" "$LIMIT" "$OUT" $logs

@@ -11,18 +11,10 @@ cd "$(dirname "$0")/.."
 BINLOG=${BINLOG:-bin/binlog} FLASHBACK=${FLASHBACK:-bin/flashback} RUNS=${RUNS:-3} LIMIT=${LIMIT:-600} OUT=${OUT:-bench/out}
 are_there sums.sh "$BINLOG" "$FLASHBACK" || exit 0
 [ $# -gt 0 ] || set -- mixed 10 mixed 100 mixed 1000 one_row 250
-[ $(($# % 2)) -eq 0 ] || { echo "sums.sh: a size in MB for each shape is wanted" >&2; exit 2; }
-mkdir -p "$OUT"
-
-# each two words become a log without sums and one with them
-left=$#
-while [ "$left" -gt 0 ]; do
-    make_log "$1" "$2"
-    make_log "$1" "$2" --sums
-    shift 2
-    set -- "$@" "$log"
-    left=$((left - 2))
-done
+make_logs --sums "$@"
 
 print_machine
-exec python3 bench/sums.py "$BINLOG" "$FLASHBACK" "$RUNS" "$LIMIT" "$OUT" "$@"
+# the paths are words of their own, whatever is in them
+set -f
+IFS=$NEWLINE
+exec python3 bench/sums.py "$BINLOG" "$FLASHBACK" "$RUNS" "$LIMIT" "$OUT" $logs
