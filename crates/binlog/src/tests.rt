@@ -14,50 +14,15 @@ use std::alloc::AllocError;
 use std::path::PathBuf;
 use std::process::{Abort, ExitCode};
 use std::test::Fail;
-use std::{env, fs, io, process};
+use std::{env, fs, io};
+use test_runs::Outcome;
 
 /// Where the Stop event of `SUMMED` begins.
 const STOP: usize = 120;
 
-/// What a run answered, and what it wrote.
-#[derive(Drop)]
-struct Outcome {
-    status: ExitCode,
-    output: Watched<Vec<u8>>,
-    errors: Watched<Vec<u8>>,
-}
-
-impl Outcome {
-    fn output(&self) -> &[u8] {
-        self.output.device().as_slice()
-    }
-
-    fn errors(&self) -> &[u8] {
-        self.errors.device().as_slice()
-    }
-
-    /// Whether the run did what was asked for, wrote this, and printed nothing.
-    fn is_done(&self, output: &[u8]) -> bool {
-        self.status == ExitCode::SUCCESS && self.output() == output && self.errors().is_empty()
-    }
-
-    /// Whether the run ended with this status, wrote nothing else, and printed a line that begins so and has an end.
-    fn is_refusal(&self, status: u8, line: &str) -> bool {
-        self.status == ExitCode::from(status)
-            && self.output().is_empty()
-            && self.errors().starts_with(line.as_bytes())
-            && self.errors().ends_with(b"\n")
-    }
-}
-
-/// The words of a run, of which the first is the program's name.
+/// The arguments of a run, of which the first is the program's name.
 fn words_of(rt: &HostRuntime, words: &[&str]) -> Result<Vec<String>, AllocError> {
-    let mut all = Vec::new(rt.alloc());
-    all.push(String::from_str(rt.alloc(), "binlog")?)?;
-    for word in words {
-        all.push(String::from_str(rt.alloc(), word)?)?;
-    }
-    Ok(all)
+    test_runs::words_of(rt, "binlog", words)
 }
 
 fn run_given(rt: &HostRuntime, words: io::Result<Vec<String>>) -> Outcome {
@@ -77,9 +42,7 @@ fn run_words(rt: &HostRuntime, words: &[&str]) -> Result<Outcome, AllocError> {
 
 /// A path in the folder for temporary files that no other test has.
 fn path_of(rt: &HostRuntime, name: &str) -> io::Result<PathBuf> {
-    let id = process::id(rt.process());
-    let file = format!(in rt.alloc(); "binlog-{id}-{name}.binlog")?;
-    Ok(env::temp_dir(rt)?.join(rt.alloc(), file.as_str())?)
+    test_runs::path_of(rt, "binlog", name)
 }
 
 /// Runs the program with these words and a file of these bytes as the last word.
@@ -109,7 +72,7 @@ fn sums_are_taken_out(rt: HostRuntime) -> Result<(), Fail> {
 
 /// Runs the program over a log that it refuses with this line.
 fn tells(rt: &HostRuntime, log: &[u8], line: &str) -> Result<(), Fail> {
-    if run_log(rt, "refused", log, &["plain"])?.is_refusal(1, line) {
+    if run_log(rt, "refused", log, &["plain"])?.begins_refusal(1, line) {
         Ok(())
     } else {
         Err(Fail::new(format_args!("it isn't told: {line}")))
@@ -138,10 +101,10 @@ fn logs_that_cannot_be_read_are_told(rt: HostRuntime) -> Result<(), Fail> {
         "binlog: cannot open the log {absent_name}: No such file or directory (os error 2): "
     )?;
     let outcome = run_words(&rt, &["plain", absent.as_str()])?;
-    assert!(rt; outcome.is_refusal(1, line.as_str()));
+    assert!(rt; outcome.begins_refusal(1, line.as_str()));
     let folder = env::temp_dir(&rt)?;
     let outcome = run_words(&rt, &["plain", folder.as_str()])?;
-    assert!(rt; outcome.is_refusal(1, "binlog: read failed: "));
+    assert!(rt; outcome.begins_refusal(1, "binlog: read failed: "));
     Ok(())
 }
 
@@ -181,13 +144,13 @@ fn wrong_words_end_in_two(rt: HostRuntime) -> Result<(), Fail> {
     ];
     for words in cases {
         assert!(rt;
-            run_words(&rt, words)?.is_refusal(2, "error: "),
+            run_words(&rt, words)?.begins_refusal(2, "error: "),
             "{words:?}"
         );
     }
     let not_text = run_given(&rt, Err(io::Error::from(io::ErrorKind::InvalidData)));
-    assert!(rt; not_text.is_refusal(2, "binlog: the arguments are not UTF-8: "));
+    assert!(rt; not_text.begins_refusal(2, "binlog: the arguments are not UTF-8: "));
     let no_memory = run_given(&rt, Err(io::Error::from(io::ErrorKind::OutOfMemory)));
-    assert!(rt; no_memory.is_refusal(1, "binlog: OutOfMemory: "));
+    assert!(rt; no_memory.begins_refusal(1, "binlog: OutOfMemory: "));
     Ok(())
 }

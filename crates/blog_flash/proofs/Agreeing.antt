@@ -1,26 +1,24 @@
 -- The kept maps of an accepted log agree on layouts: of two maps of a table the later one was checked against the earlier.
-use Rattle.std.proofs.Common.{◌≡◌, ℕ, zero, suc, arith, Bool, true, false, not, List, [], ◌∷◌, Option, Some, None, is_some, Ok, bytes_eq, ◌⊎◌, inl, inr, refl, sym, subst, ap, ◌∙◌}
+use Rattle.std.proofs.Common.{◌≡◌, ℕ, zero, suc, arith, rules, Bool, true, false, List, [], ◌∷◌, reverse, None, bytes_eq, ◌⊎◌, inl, inr, sym, ap, ◌∙◌}
 use Rattle.std.specs.List.{Contains, list_any}
+use Rattle.std.proofs.lemmas.Bool.{false≢true, false_from_ne_true}
+use Rattle.std.proofs.lemmas.Bool.Decides.{same_from_decides, Decides-like}
 use Rattle.std.proofs.lemmas.List.Folds.{list_any_at}
-use Rattle.std.proofs.lemmas.Bool.{and_parts, and_from, not-true, not-false, false≢true, false_from_ne_true}
+use Rattle.std.proofs.lemmas.List.Sorted.{Contains-permutation, IsPermutation-reverse}
 use Rattle.std.proofs.lemmas.Slice.Eq.{bytes_eq-Decides}
-use Rattle.blog_event.specs.declared.fault.Fault.TheVariants.{OutOfPlace, MapClash, BadBody}
-use Rattle.blog_event.specs.Fault.{Cause, needs}
 use Rattle.blog_event.specs.Event.{Event}
 use Rattle.blog_event.specs.File.{Placed, placed_from, read}
-use Rattle.blog_row.specs.Column.{Layout, types_of, metadata_of}
-use Rattle.blog_row.specs.TableMap.{Table, Names, names_of, layout_of, is_same_layout}
 use Rattle.blog_row.specs.declared.event_kinds.EventKind.{EventKind}
 use Rattle.blog_row.specs.declared.event_kinds.EventKind.TheVariants as kind
 use Rattle.blog_row.specs.Kinds.{is_map_kind}
 use Rattle.blog_trans.specs.Selection.{Selection}
-use Rattle.blog_trans.specs.Places.{kind_at, is_map, place, is_inside, since}
-use Rattle.blog_trans.specs.Acceptance.{is_selected, is_same_table, clashes_by_id, clashes_by_layout, selected_map_checks, event_fault, range, IsAccepted, Passes}
+use Rattle.blog_trans.specs.Places.{kind_at, is_map}
+use Rattle.blog_trans.specs.Acceptance.{is_selected, clashes_by_layout, event_fault, range, IsAccepted, HavePassed}
 use Rattle.blog_trans.specs.Groups.{event_value}
 use Rattle.blog_trans.proofs.CheckingLayouts.{same-itself}
-use Rattle.blog_trans.proofs.ProgressAccepted.{none-failing, needed, accepted-passes}
-use Rattle.blog_trans.proofs.Tables.{same-table, own-table}
-use Rattle.blog_flash.proofs.Formed.{Agree}
+use Rattle.blog_trans.proofs.ProgressAccepted.{accepted-passes}
+use Rattle.blog_trans.proofs.ProgressGroups.{all-passed}
+use Rattle.blog_flash.proofs.Formed.{IsMapEvent, clash, Agree}
 
 -- ---- what is asked of kept maps
 
@@ -44,84 +42,44 @@ any-none test ps p e among = false_from_ne_true (test p) (λ passes. false≢tru
 
 -- a map's kind
 pub map-kind : (k : EventKind) → is_map_kind k ≡ true → k ≡ kind.TableMap
-map-kind kind.TableMap e = refl
-map-kind _ e = absurd (false≢true e)
-
--- the checks of a map of a selected table
-map-checked : (sel : Selection) (earlier : List Placed) (p : Placed) → is_map p ≡ true → is_selected sel p.event.body ≡ true → event_fault sel earlier p ≡ None
-    → list_any (clashes_by_layout p) earlier ≡ false
-map-checked sel earlier p is chosen e =
-    let all : List (Option Cause) =
-    needs (is_inside (place earlier)) OutOfPlace ∷ needs (is_some (names_of p.event.body)) BadBody ∷ needs (not (list_any (clashes_by_id p) (since earlier))) MapClash ∷ selected_map_checks earlier p in
-    let each = none-failing all (rw (map-kind (kind_at p) is, chosen) at e) in
-    not-true (list_any (clashes_by_layout p) earlier) (needed _ MapClash each.1.1.1.1.0)
+map-kind k e = search rules
 
 -- a map of a selected table doesn't clash with an earlier one
-abbrev pub IsChecked : Selection → Placed → Placed → Type 0
+abbrev IsChecked : Selection → Placed → Placed → Type 0
 IsChecked sel p other = is_map p ≡ true → is_selected sel p.event.body ≡ true → clashes_by_layout p other ≡ false
 
--- each event was checked against those that stand before all of them
-checked-in : (sel : Selection) (earlier ps : List Placed) → Passes sel earlier ps → (p other : Placed) → Contains ps p → Contains earlier other → IsChecked sel p other
-checked-in sel earlier [] pass p other (k, below, is) before = absurd (omega (arith, below))
-checked-in sel earlier (x ∷ ps) pass p other (zero, below, same) before =
-    λ is chosen. any-none (clashes_by_layout p) earlier other (map-checked sel earlier p is chosen (subst (λ (q : Placed). event_fault sel earlier q ≡ None) same pass.0)) before
-checked-in sel earlier (x ∷ ps) pass p other (suc k, below, is) (j, within, before) =
-    checked-in sel (x ∷ earlier) ps pass.1 p other (k, omega (arith, below), is) (suc j, omega (arith, within), before)
+-- an event that passed was checked against those before
+checked : (sel : Selection) (earlier : List Placed) (p other : Placed) → event_fault sel earlier p ≡ None → Contains earlier other → IsChecked sel p other
+checked sel earlier p other passed before is chosen =
+    let a_map = map-kind (kind_at p) is in
+    let none : list_any (clashes_by_layout p) earlier ≡ false = grind arith in
+    any-none (clashes_by_layout p) earlier other none before
 
--- of two events that pass the later one was checked against the earlier
-pub agree-in : (sel : Selection) (earlier ps : List Placed) → Passes sel earlier ps → (p q : Placed) → Contains ps p → Contains ps q → (p ≡ q) ⊎ (IsChecked sel p q ⊎ IsChecked sel q p)
-agree-in sel earlier [] pass p q (j, below, first) second = absurd (omega (arith, below))
-agree-in sel earlier (x ∷ ps) pass p q (zero, below, first) (zero, within, second) = inl (sym first ∙ second)
-agree-in sel earlier (x ∷ ps) pass p q (zero, below, first) (suc k, within, second) =
-    inr (inr (checked-in sel (x ∷ earlier) ps pass.1 q p (k, omega (arith, within), second) (zero, omega arith, first)))
-agree-in sel earlier (x ∷ ps) pass p q (suc j, below, first) (zero, within, second) =
-    inr (inl (checked-in sel (x ∷ earlier) ps pass.1 p q (j, omega (arith, below), first) (zero, omega arith, second)))
-agree-in sel earlier (x ∷ ps) pass p q (suc j, below, first) (suc k, within, second) =
-    agree-in sel (x ∷ earlier) ps pass.1 p q (j, omega (arith, below), first) (k, omega (arith, within), second)
-
--- ---- the same table, the same layout
-
--- the test of bytes in the other order
-bytes-turned : (xs ys : List ℕ) → bytes_eq xs ys ≡ true → bytes_eq ys xs ≡ true
-bytes-turned xs ys e = (bytes_eq-Decides ys xs).1 (sym ((bytes_eq-Decides xs ys).0 e))
-
--- the test of tables in the other order
-table-turned : (t u : Table) → is_same_table t u ≡ true → is_same_table u t ≡ true
-table-turned t u e = ap (λ (v : Table). is_same_table v t) (sym (same-table t u e)) ∙ own-table t
-
--- and of layouts
-layout-turned : (c d : Layout) → is_same_layout c d ≡ true → is_same_layout d c ≡ true
-layout-turned c d e =
-    let parts = and_parts (bytes_eq (types_of c) (types_of d)) (bytes_eq (metadata_of c) (metadata_of d)) e in
-    and_from (bytes_eq (types_of d) (types_of c)) (bytes_eq (metadata_of d) (metadata_of c)) (bytes-turned (types_of c) (types_of d) parts.0) (bytes-turned (metadata_of c) (metadata_of d) parts.1)
-
--- maps of a table that don't clash have the same layout
-no-clash : (p other : Placed) (n o : Names) (c d : Layout) → is_map other ≡ true → names_of other.event.body ≡ Some n → names_of p.event.body ≡ Some o → is_same_table n.table o.table ≡ true
-    → layout_of other.event.body ≡ Ok c → layout_of p.event.body ≡ Ok d → clashes_by_layout p other ≡ false → is_same_layout c d ≡ true
-no-clash p other n o c d is names others same layout other_layout e = not-false (is_same_layout c d) (rw (is, names, others, same, layout, other_layout) at e)
+-- so of two events that passed the later one was checked against the earlier
+agree-in : (sel : Selection) (es : List Placed) → HavePassed sel es → (p q : Placed) → Contains es p → Contains es q → (p ≡ q) ⊎ (IsChecked sel p q ⊎ IsChecked sel q p)
+agree-in sel [] passed p q (j, below, first) second = absurd (omega (arith, below))
+agree-in sel (x ∷ es) passed p q (zero, below, first) (zero, within, second) = inl (sym first ∙ second)
+agree-in sel (x ∷ es) passed p q (zero, below, first) (suc k, within, second) = inr (inl (rw first at (checked sel es x q passed.0 (k, omega (arith, within), second))))
+agree-in sel (x ∷ es) passed p q (suc j, below, first) (zero, within, second) = inr (inr (rw second at (checked sel es x p passed.0 (j, omega (arith, below), first))))
+agree-in sel (x ∷ es) passed p q (suc j, below, first) (suc k, within, second) = agree-in sel es passed.1 p q (j, omega (arith, below), first) (k, omega (arith, within), second)
 
 -- ---- agreement
 
--- maps of a table that pass have the same layout
-placed-agree : (sel : Selection) (p q : Placed) → (p ≡ q) ⊎ (IsChecked sel p q ⊎ IsChecked sel q p) → is_map p ≡ true → is_selected sel p.event.body ≡ true
-    → is_map q ≡ true → is_selected sel q.event.body ≡ true → (n o : Names) → names_of p.event.body ≡ Some n → names_of q.event.body ≡ Some o → is_same_table n.table o.table ≡ true
-    → (c d : Layout) → layout_of p.event.body ≡ Ok c → layout_of q.event.body ≡ Ok d → is_same_layout c d ≡ true
-placed-agree sel p q (inl same) p_map p_chosen q_map q_chosen n o p_names q_names table c d p_layout q_layout =
-    let body : p.event.body ≡ q.event.body = ap (λ (x : Placed). x.event.body) same in
-    let layout : c ≡ d = cc in
-    subst (λ (l : Layout). is_same_layout c l ≡ true) layout (same-itself c)
-placed-agree sel p q (inr (inl later)) p_map p_chosen q_map q_chosen n o p_names q_names table c d p_layout q_layout =
-    layout-turned d c (no-clash p q o n d c q_map q_names p_names (table-turned n.table o.table table) q_layout p_layout (later p_map p_chosen))
-placed-agree sel p q (inr (inr later)) p_map p_chosen q_map q_chosen n o p_names q_names table c d p_layout q_layout =
-    no-clash q p n o c d p_map p_names q_names table p_layout q_layout (later q_map q_chosen)
+-- the test of bytes in the other order
+bytes-turned : (xs ys : List ℕ) → bytes_eq xs ys ≡ bytes_eq ys xs
+bytes-turned xs ys = same_from_decides _ _ (bytes_eq-Decides xs ys) (Decides-like (bytes_eq ys xs) sym sym (bytes_eq-Decides ys xs))
+
+-- maps don't clash with themselves, nor where they don't in the other order
+no-clash : (Known : Event → Type 0) (a b : Event) → IsMapEvent Known a → IsMapEvent Known b → (a ≡ b) ⊎ (clash b a ≡ false) → clash a b ≡ false
+no-clash Known a b h k (inl same) = rw (← same, h.names.1, h.layout.1, same-itself h.layout.0) (grind arith)
+no-clash Known a b h k (inr other) =
+    let e = rw (h.names.1, k.names.1, h.layout.1, k.layout.1) at other in
+    rw (h.names.1, k.names.1, h.layout.1, k.layout.1) (grind (arith, bytes-turned))
 
 -- the kept maps of an accepted log agree on layouts
 pub source-agree : (bytes : List ℕ) (sel : Selection) → IsAccepted bytes sel → Agree (Chosen bytes sel)
-source-agree bytes sel accepted a b a_known b_known n o a_names b_names table c d a_layout b_layout =
-    let p : Placed = a_known.at in
-    let q : Placed = b_known.at in
-    let a_body : a.body ≡ p.event.body = ap (λ (x : Event). x.body) a_known.value in
-    let b_body : b.body ≡ q.event.body = ap (λ (x : Event). x.body) b_known.value in
-    let pass = agree-in sel [] (range sel (placed_from 4 (read bytes sel.stop))) (accepted-passes bytes sel accepted) p q a_known.among b_known.among in
-    placed-agree sel p q pass a_known.a_map a_known.selected b_known.a_map b_known.selected n o
-    (sym (ap names_of a_body) ∙ a_names) (sym (ap names_of b_body) ∙ b_names) table c d (sym (ap layout_of a_body) ∙ a_layout) (sym (ap layout_of b_body) ∙ b_layout)
+source-agree bytes sel accepted a b h k =
+    let es = range sel (placed_from 4 (read bytes sel.stop)) in
+    let back = λ (p : Placed) (among : Contains es p). Contains-permutation es (reverse es) p (IsPermutation-reverse es) among in
+    let pass = agree-in sel (reverse es) (all-passed sel es (accepted-passes bytes sel accepted)) h.known.at k.known.at (back h.known.at h.known.among) (back k.known.at k.known.among) in
+    grind (arith, no-clash (Chosen bytes sel) a b h k, pass, h.known.value, k.known.value)

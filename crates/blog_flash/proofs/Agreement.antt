@@ -2,16 +2,16 @@
 use Rattle.std.proofs.Common.{◌≡◌, ℕ, true, List, Ok, bytes_eq, sym, ap, ap₂, ◌∙◌, subst}
 use Rattle.std.specs.Prelude.{Contains}
 use Rattle.std.specs.List.{AllByRecursion, list_all, flat_map}
-use Rattle.std.proofs.lemmas.Bool.{and_parts}
+use Rattle.std.proofs.lemmas.Bool.{and_parts, not-false}
 use Rattle.std.proofs.lemmas.List.Elements.{All-contains, All-from_recursion}
 use Rattle.blog_event.specs.Event.{Event}
 use Rattle.blog_event.specs.File.{AreBytes}
 use Rattle.blog_row.specs.Column.{Layout, is_column, types_of, metadata_of, columns_of}
-use Rattle.blog_row.specs.TableMap.{Table, Names, names_of, layout_fields, layout_of, is_same_layout}
+use Rattle.blog_row.specs.TableMap.{names_of, layout_fields, layout_of, is_same_layout}
 use Rattle.blog_row.proofs.Results.{step_found, reading_found, same_ok}
 use Rattle.blog_row.proofs.Layouts.{spread, layout_found}
 use Rattle.blog_trans.specs.Selection.{Selection}
-use Rattle.blog_trans.specs.Acceptance.{is_same_table, IsAccepted}
+use Rattle.blog_trans.specs.Acceptance.{IsAccepted}
 use Rattle.blog_trans.specs.Groups.{Statement, Transaction, groups}
 use Rattle.blog_trans.specs.Changes.{table_of}
 use Rattle.blog_flash.specs.Agreement.{maps_of, MapsAgree}
@@ -36,9 +36,7 @@ layout-known body layout e =
 same-columns : (c d : Layout) → list_all is_column c ≡ true → list_all is_column d ≡ true → is_same_layout c d ≡ true → c ≡ d
 same-columns c d c_known d_known e =
     let parts = and_parts (bytes_eq (types_of c) (types_of d)) (bytes_eq (metadata_of c) (metadata_of d)) e in
-    let types = bytes-same (types_of c) (types_of d) parts.0 in
-    let metadata = bytes-same (metadata_of c) (metadata_of d) parts.1 in
-    sym (spread c c_known).back ∙ ap₂ columns_of types metadata ∙ (spread d d_known).back
+    sym (spread c c_known).back ∙ ap₂ columns_of (bytes-same (types_of c) (types_of d) parts.0) (bytes-same (metadata_of c) (metadata_of d) parts.1) ∙ (spread d d_known).back
 
 -- ---- maps of groups
 
@@ -51,16 +49,12 @@ maps-formed Known ts h =
 -- two maps of a table
 two-agree : (bytes : List ℕ) (sel : Selection) → IsAccepted bytes sel → (a b : Event) → IsMapEvent (Chosen bytes sel) a → IsMapEvent (Chosen bytes sel) b
     → table_of a.body ≡ table_of b.body → layout_of a.body ≡ layout_of b.body
-two-agree bytes sel accepted a b a_formed b_formed table =
-    let n : Names = a_formed.names.0 in
-    let o : Names = b_formed.names.0 in
-    let c : Layout = a_formed.layout.0 in
-    let d : Layout = b_formed.layout.0 in
-    let same_table : n.table ≡ o.table = rw (a_formed.names.1, b_formed.names.1) at table in
-    let named : is_same_table n.table o.table ≡ true = subst (λ (t : Table). is_same_table n.table t ≡ true) same_table (own-table n.table) in
-    let alike = source-agree bytes sel accepted a b a_formed.known b_formed.known n o a_formed.names.1 b_formed.names.1 named c d a_formed.layout.1 b_formed.layout.1 in
-    let same = same-columns c d (layout-known a.body c a_formed.layout.1) (layout-known b.body d b_formed.layout.1) alike in
-    a_formed.layout.1 ∙ ap (λ (l : Layout). Ok l) same ∙ sym b_formed.layout.1
+two-agree bytes sel accepted a b h k table =
+    let c : Layout = h.layout.0 in
+    let d : Layout = k.layout.0 in
+    let same : h.names.0.table ≡ k.names.0.table = rw (h.names.1, k.names.1) at table in
+    let apart = rw (h.names.1, k.names.1, h.layout.1, k.layout.1, same, own-table) at (source-agree bytes sel accepted a b h k) in
+    h.layout.1 ∙ ap (λ (l : Layout). Ok l) (same-columns c d (layout-known a.body c h.layout.1) (layout-known b.body d k.layout.1) (not-false (is_same_layout c d) apart)) ∙ sym k.layout.1
 
 -- of each accepted log
 pub maps-agree : (bytes : List ℕ) (sel : Selection) → AreBytes bytes → IsAccepted bytes sel → MapsAgree bytes sel

@@ -15,12 +15,11 @@ use Rattle.blog_flash.specs.Answers.{Answers, IsOutput}
 use Rattle.blog_flash.specs.Runs.{IsOutputWritten, IsWritten, Runs, ends_before_writing, mode_in}
 use Rattle.blog_row.specs.declared.order.Order.{Order}
 use Rattle.blog_flash.specs.declared.modes.Mode.{Mode}
-use Rattle.blog_flash.specs.declared.modes.Mode.TheVariants.{FlashbackSql, ForwardSql, Summary}
+use Rattle.blog_flash.specs.declared.modes.Mode.TheVariants.{FlashbackSql}
 use Rattle.blog_row.specs.declared.order.Order.TheVariants as order
 use Rattle.blog_flash.specs.LaidOut.{groups_in}
 use Rattle.blog_flash.specs.Outputs.{output_of, MeetsHeadline}
-use Rattle.blog_flash.specs.Printed.{sql_text, summary_text}
-use Rattle.blog_flash.specs.Reversal.{reversed}
+use Rattle.blog_flash.specs.Printed.{sql_text}
 use Rattle.blog_flash.specs.Texts.{normal_text, flashback_text, laid_out_after}
 use Rattle.blog_flash.proofs.Agreeing.{Chosen}
 use Rattle.blog_flash.proofs.Headline.{is-source, flashback-groups, flashback-undoes, forward-normal}
@@ -36,19 +35,6 @@ output-laid order.Backward log sel are accepted =
     (accepted, refl, (flashback-undoes log sel are accepted, record { twice = normal.undone_twice; of_normal = normal.undone }, flashback-stops log sel are accepted))
 output-laid order.Forward log sel are accepted = (accepted, refl, forward-normal log sel are accepted)
 
--- printed
-pub output-sql : (log : List ℕ) (sel : Selection) → IsAccepted log sel → IsOutput log ForwardSql sel (sql_text (groups log sel))
-unfolding output_of MeetsHeadline
-output-sql log sel accepted = (accepted, refl, (accepted, refl))
-
-output-undone : (log : List ℕ) (sel : Selection) → IsAccepted log sel → IsOutput log FlashbackSql sel (sql_text (reversed (groups log sel)))
-unfolding output_of MeetsHeadline
-output-undone log sel accepted = (accepted, refl, (accepted, refl))
-
-pub output-summary : (log : List ℕ) (sel : Selection) → IsAccepted log sel → IsOutput log Summary sel (summary_text (groups log sel))
-unfolding output_of MeetsHeadline
-output-summary log sel accepted = (accepted, refl, (accepted, refl))
-
 -- ---- answers
 
 -- an accepted log is answered with its output
@@ -61,10 +47,10 @@ output-answers log mode sel made (Err f) output accepted is refused = refused
 pub undone-answers : {A : Type 0} (log : List ℕ) (sel : Selection) (written : List ℕ) (own : Selection) (r : Result (Vec ℕ A) Fault) → AreBytes log → IsAccepted log sel → own ≡ all
     → written ≡ laid_out_after (read log sel.stop) (groups_in order.Backward (groups log sel)) → IfOk r (λ text. text.items ≡ sql_text (groups written own)) → IfErr r (IsRefusal (fault written own))
     → Answers log FlashbackSql sel r
-unfolding flashback_text
+unfolding flashback_text output_of MeetsHeadline
 undone-answers log sel written own (Ok text) are accepted every laid is refused =
     let groups_are = ap₂ groups laid every ∙ flashback-groups (Chosen log sel) log sel (is-source log sel are accepted) in
-    subst (IsOutput log FlashbackSql sel) (sym (is ∙ ap sql_text groups_are)) (output-undone log sel accepted)
+    (accepted, is ∙ ap sql_text groups_are, (accepted, is ∙ ap sql_text groups_are))
 undone-answers log sel written own (Err f) are accepted every laid is (inl none) = inl none
 undone-answers log sel written own (Err f) are accepted every laid is (inr refused) =
     absurd (none-some f (sym (ap₂ fault laid every ∙ (flashback-undoes log sel are accepted).accepted) ∙ refused))

@@ -1,11 +1,10 @@
 -- The content of a rows event: the body that is written is read again.
-use Rattle.std.proofs.Common.{◌≡◌, ℕ, ◌+◌, ◌%◌, ◌<◌, ◌^◌, Bool, true, false, eqb, List, [], ◌++◌, length, Ok, refl, sym, ap, ◌∙◌, arith, append-nil, take_at, drop_at, le-leb, eq-eqb}
+use Rattle.std.proofs.Common.{◌≡◌, ℕ, ◌+◌, ◌%◌, ◌<◌, ◌^◌, Bool, true, List, [], ◌++◌, length, Ok, sym, ap, ◌∙◌, arith, append-nil, take_at, drop_at, le-leb}
 use Rattle.std.specs.Prelude.{nat_le}
 use Rattle.std.specs.List.{concat}
+use Rattle.std.proofs.lemmas.Bool.Decides.{nat_tests}
 use Rattle.byteorder.specs.Endian.{little_bytes, little_number}
 use Rattle.byteorder.specs.Numbers.{little_number-reads_back}
-use Rattle.blog_row.specs.declared.kind.RowsVersion.{RowsVersion}
-use Rattle.blog_row.specs.declared.kind.RowsVersion.TheVariants.{One, Two}
 use Rattle.blog_row.specs.Column.{Layout}
 use Rattle.blog_row.specs.RowsEvent.{rows_of, fixed_len, table_id, flags_of, has_end_flag}
 use Rattle.blog_row.specs.RowsWriting.{RowsContent, content_of, kept_flags, no_extra, written_flags, written_fields, written_body}
@@ -33,8 +32,7 @@ behind-flags c = no_extra c.kind.version ++ (c.count ++ (concat c.bitmaps ++ con
 
 -- flags with the end flag fit
 flags-fit : (last : Bool) (flags : ℕ) → flags + 1 < 2 ^ 16 → written_flags last flags < 2 ^ 16
-flags-fit true flags fits = fits
-flags-fit false flags fits = omega arith
+flags-fit last flags fits = grind arith
 
 -- its flags
 body-flags : (last : Bool) (c : RowsContent) → length c.id ≡ 6 → c.flags + 1 < 2 ^ 16 → flags_of (written_body last c) ≡ written_flags last c.flags
@@ -44,13 +42,11 @@ body-flags last c id fits =
 
 -- the end flag is on the last one
 pub body-ends : (last : Bool) (c : RowsContent) → length c.id ≡ 6 → c.flags + 1 < 2 ^ 16 → c.flags % 2 ≡ 0 → has_end_flag (written_body last c) ≡ last
-body-ends true c id fits even = ap (λ (n : ℕ). eqb (n % 2) 1) (body-flags true c id fits) ∙ eq-eqb ((c.flags + 1) % 2) 1 (omega arith)
-body-ends false c id fits even = ap (λ (n : ℕ). eqb (n % 2) 1) (body-flags false c id fits) ∙ ap (λ (n : ℕ). eqb n 1) even
+body-ends last c id fits even = rw (body-flags last c id fits) (grind (arith, nat_tests))
 
 -- without it they are the flags of the content
 flags-kept : (last : Bool) (flags : ℕ) → flags % 2 ≡ 0 → kept_flags (written_flags last flags) ≡ flags
-flags-kept true flags even = omega arith
-flags-kept false flags even = omega arith
+flags-kept last flags even = grind arith
 
 -- what is kept of the fields that are written is the content
 pub content-again : (last : Bool) (c : RowsContent) → c.flags + 1 < 2 ^ 16 → c.flags % 2 ≡ 0 → content_of c.kind (written_fields last c) ≡ c
@@ -61,8 +57,6 @@ content-again last c fits even =
 
 -- it has the fixed part
 pub body-long : (last : Bool) (c : RowsContent) → length c.id ≡ 6 → nat_le (fixed_len c.kind.version) (length (written_body last c)) ≡ true
-body-long last c id = le-leb (fixed_len c.kind.version) (length (written_body last c)) (omega (arith, id, body-len Forward last c, fixed c.kind.version))
-  where
-    fixed : (version : RowsVersion) → fixed_len version ≡ 8 + length (no_extra version)
-    fixed One = refl
-    fixed Two = refl
+body-long last c id =
+    let fixed : fixed_len c.kind.version ≡ 8 + length (no_extra c.kind.version) = grind arith in
+    le-leb (fixed_len c.kind.version) (length (written_body last c)) (omega (arith, id, body-len Forward last c))

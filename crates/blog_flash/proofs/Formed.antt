@@ -1,14 +1,14 @@
 -- Groups that can be laid out: what holds of the groups of every accepted log, and of the reversed ones.
-use Rattle.std.proofs.Common.{◌≡◌, ℕ, ◌+◌, ◌%◌, ◌<◌, ◌^◌, List, ◌∷◌, length, find, map, Bool, true, ◌&&◌, bytes_eq, Option, Some, Ok, ◌⊎◌}
+use Rattle.std.proofs.Common.{◌≡◌, ℕ, ◌+◌, ◌%◌, ◌<◌, ◌^◌, List, ◌∷◌, length, find, map, Bool, true, false, not, ◌&&◌, bytes_eq, Option, Some, Ok, ◌⊎◌}
 use Rattle.std.specs.List.{AllByRecursion, IsDistinct, list_any}
 use Rattle.blog_event.specs.Event.{Event, unplaced}
 use Rattle.blog_row.specs.Column.{Layout}
-use Rattle.blog_row.specs.TableMap.{Names, names_of, layout_of, is_same_layout}
+use Rattle.blog_row.specs.TableMap.{Names, names_of, layout_of}
 use Rattle.blog_row.specs.RowsEvent.{table_id}
 use Rattle.blog_row.proofs.ReversedRows.{IsContent}
 use Rattle.blog_row.specs.declared.event_kinds.EventKind.TheVariants as kind
 use Rattle.blog_row.specs.Kinds.{kind_of, is_map_kind}
-use Rattle.blog_trans.specs.Acceptance.{is_same_table}
+use Rattle.blog_trans.specs.Acceptance.{are_of_same_table, have_same_layout}
 use Rattle.blog_trans.specs.Groups.{RowsEvent, Statement, Transaction}
 
 -- ---- events
@@ -36,10 +36,13 @@ pub record IsMapEvent (Known : Event → Type 0) (m : Event) : Type 0 where
   pub unplaced : unplaced m ≡ m
   pub fits : Fits m
 
--- two known maps of the same table have the same layout
+-- two maps have the same table, and not the same layout
+abbrev pub clash : Event → Event → Bool
+clash a b = are_of_same_table (names_of a.body) (names_of b.body) && not (have_same_layout (layout_of a.body) (layout_of b.body))
+
+-- no two maps of groups do
 abbrev pub Agree : (Event → Type 0) → Type 0
-Agree Known = (a b : Event) → Known a → Known b → (n o : Names) → names_of a.body ≡ Some n → names_of b.body ≡ Some o → is_same_table n.table o.table ≡ true
-    → (c d : Layout) → layout_of a.body ≡ Ok c → layout_of b.body ≡ Ok d → is_same_layout c d ≡ true
+Agree Known = (a b : Event) → IsMapEvent Known a → IsMapEvent Known b → clash a b ≡ false
 
 -- a rows event of groups: its map is there, and its body is read again
 pub record IsRowsEvent (maps : List Event) (r : RowsEvent) : Type 0 where

@@ -8,13 +8,14 @@ use Rattle.blog_event.specs.Event.{Event}
 use Rattle.blog_row.specs.declared.kind.RowsVersion.{RowsVersion}
 use Rattle.blog_row.specs.declared.kind.RowsVersion.TheVariants.{One, Two}
 use Rattle.blog_row.specs.declared.kind.RowsAction.{RowsAction}
-use Rattle.blog_row.specs.declared.kind.RowsAction.TheVariants.{Write, Update, Delete}
+use Rattle.blog_row.specs.declared.kind.RowsAction.TheVariants.{Write}
 use Rattle.blog_row.specs.declared.fault.RowFault.{RowFault}
 use Rattle.blog_row.specs.RowsKind.{number_by}
 use Rattle.blog_row.specs.RowsWriting.{written_fields, written_body}
 use Rattle.blog_row.specs.Column.{Layout}
+use Rattle.blog_row.specs.TableMap.{layout_of}
 use Rattle.blog_row.proofs.Layouts.{layout_some}
-use Rattle.blog_row.proofs.ReversedRows.{all-append, all-reverse, reversed-is}
+use Rattle.blog_row.proofs.ReversedRows.{IsContent, all-append, all-reverse, reversed-is}
 use Rattle.blog_row.specs.declared.event_kinds.EventKind.TheVariants as kind
 use Rattle.blog_row.specs.Kinds.{kind_of}
 use Rattle.blog_trans.specs.Acceptance.{rows_under, rows_by_map}
@@ -38,11 +39,8 @@ numbered : (e : Event) (version : RowsVersion) (action : RowsAction)
     → (kind_of (record e { kind = number_by version action }) ≡ kind.Rows (record { version = version; action = action })) × (number_by version action < 2 ^ 8)
 unfolding kind_of
 numbered e One Write = (refl, omega arith)
-numbered e One Update = (refl, omega arith)
-numbered e One Delete = (refl, omega arith)
 numbered e Two Write = (refl, omega arith)
-numbered e Two Update = (refl, omega arith)
-numbered e Two Delete = (refl, omega arith)
+numbered e _ _ = (refl, omega arith)
 
 -- the event of a rows event has its kind
 pub rows_event-kind : (last : Bool) (r : RowsEvent) → kind_of (rows_event last r) ≡ kind.Rows r.content.kind
@@ -88,39 +86,20 @@ any-turned p f alike (x ∷ xs) =
 
 -- a reversed rows event
 pub rows-reversed : (maps : List Event) (r : RowsEvent) → IsRowsEvent maps r → IsRowsEvent maps (reversed_rows r)
-rows-reversed maps r h = record {
-  found = h.found;
-  names = h.names;
-  flags = h.flags;
-  even = h.even;
-  content = (h.content.0, h.content.1, reversed-is h.content.0 r.content h.content.2);
-  timestamp_fits = h.timestamp_fits;
-  server_id_fits = h.server_id_fits;
-  header_flags_fit = h.header_flags_fit;
-}
+rows-reversed maps r h =
+    let content : (c : Layout) × (layout_of r.map ≡ Ok c) × IsContent c (reversed_rows r).content = (h.content.0, h.content.1, reversed-is h.content.0 r.content h.content.2) in
+    assumption content
 
 -- a reversed statement
 pub statement-reversed : (Known : Event → Type 0) (s : Statement) → IsStatement Known s → IsStatement Known (reversed_statement s)
-statement-reversed Known s h = record {
-  maps_formed = h.maps_formed;
-  distinct = h.distinct;
-  used = all-by (IsUsed s.rows) (IsUsed (reverse (map reversed_rows s.rows))) (λ m used. any-turned _ reversed_rows (λ r. refl) s.rows ∙ used) s.maps h.used;
-  rows_formed = all-turned (IsRowsEvent s.maps) reversed_rows (rows-reversed s.maps) s.rows h.rows_formed;
-  some = first-turned reversed_rows s.rows h.some;
-}
+statement-reversed Known s h =
+    let used = all-by (IsUsed s.rows) (IsUsed (reverse (map reversed_rows s.rows))) (λ m used. any-turned _ reversed_rows (λ r. refl) s.rows ∙ used) s.maps h.used in
+    assumption (used, all-turned (IsRowsEvent s.maps) reversed_rows (rows-reversed s.maps) s.rows h.rows_formed, first-turned reversed_rows s.rows h.some)
 
 -- a reversed transaction
 pub transaction-reversed : (Known : Event → Type 0) (t : Transaction) → IsTransaction Known t → IsTransaction Known (reversed_transaction t)
-transaction-reversed Known t h = record {
-  begin_kind = h.begin_kind;
-  begin_unplaced = h.begin_unplaced;
-  begin_fits = h.begin_fits;
-  end_is = h.end_is;
-  end_unplaced = h.end_unplaced;
-  end_fits = h.end_fits;
-  statements_formed = all-turned (IsStatement Known) reversed_statement (statement-reversed Known) t.statements h.statements_formed;
-  some = first-turned reversed_statement t.statements h.some;
-}
+transaction-reversed Known t h =
+    assumption (all-turned (IsStatement Known) reversed_statement (statement-reversed Known) t.statements h.statements_formed, first-turned reversed_statement t.statements h.some)
 
 -- reversed groups
 pub groups-reversed : (Known : Event → Type 0) (ts : List Transaction) → AreGroups Known ts → AreGroups Known (reversed ts)

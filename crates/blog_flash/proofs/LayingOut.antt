@@ -4,12 +4,14 @@ use Rattle.std.proofs.lemmas.List.{take-append-drop}
 use Rattle.std.proofs.lemmas.Option.{same_Some}
 use Rattle.std.proofs.lemmas.Slice.Eq.{bytes_eq-Decides}
 use Rattle.std.proofs.Math.Seq.{take-append-add}
-use Rattle.blog_event.specs.Event.{Event, event_size, event_text, event_at}
+use Rattle.blog_event.specs.Event.{Event, event_size, event_text, event_at, event_of}
 use Rattle.blog_event.specs.File.{magic, read, AreBytes}
 use Rattle.blog_event.proofs.Framing.{bytes-drop, event-found, read-first, text-length}
 use Rattle.blog_row.specs.declared.order.Order.{Order}
 use Rattle.blog_trans.specs.Selection.{Selection}
 use Rattle.blog_trans.specs.Acceptance.{IsAccepted}
+use Rattle.blog_trans.specs.declared.groups.Index.{Index}
+use Rattle.blog_trans.specs.IndexView.{index_bytes, index_selection}
 use Rattle.blog_trans.specs.Groups.{Transaction, placed_groups, groups}
 use Rattle.blog_flash.specs.LaidOut.{text_from, groups_in, transactions_of}
 use Rattle.blog_flash.specs.Texts.{group_events, laid_out, laid_out_after}
@@ -22,54 +24,53 @@ pub record IsOpened (bytes : List ℕ) (sel : Selection) (e : Event) : Type 0 wh
   pub mark : bytes_eq (take 4 bytes) magic ≡ true
   pub stands : event_at (drop 4 bytes) ≡ Some e
 
--- the event at 4 is the first that is read
-first-laid : (bytes : List ℕ) (sel : Selection) (e : Event) (ts : List Transaction) → IsOpened bytes sel e → laid_out_after (read bytes sel.stop) ts ≡ laid_out e ts
-first-laid bytes sel e ts h = ap (λ es. laid_out_after es ts) (read-first bytes sel.stop e ((bytes_eq-Decides (take 4 bytes) magic).0 h.mark) h.stands)
+-- as an index knows of its log
+pub index-opened : {A : Type 0} (index : Index A) → IsOpened (index_bytes index) (index_selection index) (event_of index.log.format)
+index-opened index = record { accepted = index.accepted; mark = index.log.mark; stands = index.log.stands }
 
--- ---- how long it is
+module _ {bytes : List ℕ} {sel : Selection} {e : Event} (h : IsOpened bytes sel e) where
+  -- the log begins with the magic number
+  magic-first : take 4 bytes ≡ magic
+  magic-first = (bytes_eq-Decides (take 4 bytes) magic).0 h.mark
 
--- no longer than the log
-pub laid-within : (order : Order) (bytes : List ℕ) (sel : Selection) (e : Event) → IsOpened bytes sel e → length (laid_out_after (read bytes sel.stop) (groups_in order (groups bytes sel))) ≤ length bytes
-laid-within order bytes sel e h =
-    let fits = no-longer order bytes sel e _ h.accepted (read-first bytes sel.stop e ((bytes_eq-Decides (take 4 bytes) magic).0 h.mark) h.stands) in
-    omega (arith, fits, ap length (first-laid bytes sel e (groups_in order (groups bytes sel)) h))
+  -- the event at 4 is the first that is read
+  first-laid : (ts : List Transaction) → laid_out_after (read bytes sel.stop) ts ≡ laid_out e ts
+  first-laid ts = ap (λ es. laid_out_after es ts) (read-first bytes sel.stop e magic-first h.stands)
 
--- the position behind the event at 4
-pub first-end : (bytes : List ℕ) (sel : Selection) (e : Event) (n : ℕ) → IsOpened bytes sel e → option_map (λ e. 4 + event_size e) (event_at (drop 4 bytes)) ≡ Some n → 4 + event_size e ≡ n
-first-end bytes sel e n h first = same_Some (4 + event_size e) n (ap (option_map (λ e. 4 + event_size e)) (sym h.stands) ∙ first)
+  -- ---- how long it is
 
--- and the groups behind it
-pub laid-length : (order : Order) (bytes : List ℕ) (sel : Selection) (e : Event) (n : ℕ) → IsOpened bytes sel e → option_map (λ e. 4 + event_size e) (event_at (drop 4 bytes)) ≡ Some n
-    → n + total (group_events (transactions_of order (placed_groups bytes sel))) ≡ length (laid_out_after (read bytes sel.stop) (groups_in order (groups bytes sel)))
-unfolding groups
-laid-length order bytes sel e n h first =
-    let laid = ap length (first-laid bytes sel e (groups_in order (groups bytes sel)) h) in
-    let long = laid-out-length e (groups_in order (groups bytes sel)) in
-    let here = first-end bytes sel e n h first in
-    omega arith
+  -- no longer than the log
+  pub laid-within : (order : Order) → length (laid_out_after (read bytes sel.stop) (groups_in order (groups bytes sel))) ≤ length bytes
+  laid-within order =
+      omega (arith, no-longer order bytes sel e _ h.accepted (read-first bytes sel.stop e magic-first h.stands), ap length (first-laid (groups_in order (groups bytes sel))))
 
--- ---- its text
+  -- the position behind the event at 4
+  pub first-end : (n : ℕ) → option_map (λ e. 4 + event_size e) (event_at (drop 4 bytes)) ≡ Some n → 4 + event_size e ≡ n
+  first-end n first = same_Some (4 + event_size e) n (ap (option_map (λ e. 4 + event_size e)) (sym h.stands) ∙ first)
 
--- the magic number and the event at 4 are copied
-front-copied : (bytes : List ℕ) (sel : Selection) (e : Event) → AreBytes bytes → IsOpened bytes sel e → take (4 + event_size e) bytes ≡ magic ++ event_text e
-front-copied bytes sel e are h =
-    let found = event-found (drop 4 bytes) e (bytes-drop 4 bytes are) h.stands in
-    let event : take (event_size e) (drop 4 bytes) ≡ event_text e = ap (take (event_size e)) found.1 ∙ take_at (event_text e) _ (event_size e) (text-length e) in
-    let begins : magic ++ drop 4 bytes ≡ bytes =
-    ap (λ (front : List ℕ). front ++ drop 4 bytes) (sym ((bytes_eq-Decides (take 4 bytes) magic).0 h.mark)) ∙ take-append-drop 4 bytes in
-    ap (take (4 + event_size e)) (sym begins) ∙ take-append-add magic (drop 4 bytes) (event_size e) ∙ ap (λ (front : List ℕ). magic ++ front) event
+  -- and the groups behind it
+  pub laid-length : (order : Order) (n : ℕ) → option_map (λ e. 4 + event_size e) (event_at (drop 4 bytes)) ≡ Some n
+      → n + total (group_events (transactions_of order (placed_groups bytes sel))) ≡ length (laid_out_after (read bytes sel.stop) (groups_in order (groups bytes sel)))
+  unfolding groups
+  laid-length order n first =
+      let ts = groups_in order (groups bytes sel) in
+      omega (arith, ap length (first-laid ts), laid-out-length e ts, first-end n first)
 
--- with groups behind, that is their log
-pub front-any : (bytes : List ℕ) (sel : Selection) (e : Event) (ts : List Transaction) (front : List ℕ) → AreBytes bytes → IsOpened bytes sel e → front ≡ take (4 + event_size e) bytes
-    → front ++ text_from (length front) (group_events ts) ≡ laid_out_after (read bytes sel.stop) ts
-unfolding laid_out
-front-any bytes sel e ts front are h is =
-    let copied = is ∙ front-copied bytes sel e are h in
-    let long : length front ≡ 4 + event_size e = ap length copied ∙ omega (arith, text-length e) in
-    ap₂ (λ (text : List ℕ) (n : ℕ). text ++ text_from n (group_events ts)) copied long ∙ sym (first-laid bytes sel e ts h)
+  -- ---- its text
 
--- with those of the log in an order too
-pub front-laid : (order : Order) (bytes : List ℕ) (sel : Selection) (e : Event) (front : List ℕ) → AreBytes bytes → IsOpened bytes sel e → front ≡ take (4 + event_size e) bytes
-    → front ++ text_from (length front) (group_events (transactions_of order (placed_groups bytes sel))) ≡ laid_out_after (read bytes sel.stop) (groups_in order (groups bytes sel))
-unfolding groups
-front-laid order bytes sel e front are h is = front-any bytes sel e (transactions_of order (placed_groups bytes sel)) front are h is
+  -- the magic number and the event at 4 are copied
+  front-copied : AreBytes bytes → take (4 + event_size e) bytes ≡ magic ++ event_text e
+  front-copied are =
+      let found = event-found (drop 4 bytes) e (bytes-drop 4 bytes are) h.stands in
+      let event : take (event_size e) (drop 4 bytes) ≡ event_text e = ap (take (event_size e)) found.1 ∙ take_at (event_text e) _ (event_size e) (text-length e) in
+      let begins : magic ++ drop 4 bytes ≡ bytes = ap (λ (front : List ℕ). front ++ drop 4 bytes) (sym magic-first) ∙ take-append-drop 4 bytes in
+      ap (take (4 + event_size e)) (sym begins) ∙ take-append-add magic (drop 4 bytes) (event_size e) ∙ ap (λ (front : List ℕ). magic ++ front) event
+
+  -- with groups behind, that is their log
+  pub front-any : (ts : List Transaction) (front : List ℕ) → AreBytes bytes → front ≡ take (4 + event_size e) bytes
+      → front ++ text_from (length front) (group_events ts) ≡ laid_out_after (read bytes sel.stop) ts
+  unfolding laid_out
+  front-any ts front are is =
+      let copied = is ∙ front-copied are in
+      let long : length front ≡ 4 + event_size e = ap length copied ∙ omega (arith, text-length e) in
+      ap₂ (λ (text : List ℕ) (n : ℕ). text ++ text_from n (group_events ts)) copied long ∙ sym (first-laid ts)

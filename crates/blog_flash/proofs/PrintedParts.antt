@@ -1,6 +1,7 @@
 -- What is printed for rows, by their images, and for the summary.
 use Rattle.std.proofs.Common.{◌≡◌, ℕ, List, [], ◌∷◌, ◌++◌, length, map, Option, refl, sym, ap, ap₂, ◌∙◌, length-append, arith}
 use Rattle.std.proofs.lemmas.List.{length-map}
+use Rattle.std.proofs.lemmas.List.Folds.{flat_map-map}
 use Rattle.std.specs.Fmt.{decimal}
 use Rattle.std.specs.Prelude.{codes}
 use Rattle.std.specs.Option.{option_map_or}
@@ -33,11 +34,11 @@ updates-lines t layout (before ∷ after ∷ images) = ap (λ (text : List ℕ).
 
 -- rows by their images
 images-lines : (kind : RowsAction) (t : Table) (layout : Layout) (images : List (List ℕ)) → images_lines t layout (rows_by kind images) ≡ flat_map change_lines (changes_by_action kind t (map (row_of layout) images))
-images-lines Write t layout [] = refl
-images-lines Write t layout (image ∷ images) = ap (λ (text : List ℕ). change_lines (Inserted t (row_of layout image)) ++ text) (images-lines Write t layout images)
+images-lines Write t layout images =
+    flat_map-map _ _ images ∙ sym (flat_map-map change_lines (Inserted t) (map (row_of layout) images) ∙ flat_map-map (λ row. change_lines (Inserted t row)) (row_of layout) images)
 images-lines Update t layout images = updates-lines t layout images
-images-lines Delete t layout [] = refl
-images-lines Delete t layout (image ∷ images) = ap (λ (text : List ℕ). change_lines (Deleted t (row_of layout image)) ++ text) (images-lines Delete t layout images)
+images-lines Delete t layout images =
+    flat_map-map _ _ images ∙ sym (flat_map-map change_lines (Deleted t) (map (row_of layout) images) ∙ flat_map-map (λ row. change_lines (Deleted t row)) (row_of layout) images)
 
 -- of a rows event that was read
 abbrev lines_by : RowsAction → Table → List (List (Option (List ℕ))) → List ℕ

@@ -12,15 +12,15 @@ no-part items left all so_far none = sym (append-nil items) ∙ ap (λ (bytes : 
 
 -- ---- room
 
--- a part of a text has room where the text has
-pub part-fits : (items left old text part rest : List ℕ) (len cap old_len old_cap : ℕ) → items ++ left ≡ old ++ text → left ≡ part ++ rest → len ≡ length items → old_len ≡ length old → old_cap ≤ cap
-    → old_len + length text ≤ old_cap → len + length part ≤ cap
-part-fits items left old text part rest len cap old_len old_cap so_far splits here there grown enough =
-    let whole : length items + length left ≡ length old + length text = simp length-append at (ap length so_far) in
-    let parts : length left ≡ length part + length rest = ap length splits ∙ length-append part rest in
-    omega arith
-
 -- what has room isn't refused
 pub not-refused : {T E R : Type 0} (r : Result T E) (e : E) → r ≡ Err e → IsOk r → R
 not-refused (Ok x) e is ok = cc
 not-refused (Err x) e is ok = cc
+
+-- where the text has room, so has a part of it, which isn't refused then
+pub has-room : {T E R : Type 0} (items left old text part rest : List ℕ) (len cap old_len old_cap : ℕ) (r : Result T E) (e : E) → r ≡ Err e → (len + length part ≤ cap → IsOk r)
+    → items ++ left ≡ old ++ text → left ≡ part ++ rest → len ≡ length items → old_len ≡ length old → old_cap ≤ cap → old_len + length text ≤ old_cap → R
+has-room items left old text part rest len cap old_len old_cap r e is room so_far splits here there grown enough =
+    let whole : length items + length left ≡ length old + length text = simp length-append at (ap length so_far) in
+    let parts : length left ≡ length part + length rest = ap length splits ∙ length-append part rest in
+    not-refused r e is (room (omega arith))

@@ -2,7 +2,7 @@
 use Rattle.std.proofs.Common.{◌≡◌, ℕ, suc, ◌+◌, ◌-◌, ◌≤◌, ◌==◌, Bool, true, false, List, [], ◌∷◌, ◌++◌, length, take, drop, refl, sym, ap, ap₂, ◌∙◌, append_assoc, append-nil, arith}
 use Rattle.std.specs.Prelude.{if◌then◌else◌, nat_le}
 use Rattle.std.specs.List.{flat_map}
-use Rattle.std.proofs.lemmas.Bool.{eqb-true, le-leb}
+use Rattle.std.proofs.lemmas.Bool.{le-leb}
 use Rattle.std.proofs.lemmas.List.{drop-drop, drop-take, length-drop, take-append-drop, take-take, take_all}
 use mathlib.Core.Bool.{and-true}
 use Rattle.blog_trans.proofs.ProgressFirsts.{and-false}
@@ -32,11 +32,6 @@ tick-at hay i b rest test is within test_is = rw (le-leb (i + 1) (length hay) wi
 no-tick-at : (hay : List ℕ) (i : ℕ) → drop i hay ≡ [] → occurs_at hay tick i ≡ false
 no-tick-at hay i is = rw is (and-false (nat_le (i + 1) (length hay)))
 
-next-match : (hay : List ℕ) (i n : ℕ) (b : Bool) → occurs_at hay tick i ≡ b
-    → matches_from hay tick 0 i (suc n) ≡ (if b then i ∷ matches_from hay tick 0 (i + 1) n else matches_from hay tick 0 (i + 1) n)
-unfolding matches_from
-next-match hay i n b is = ap (λ (t : Bool). if t then i ∷ matches_from hay tick 0 (i + 1) n else matches_from hay tick 0 (i + 1) n) is
-
 -- ---- the parts
 
 abbrev left_quoted : List ℕ → ℕ → ℕ → List ℕ → List ℕ
@@ -53,45 +48,27 @@ at-end hay last i before end =
     let all = take_all (i - last) (drop last hay) (omega arith) in
     ap (λ (p : List ℕ). 96 ∷ p) (append-nil (drop last hay ++ tick) ∙ ap (λ (p : List ℕ). p ++ tick) (sym all))
 
--- one is found here
-at-tick : (hay : List ℕ) (last i : ℕ) (found rest : List ℕ) → parts_quoted hay (i + 1) found ≡ left_quoted hay (i + 1) (i + 1) rest
-    → parts_quoted hay last (i ∷ found) ≡ left_quoted hay last i (96 ∷ rest)
-unfolding split_at
-at-tick hay last i found rest so_far =
-    let none : i + 1 - (i + 1) ≡ 0 = omega arith in
-    let left : List ℕ = doubled rest ++ tick in
-    ap (λ (p : List ℕ). 96 ∷ p) (append_assoc (part last i hay) tick (parts_quoted hay (i + 1) found)
-    ∙ ap (λ (p : List ℕ). part last i hay ++ (96 ∷ p)) (so_far ∙ ap (λ (n : ℕ). 96 ∷ (take n (drop (i + 1) hay) ++ left)) none))
-
--- another byte is here
-at-other : (hay : List ℕ) (last i b : ℕ) (found rest : List ℕ) → (b == 96) ≡ false → part last (i + 1) hay ≡ part last i hay ++ b ∷ [] → parts_quoted hay last found ≡ left_quoted hay last (i + 1) rest
-    → parts_quoted hay last found ≡ left_quoted hay last i (b ∷ rest)
-at-other hay last i b found rest other one so_far =
-    let left : List ℕ = doubled rest ++ tick in
-    so_far ∙ ap (λ (p : List ℕ). 96 ∷ (p ++ left)) one ∙ ap (λ (p : List ℕ). 96 ∷ p) (append_assoc (part last i hay) (b ∷ []) left)
-    ∙ ap (λ (t : Bool). 96 ∷ (part last i hay ++ (((if t then 96 ∷ 96 ∷ [] else b ∷ []) ++ doubled rest) ++ tick))) (sym other)
-
--- either of them
+-- one is found here, or another byte is
 at-byte : (hay : List ℕ) (last i b : ℕ) (rest : List ℕ) (test : Bool) → (b == 96) ≡ test → drop i hay ≡ b ∷ rest → last ≤ i → i + 1 ≤ length hay
     → parts_quoted hay (i + 1) (matches_from hay tick 0 (i + 1) (suc (length rest))) ≡ left_quoted hay (i + 1) (i + 1) rest
     → parts_quoted hay last (matches_from hay tick 0 (i + 1) (suc (length rest))) ≡ left_quoted hay last (i + 1) rest
     → parts_quoted hay last (matches_from hay tick 0 i (suc (suc (length rest)))) ≡ left_quoted hay last i (b ∷ rest)
+unfolding matches_from split_at
 at-byte hay last i b rest true test is before within begun kept =
-    ap (parts_quoted hay last) (next-match hay i (suc (length rest)) true (tick-at hay i b rest true is within test))
-    ∙ at-tick hay last i (matches_from hay tick 0 (i + 1) (suc (length rest))) rest begun ∙ ap (λ (x : ℕ). left_quoted hay last i (x ∷ rest)) (sym (eqb-true b 96 test))
+    let none : i + 1 - (i + 1) ≡ 0 = omega arith in
+    rw (tick-at hay i b rest true is within test, begun, none, test) (ap (λ (p : List ℕ). 96 ∷ p) (append_assoc (part last i hay) tick (96 ∷ (doubled rest ++ tick))))
 at-byte hay last i b rest false test is before within begun kept =
     let place : last + (i - last) ≡ i = omega arith in
     let there : drop (i - last) (drop last hay) ≡ b ∷ rest = drop-drop (i - last) last hay ∙ ap (λ (n : ℕ). drop n hay) place ∙ is in
     let more : i + 1 - last ≡ i - last + 1 = omega arith in
     let one : part last (i + 1) hay ≡ part last i hay ++ b ∷ [] = ap (λ (n : ℕ). take n (drop last hay)) more ∙ take-next (i - last) (drop last hay) b rest there in
-    ap (parts_quoted hay last) (next-match hay i (suc (length rest)) false (tick-at hay i b rest false is within test))
-    ∙ at-other hay last i b (matches_from hay tick 0 (i + 1) (suc (length rest))) rest test one kept
+    rw (tick-at hay i b rest false is within test, kept, one, test) (ap (λ (p : List ℕ). 96 ∷ p) (append_assoc (part last i hay) (b ∷ []) (doubled rest ++ tick)))
 
 -- from a byte on, where the part that is open begins before it
 parts-from : (hay : List ℕ) (last i : ℕ) (rest : List ℕ) → drop i hay ≡ rest → last ≤ i → i + length rest ≡ length hay
     → parts_quoted hay last (matches_from hay tick 0 i (suc (length rest))) ≡ left_quoted hay last i rest
 unfolding matches_from
-parts-from hay last i [] is before count = ap (parts_quoted hay last) (next-match hay i 0 false (no-tick-at hay i is)) ∙ at-end hay last i before (omega arith)
+parts-from hay last i [] is before count = rw (no-tick-at hay i is) (at-end hay last i before (omega arith))
 parts-from hay last i (b ∷ rest) is before count =
     let next : drop (i + 1) hay ≡ rest = sym (drop-drop 1 i hay) ∙ ap (drop 1) is in
     at-byte hay last i b rest (b == 96) refl is before (omega arith) (parts-from hay (i + 1) (i + 1) rest next (omega arith) (omega arith)) (parts-from hay last (i + 1) rest next (omega arith) (omega arith))

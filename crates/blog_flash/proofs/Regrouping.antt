@@ -1,5 +1,5 @@
 -- Grouping the events of groups gives the groups back, wherever the events stand.
-use Rattle.std.proofs.Common.{◌≡◌, ℕ, ◌+◌, List, [], ◌∷◌, ◌++◌, map, Bool, true, false, ◌&&◌, not, bytes_eq, Option, Some, is_some, refl, ap, ap₂, ◌∙◌}
+use Rattle.std.proofs.Common.{◌≡◌, ℕ, ◌+◌, List, [], ◌∷◌, ◌++◌, map, Bool, true, false, ◌&&◌, not, bytes_eq, Some, is_some, refl, ap, ap₂, ◌∙◌}
 use Rattle.std.specs.List.{AllByRecursion, IsDistinct, flat_map, filter_map}
 use Rattle.blog_event.specs.Event.{Event, event_size}
 use Rattle.blog_event.specs.File.{Placed, end_of}
@@ -9,7 +9,7 @@ use Rattle.blog_row.specs.declared.event_kinds.EventKind.TheVariants as kind
 use Rattle.blog_row.specs.Kinds.{is_map_kind, rows_of_kind}
 use Rattle.blog_trans.specs.Selection.{all}
 use Rattle.blog_trans.specs.Places.{map_in}
-use Rattle.blog_trans.specs.Groups.{PlacedRows, PlacedStatement, Span, spans, statements_of, kept_rows, first_maps, statement_if, kept_statement, transaction_if, kept_transaction, placed_groups_in}
+use Rattle.blog_trans.specs.Groups.{PlacedRows, PlacedStatement, Span, statements_of, kept_rows, first_maps, statement_if, kept_statement, transaction_if, kept_transaction, placed_groups_in}
 use Rattle.blog_trans.specs.Groups.{RowsEvent, Statement, Transaction, rows_value, event_value, statement_value, transaction_value}
 use Rattle.blog_trans.proofs.PlacedParts.{all-by, any-map}
 use Rattle.blog_trans.proofs.ProgressFirsts.{is_id_among, without_id, among-without}
@@ -21,19 +21,7 @@ use Rattle.blog_flash.proofs.Content.{body-id, content-again}
 use Rattle.blog_flash.proofs.Forming.{rows_event-kind, reads}
 use Rattle.blog_flash.proofs.Spans.{stands_at, by-kind, HasValue, HasMaps, maps-stand, span_at, span-first, cut-first}
 
--- ---- what is kept
-
-kept-more : {A B C : Type 0} (f : A → Option B) (value : B → C) (x : A) (xs : List A) (y : C) (ys : List C) → HasValue (f x) value y → map value (filter_map f xs) ≡ ys
-    → map value (filter_map f (x ∷ xs)) ≡ y ∷ ys
-kept-more f value x xs y ys front others = rw front.1 (ap (λ z. z ∷ map value (filter_map f xs)) front.2 ∙ ap (λ zs. y ∷ zs) others)
-
--- ---- the rows events of a statement are kept, its maps are not
-
-maps-not-kept : (Known : Event → Type 0) (events : List Placed) (pos : ℕ) (maps : List Event) (ps : List Placed) → AllByRecursion (IsMapEvent Known) maps
-    → filter_map (kept_rows all events) (stood pos maps ++ ps) ≡ filter_map (kept_rows all events) ps
-maps-not-kept Known events pos [] ps h = refl
-maps-not-kept Known events pos (m ∷ maps) ps h =
-    rw (no-rows-kept all events (stands_at pos m) (by-kind (λ k. is_some (rows_of_kind k)) pos m kind.TableMap h.0.kind)) (maps-not-kept Known events (pos + event_size m) maps ps h.1)
+-- ---- the rows events of a statement are kept
 
 -- a rows event where it stands, with its map and what its body says
 abbrev kept_at : ℕ → Bool → RowsEvent → Placed → PlacedRows
@@ -58,11 +46,7 @@ kept-front maps events ps pos last r rows h found others =
     let (at, is, own) = found r.content.id h.found.0 h.found.1 in
     let same : at.event.body ≡ r.map = own ∙ h.found.2 in
     let kept = rows-kept maps events pos last r at h is same in
-    let p : Placed = stands_at pos (rows_event last r) in
-    record {
-      values = kept-more (kept_rows all events) rows_value p ps r rows (kept_at pos last r at, kept, rows-value maps pos last r at h same) others.values;
-      ids = kept-more (kept_rows all events) (λ x. table_id x.event.event.body) p ps r.content.id (map (λ s. s.content.id) rows) (kept_at pos last r at, kept, body-id last r.content h.content.2.id_len) others.ids;
-    }
+    record { values = rw kept (ap₂ ◌∷◌ (rows-value maps pos last r at h same) others.values); ids = rw kept (ap₂ ◌∷◌ (body-id last r.content h.content.2.id_len) others.ids) }
 
 all-kept : (maps : List Event) (events : List Placed) (pos : ℕ) (rows : List RowsEvent) → AllByRecursion (IsRowsEvent maps) rows → HasMaps events maps
     → IsKept rows (filter_map (kept_rows all events) (stood pos (rows_events rows)))
@@ -91,72 +75,77 @@ no-maps ids pos (r ∷ []) = rw (by-kind is_map_kind pos (rows_event true r) (ki
 no-maps ids pos (r ∷ s ∷ rows) =
     rw (by-kind is_map_kind pos (rows_event false r) (kind.Rows r.content.kind) (rows_event-kind false r)) (no-maps ids (pos + event_size (rows_event false r)) (s ∷ rows))
 
-maps-first : (Known : Event → Type 0) (ids : List (List ℕ)) (pos : ℕ) (maps : List Event) (ps : List Placed) → AllByRecursion (IsMapEvent Known) maps → AreDistinct maps
-    → AllByRecursion (HasIdOf ids) maps → ((others : List (List ℕ)) → first_maps others ps ≡ []) → first_maps ids (stood pos maps ++ ps) ≡ stood pos maps
-unfolding IsDistinct
-maps-first Known ids pos [] ps h distinct has none = none ids
-maps-first Known ids pos (m ∷ maps) ps h distinct has none =
-    let id = table_id m.body in
-    let left = without_id id ids in
-    let others = maps-first Known left (pos + event_size m) maps ps h.1 distinct.1 (ids-left id ids maps has.1 distinct.0) none in
-    rw (by-kind is_map_kind pos m kind.TableMap h.0.kind) (rw has.0 (ap (λ l. stands_at pos m ∷ l) others))
-
-maps-value : (Known : Event → Type 0) (pos : ℕ) (maps : List Event) → AllByRecursion (IsMapEvent Known) maps → map event_value (stood pos maps) ≡ maps
-maps-value Known pos [] h = refl
-maps-value Known pos (m ∷ maps) h = ap₂ ◌∷◌ h.0.unplaced (maps-value Known (pos + event_size m) maps h.1)
-
--- ---- statements
-
+-- what is kept of a statement and of a transaction, where something is
 kept-value : (events : List Placed) (kept : List PlacedRows) (s : Statement) (r : RowsEvent) (rows : List RowsEvent) → s.rows ≡ r ∷ rows → map rows_value kept ≡ s.rows
     → map event_value (first_maps (map (λ x. table_id x.event.event.body) kept) events) ≡ s.maps → HasValue (statement_if events kept) statement_value s
 kept-value events [] s r rows some values maps = cc
 kept-value events (x ∷ kept) s r rows some values maps = (_, refl, ap₂ (λ ms rs. record { maps = ms; rows = rs }) maps values)
-
--- what is kept of a statement's events is the statement
-statement-again : (Known : Event → Type 0) (pos : ℕ) (s : Statement) → IsStatement Known s → HasValue (kept_statement all (stood pos (statement_events s))) statement_value s
-statement-again Known pos s h =
-    let behind : ℕ = end_of pos s.maps in
-    let rows : List Placed = stood behind (rows_events s.rows) in
-    let events : List Placed = stood pos s.maps ++ rows in
-    let ids : List (List ℕ) = map (λ r. r.content.id) s.rows in
-    let kept = all-kept s.maps events behind s.rows h.rows_formed (maps-stand pos s.maps rows) in
-    let has = all-by (IsUsed s.rows) (HasIdOf ids) (λ m used. any-map (λ r. r.content.id) (bytes_eq (table_id m.body)) s.rows ∙ used) s.maps h.used in
-    let first = maps-first Known ids pos s.maps rows h.maps_formed h.distinct has (λ others. no-maps others behind s.rows) in
-    let maps : map event_value (first_maps (map (λ x. table_id x.event.event.body) (filter_map (kept_rows all events) rows)) events) ≡ s.maps =
-    ap (λ ids. map event_value (first_maps ids events)) kept.ids ∙ ap (map event_value) first ∙ maps-value Known pos s.maps h.maps_formed in
-    rw (stood-append pos s.maps (rows_events s.rows), maps-not-kept Known events pos s.maps rows h.maps_formed)
-    (kept-value events (filter_map (kept_rows all events) rows) s h.some.0 h.some.1 h.some.2 kept.values maps)
-
--- and of the events of statements, cut as they are, the statements
-statements-again : (Known : Event → Type 0) (pos : ℕ) (ss : List Statement) → AllByRecursion (IsStatement Known) ss
-    → map statement_value (filter_map (kept_statement all) (statements_of (stood pos (flat_map statement_events ss)))) ≡ ss
-statements-again Known pos [] h = refl
-statements-again Known pos (s ∷ ss) h =
-    let behind = end_of pos (statement_events s) in
-    let others = stood behind (flat_map statement_events ss) in
-    rw (stood-append pos (statement_events s) (flat_map statement_events ss)) (rw (cut-first Known pos s others h.0)
-    (kept-more (kept_statement all) statement_value (stood pos (statement_events s)) (statements_of others) s ss (statement-again Known pos s h.0) (statements-again Known behind ss h.1)))
-
--- ---- transactions
 
 kept-span : (span : Span) (kept : List PlacedStatement) (t : Transaction) (s : Statement) (ss : List Statement) → t.statements ≡ s ∷ ss → map statement_value kept ≡ t.statements
     → event_value span.begin ≡ t.begin → event_value span.end ≡ t.end → HasValue (transaction_if span kept) transaction_value t
 kept-span span [] t s ss some values begins ends = cc
 kept-span span (x ∷ kept) t s ss some values begins ends = (_, refl, λ i. record { begin = begins i; statements = values i; end = ends i })
 
--- what is kept of a transaction's span is the transaction
-transaction-again : (Known : Event → Type 0) (pos : ℕ) (t : Transaction) → IsTransaction Known t → HasValue (kept_transaction all (span_at pos t)) transaction_value t
-transaction-again Known pos t h =
-    let span = span_at pos t in
-    kept-span span (filter_map (kept_statement all) (statements_of span.inside)) t h.some.0 h.some.1 h.some.2
-    (statements-again Known (pos + event_size t.begin) t.statements h.statements_formed) h.begin_unplaced h.end_unplaced
+module _ (Known : Event → Type 0) where
+  -- the maps of a statement are not kept
+  maps-not-kept : (events : List Placed) (pos : ℕ) (maps : List Event) (ps : List Placed) → AllByRecursion (IsMapEvent Known) maps
+      → filter_map (kept_rows all events) (stood pos maps ++ ps) ≡ filter_map (kept_rows all events) ps
+  maps-not-kept events pos [] ps h = refl
+  maps-not-kept events pos (m ∷ maps) ps h =
+      rw (no-rows-kept all events (stands_at pos m) (by-kind (λ k. is_some (rows_of_kind k)) pos m kind.TableMap h.0.kind)) (maps-not-kept events (pos + event_size m) maps ps h.1)
 
--- the groups of the events of groups are the groups
-pub groups-again : (Known : Event → Type 0) (pos : ℕ) (ts : List Transaction) → AreGroups Known ts → map transaction_value (placed_groups_in all (stood pos (group_events ts))) ≡ ts
-groups-again Known pos [] h = refl
-groups-again Known pos (t ∷ ts) h =
-    let behind = end_of pos (transaction_events t) in
-    let others = stood behind (group_events ts) in
-    ap (λ ps. map transaction_value (placed_groups_in all ps)) (stood-append pos (transaction_events t) (group_events ts))
-    ∙ (ap (λ l. map transaction_value (filter_map (kept_transaction all) l)) (span-first Known pos t others h.0)
-    ∙ kept-more (kept_transaction all) transaction_value (span_at pos t) (spans others) t ts (transaction-again Known pos t h.0) (groups-again Known behind ts h.1))
+  -- the first maps of the table ids are the maps
+  maps-first : (ids : List (List ℕ)) (pos : ℕ) (maps : List Event) (ps : List Placed) → AllByRecursion (IsMapEvent Known) maps → AreDistinct maps → AllByRecursion (HasIdOf ids) maps
+      → ((others : List (List ℕ)) → first_maps others ps ≡ []) → first_maps ids (stood pos maps ++ ps) ≡ stood pos maps
+  unfolding IsDistinct
+  maps-first ids pos [] ps h distinct has none = none ids
+  maps-first ids pos (m ∷ maps) ps h distinct has none =
+      let others = maps-first (without_id (table_id m.body) ids) (pos + event_size m) maps ps h.1 distinct.1 (ids-left (table_id m.body) ids maps has.1 distinct.0) none in
+      rw (by-kind is_map_kind pos m kind.TableMap h.0.kind) (rw has.0 (ap (λ l. stands_at pos m ∷ l) others))
+
+  maps-value : (pos : ℕ) (maps : List Event) → AllByRecursion (IsMapEvent Known) maps → map event_value (stood pos maps) ≡ maps
+  maps-value pos [] h = refl
+  maps-value pos (m ∷ maps) h = ap₂ ◌∷◌ h.0.unplaced (maps-value (pos + event_size m) maps h.1)
+
+  -- ---- statements
+
+  -- what is kept of a statement's events is the statement
+  statement-again : (pos : ℕ) (s : Statement) → IsStatement Known s → HasValue (kept_statement all (stood pos (statement_events s))) statement_value s
+  statement-again pos s h =
+      let behind : ℕ = end_of pos s.maps in
+      let rows : List Placed = stood behind (rows_events s.rows) in
+      let events : List Placed = stood pos s.maps ++ rows in
+      let ids : List (List ℕ) = map (λ r. r.content.id) s.rows in
+      let kept = all-kept s.maps events behind s.rows h.rows_formed (maps-stand pos s.maps rows) in
+      let has = all-by (IsUsed s.rows) (HasIdOf ids) (λ m used. any-map (λ r. r.content.id) (bytes_eq (table_id m.body)) s.rows ∙ used) s.maps h.used in
+      let first = maps-first ids pos s.maps rows h.maps_formed h.distinct has (λ others. no-maps others behind s.rows) in
+      rw (stood-append pos s.maps (rows_events s.rows), maps-not-kept events pos s.maps rows h.maps_formed)
+      (kept-value events (filter_map (kept_rows all events) rows) s h.some.0 h.some.1 h.some.2 kept.values (rw (kept.ids, first) (maps-value pos s.maps h.maps_formed)))
+
+  -- and of the events of statements, cut as they are, the statements
+  statements-again : (pos : ℕ) (ss : List Statement) → AllByRecursion (IsStatement Known) ss
+      → map statement_value (filter_map (kept_statement all) (statements_of (stood pos (flat_map statement_events ss)))) ≡ ss
+  statements-again pos [] h = refl
+  statements-again pos (s ∷ ss) h =
+      let behind = end_of pos (statement_events s) in
+      let own = statement-again pos s h.0 in
+      rw (stood-append pos (statement_events s) (flat_map statement_events ss), cut-first Known pos s (stood behind (flat_map statement_events ss)) h.0, own.1)
+      (ap₂ ◌∷◌ own.2 (statements-again behind ss h.1))
+
+  -- ---- transactions
+
+  -- what is kept of a transaction's span is the transaction
+  transaction-again : (pos : ℕ) (t : Transaction) → IsTransaction Known t → HasValue (kept_transaction all (span_at pos t)) transaction_value t
+  transaction-again pos t h =
+      let span = span_at pos t in
+      kept-span span (filter_map (kept_statement all) (statements_of span.inside)) t h.some.0 h.some.1 h.some.2
+      (statements-again (pos + event_size t.begin) t.statements h.statements_formed) h.begin_unplaced h.end_unplaced
+
+  -- the groups of the events of groups are the groups
+  pub groups-again : (pos : ℕ) (ts : List Transaction) → AreGroups Known ts → map transaction_value (placed_groups_in all (stood pos (group_events ts))) ≡ ts
+  groups-again pos [] h = refl
+  groups-again pos (t ∷ ts) h =
+      let behind = end_of pos (transaction_events t) in
+      let own = transaction-again pos t h.0 in
+      ap (λ ps. map transaction_value (placed_groups_in all ps)) (stood-append pos (transaction_events t) (group_events ts))
+      ∙ (ap (λ l. map transaction_value (filter_map (kept_transaction all) l)) (span-first Known pos t (stood behind (group_events ts)) h.0) ∙ rw own.1 (ap₂ ◌∷◌ own.2 (groups-again behind ts h.1)))

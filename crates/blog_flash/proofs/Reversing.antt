@@ -58,10 +58,6 @@ reversed-twice = turned-twice reversed_transaction transaction-twice
 
 -- ---- inverse changes
 
--- the inverse of changes one list after the other
-inverse_all-append : (cs ds : List Change) → inverse_all (cs ++ ds) ≡ inverse_all ds ++ inverse_all cs
-inverse_all-append = turned-append inverse
-
 -- the changes of parts that are reversed, in reverse order, where each part's are the inverse
 joined_inverse : {X : Type 0} (P : X → Type 0) (f : X → List Change) (g : X → X) → ((x : X) → P x → f (g x) ≡ inverse_all (f x)) → (xs : List X) → AllByRecursion P xs
     → flat_map f (reverse (map g xs)) ≡ inverse_all (flat_map f xs)
@@ -70,7 +66,7 @@ joined_inverse P f g each (x ∷ xs) all =
     ap (flat_map f) (reverse-latest (g x) (map g xs))
     ∙ flat_map-append f (reverse (map g xs)) (g x ∷ [])
     ∙ ap₂ ◌++◌ (joined_inverse P f g each xs all.1) (append-nil (f (g x)) ∙ each x all.0)
-    ∙ sym (inverse_all-append (f x) (flat_map f xs))
+    ∙ sym (turned-append inverse (f x) (flat_map f xs))
 
 -- ---- the changes of reversed groups
 

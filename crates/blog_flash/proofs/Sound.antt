@@ -1,22 +1,19 @@
 -- What is known of each event of an accepted log's range.
-use Rattle.std.proofs.Common.{◌≡◌, ℕ, ◌+◌, ◌<◌, ◌^◌, not, List, [], ◌∷◌, ◌++◌, length, Option, None, refl, subst, arith, eqb-true, take_at, drop_at}
-use Rattle.std.specs.Prelude.{◌==◌}
-use Rattle.std.specs.List.{AllByRecursion, Contains, list_any, flat_map}
+use Rattle.std.proofs.Common.{◌≡◌, ℕ, ◌+◌, ◌<◌, ◌^◌, List, [], ◌∷◌, ◌++◌, length, Option, None, refl, subst, arith, take_at, drop_at}
+use Rattle.std.proofs.lemmas.Bool.Decides.{nat_tests}
+use Rattle.std.specs.List.{AllByRecursion, Contains, flat_map}
 use Rattle.std.proofs.lemmas.List.Elements.{All-contains_itself, recursion_from_All}
 use Rattle.byteorder.specs.Numbers.{little_from-lt}
-use Rattle.blog_event.specs.declared.fault.Fault.TheVariants.{OutOfPlace, Unended, BadBody}
-use Rattle.blog_event.specs.Fault.{needs, first_failing}
 use Rattle.blog_event.specs.Event.{Event, event_size, event_text, IsEvent}
 use Rattle.blog_event.specs.File.{magic, file_text, Placed, placed_from, read, IsFront, AreBytes}
 use Rattle.blog_event.proofs.Framing.{bytes-take, bytes-drop, read-front, read-events}
 use Rattle.blog_row.specs.RowsEvent.{flags_of}
-use Rattle.blog_row.specs.declared.event_kinds.EventKind.{EventKind}
 use Rattle.blog_row.specs.declared.event_kinds.EventKind.TheVariants as kind
 use Rattle.blog_trans.specs.Selection.{Selection}
-use Rattle.blog_trans.specs.Places.{kind_at, is_rows, place, is_inside, since}
-use Rattle.blog_trans.specs.Acceptance.{checks, event_fault, range, is_in_range, IsAccepted, Passes}
+use Rattle.blog_trans.specs.Places.{kind_at}
+use Rattle.blog_trans.specs.Acceptance.{event_fault, range, is_in_range, IsAccepted, Passes}
 use Rattle.blog_trans.proofs.PlacedParts.{all-by, all-filter}
-use Rattle.blog_trans.proofs.ProgressAccepted.{none-failing, needed, accepted-passes}
+use Rattle.blog_trans.proofs.ProgressAccepted.{accepted-passes}
 
 -- what holds of events holds of them at their places
 all-placed : (P : Event → Type 0) (pos : ℕ) (es : List Event) → AllByRecursion P es → AllByRecursion (λ (p : Placed). P p.event) (placed_from pos es)
@@ -43,16 +40,12 @@ texts-bodies : (es : List Event) → AreBytes (flat_map event_text es) → AllBy
 texts-bodies [] are = tt
 texts-bodies (e ∷ es) are = (text-body e (bytes-front (event_text e) (flat_map event_text es) are), texts-bodies es (bytes-behind (event_text e) (flat_map event_text es) are))
 
--- bodies that are read are bytes
-pub read-bodies : (bytes : List ℕ) (stop : Option ℕ) → AreBytes bytes → AllByRecursion (λ (e : Event). AreBytes e.body) (read bytes stop)
-read-bodies bytes stop are = by_case (read bytes stop) (read-front bytes stop are)
-  where
-    by_case : (es : List Event) → IsFront bytes stop es → AllByRecursion (λ (e : Event). AreBytes e.body) es
-    by_case [] front = tt
-    by_case (e ∷ es) front =
-        let file = front.file (omega arith) in
-        let own : AreBytes (file_text (e ∷ es)) = bytes-front (file_text (e ∷ es)) file.0 (subst AreBytes file.1 are) in
-        texts-bodies (e ∷ es) (bytes-behind magic (flat_map event_text (e ∷ es)) own)
+-- those of a front
+front-bodies : (bytes : List ℕ) (stop : Option ℕ) (es : List Event) → AreBytes bytes → IsFront bytes stop es → AllByRecursion (λ (e : Event). AreBytes e.body) es
+front-bodies bytes stop [] are front = tt
+front-bodies bytes stop (e ∷ es) are front =
+    let (rest, begins) = front.file (omega arith) in
+    texts-bodies (e ∷ es) (bytes-behind magic (flat_map event_text (e ∷ es)) (bytes-front (file_text (e ∷ es)) rest (subst AreBytes begins are)))
 
 -- ---- the events of the range
 
@@ -65,20 +58,16 @@ pub record IsSound (Member : Placed → Type 0) (p : Placed) : Type 0 where
 
 -- an Xid that passes has eight bytes
 xid-long : (sel : Selection) (earlier : List Placed) (p : Placed) → event_fault sel earlier p ≡ None → kind_at p ≡ kind.Xid → length p.event.body ≡ 8
-xid-long sel earlier p e is =
-    let by_kind : first_failing (checks sel earlier p kind.Xid) ≡ None = subst (λ (k : EventKind). first_failing (checks sel earlier p k) ≡ None) is e in
-    let each = none-failing (needs (length p.event.body == 8) BadBody ∷ needs (is_inside (place earlier)) OutOfPlace ∷ needs (not (list_any is_rows (since earlier))) Unended ∷ []) by_kind in
-    eqb-true (length p.event.body) 8 (needed (length p.event.body == 8) BadBody each.0)
+xid-long sel earlier p e is = grind (arith, nat_tests)
 
 -- events that pass are sound
 all-sound : (Member : Placed → Type 0) (sel : Selection) (earlier ps : List Placed) → Passes sel earlier ps → AllByRecursion (λ (p : Placed). IsEvent p.event) ps
     → AllByRecursion (λ (p : Placed). AreBytes p.event.body) ps → AllByRecursion Member ps → AllByRecursion (IsSound Member) ps
 all-sound Member sel earlier [] pass events bodies members = tt
 all-sound Member sel earlier (p ∷ ps) pass events bodies members =
-    let mark : flags_of p.event.body < 256 ^ 2 = little_from-lt 0 2 _ (bytes-drop 6 p.event.body bodies.0) in (
-      record { event = events.0; mark = omega arith; xid = xid-long sel earlier p pass.0; member = members.0 },
-      all-sound Member sel (p ∷ earlier) ps pass.1 events.1 bodies.1 members.1,
-    )
+    let mark : flags_of p.event.body < 256 ^ 2 = little_from-lt 0 2 _ (bytes-drop 6 p.event.body bodies.0) in
+    let own : IsSound Member p = record { event = events.0; mark = omega arith; xid = xid-long sel earlier p pass.0; member = members.0 } in
+    (own, all-sound Member sel (p ∷ earlier) ps pass.1 events.1 bodies.1 members.1)
 
 -- the events of an accepted log's range are sound
 pub range-sound : (bytes : List ℕ) (sel : Selection) → AreBytes bytes → IsAccepted bytes sel
@@ -88,4 +77,5 @@ range-sound bytes sel are accepted =
     let kept : (P : Event → Type 0) → AllByRecursion P (read bytes sel.stop) → AllByRecursion (λ (p : Placed). P p.event) (range sel ps) =
     λ P all. all-by _ (λ (p : Placed). P p.event) (λ p h. h.0) (range sel ps) (all-filter (λ (p : Placed). P p.event) (is_in_range sel) ps (all-placed P 4 (read bytes sel.stop) all)) in
     all-sound (Contains (range sel ps)) sel [] (range sel ps) (accepted-passes bytes sel accepted) (kept IsEvent (read-events bytes sel.stop are))
-    (kept (λ e. AreBytes e.body) (read-bodies bytes sel.stop are)) (recursion_from_All (Contains (range sel ps)) (range sel ps) (All-contains_itself (range sel ps)))
+    (kept (λ e. AreBytes e.body) (front-bodies bytes sel.stop (read bytes sel.stop) are (read-front bytes sel.stop are)))
+    (recursion_from_All (Contains (range sel ps)) (range sel ps) (All-contains_itself (range sel ps)))

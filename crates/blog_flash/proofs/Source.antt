@@ -1,5 +1,5 @@
 -- The groups of an accepted log are well-formed.
-use Rattle.std.proofs.Common.{◌≡◌, ℕ, ◌+◌, ◌-◌, ◌%◌, ◌<◌, ◌^◌, Bool, true, false, ◌&&◌, if◌then◌else◌, List, [], ◌∷◌, map, Some, None, option_map, Result, bytes_eq, inl, inr, refl, sym, subst, ap, ◌∙◌, arith, take_at, drop_at}
+use Rattle.std.proofs.Common.{◌≡◌, ℕ, Bool, true, ◌&&◌, List, [], ◌∷◌, map, find, Some, None, option_map, Result, bytes_eq, inl, inr, refl, sym, subst, ap, ◌∙◌, arith, take_at, drop_at}
 use Rattle.std.specs.List.{AllByRecursion, Contains, IsDistinct, list_any}
 use Rattle.std.proofs.lemmas.Bool.{false≢true}
 use Rattle.std.proofs.lemmas.Simd.{map-map}
@@ -9,7 +9,6 @@ use Rattle.blog_event.specs.declared.fault.Fault.TheVariants.{CutEvent}
 use Rattle.blog_event.specs.Fault.{needs, fault_at}
 use Rattle.blog_event.specs.Event.{Event, IsEvent}
 use Rattle.blog_event.specs.Format.{format_fault}
-use Rattle.blog_event.proofs.Framing.{read-events}
 use Rattle.blog_event.specs.File.{Placed, placed_from, read, AreBytes}
 use Rattle.blog_row.specs.declared.kind.RowsKind.{RowsKind}
 use Rattle.blog_row.specs.declared.fault.RowFault.{RowFault}
@@ -23,7 +22,7 @@ use Rattle.blog_row.specs.declared.event_kinds.EventKind.{EventKind}
 use Rattle.blog_row.specs.declared.event_kinds.EventKind.TheVariants as kind
 use Rattle.blog_row.specs.Kinds.{is_end_kind, is_map_kind}
 use Rattle.blog_trans.specs.Selection.{Selection}
-use Rattle.blog_trans.specs.Places.{kind_at, is_map, map_in}
+use Rattle.blog_trans.specs.Places.{kind_at, is_map_of, map_in}
 use Rattle.blog_trans.specs.Acceptance.{rows_under, range, has_first, first_format_fault, IsAccepted}
 use Rattle.blog_trans.specs.Groups.{PlacedRows, PlacedStatement, PlacedTransaction, placed_groups_in, placed_groups, RowsEvent, rows_value, event_value, statement_value, transaction_value, groups}
 use Rattle.blog_trans.specs.PlacedFacts.{IsPlacedMap, IsPlacedRows, IsPlacedStatement, IsPlacedTransaction}
@@ -32,7 +31,7 @@ use Rattle.blog_trans.proofs.PlacedParts.{all-map}
 use Rattle.blog_trans.proofs.ProgressAccepted.{no-fault-at, accepted-lines}
 use Rattle.blog_trans.proofs.ProgressFirsts.{id_at}
 use Rattle.blog_trans.proofs.ProgressSteps.{begin-kind}
-use Rattle.blog_flash.proofs.Formed.{Fits, map_among, IsMapEvent, IsRowsEvent, IsUsed, IsStatement, IsEndEvent, IsTransaction, AreGroups}
+use Rattle.blog_flash.proofs.Formed.{Fits, map_among, is_map_of_id, IsMapEvent, IsRowsEvent, IsUsed, IsStatement, IsEndEvent, IsTransaction, AreGroups}
 use Rattle.blog_flash.proofs.Forming.{kind-placed}
 use Rattle.blog_flash.proofs.Agreeing.{IsChosen, Chosen, map-kind}
 use Rattle.blog_flash.proofs.Sound.{IsSound, range-sound}
@@ -68,25 +67,14 @@ ids-alike Member sel maps (r ∷ rows) id all = rw (own-id Member sel maps r all
 own-flags : (k : RowsKind) (c : Layout) (body : List ℕ) (b : RowsBody) → IsRowsBody k c body b → flags_of body ≡ little_number 2 b.flags
 own-flags k c body b h = ap flags_of h.text ∙ ap (little_number 2) (drop_at b.id _ 6 h.id_len) ∙ little_from-append 2 b.flags _ (omega (arith, h.flags_len))
 
--- flags less their last bit fit with it
-clear-fits : (n : ℕ) → n < 2 ^ 16 → (n - n % 2) + 1 < 2 ^ 16
-clear-fits n h = omega arith
-
--- they are even
-clear-even : (n : ℕ) → (n - n % 2) % 2 ≡ 0
-clear-even n = omega arith
+-- what is found first of the values of elements is the value of what is found of these
+find-value : {A B : Type 0} (f : A → B) (p : B → Bool) (q : A → Bool) → ((x : A) → p (f x) ≡ q x) → (xs : List A) → find p (map f xs) ≡ option_map f (find q xs)
+find-value f p q same [] = refl
+find-value f p q same (x ∷ xs) = let others = find-value f p q same xs in rw (same x) (grind arith)
 
 -- the map of an id among the values is the value of the map
 value-among : (ps : List Placed) (id : List ℕ) → map_among (map event_value ps) id ≡ option_map event_value (map_in ps id)
-value-among [] id = refl
-value-among (p ∷ ps) id =
-    ap (λ (k : EventKind). if is_map_kind k && bytes_eq (id_at p) id then Some (event_value p) else map_among (map event_value ps) id) (kind-placed p.event 0)
-    ∙ by_case (is_map p && bytes_eq (id_at p) id) (value-among ps id)
-  where
-    by_case : (b : Bool) → map_among (map event_value ps) id ≡ option_map event_value (map_in ps id)
-        → (if b then Some (event_value p) else map_among (map event_value ps) id) ≡ option_map event_value (if b then Some p else map_in ps id)
-    by_case true more = refl
-    by_case false more = more
+value-among ps id = find-value event_value (is_map_of_id id) (is_map_of id) (λ p. ap (λ (k : EventKind). is_map_kind k && bytes_eq (id_at p) id) (kind-placed p.event 0)) ps
 
 -- a rows event is well-formed among its maps
 row-formed : (Member : Placed → Type 0) (sel : Selection) (maps : List Placed) (r : PlacedRows) → IsPlacedRows (IsSound Member) sel maps r → IsRowsEvent (map event_value maps) (rows_value r)
@@ -97,8 +85,8 @@ row-formed Member sel maps r h =
     record {
       found = (event_value r.map, value-among maps r.body.id ∙ ap (option_map event_value) among, refl);
       names = (h.map.names, h.map.names_are);
-      flags = clear-fits (little_number 2 r.body.flags) (subst (λ (n : ℕ). n < 2 ^ 16) (own-flags r.kind c r.event.event.body r.body fields) h.member.mark);
-      even = clear-even (little_number 2 r.body.flags);
+      flags = omega (arith, h.member.mark, own-flags r.kind c r.event.event.body r.body fields);
+      even = omega arith;
       content = (c, h.map.layout_is, content-is r.kind c r.event.event.body r.body fields);
       timestamp_fits = h.member.event.timestamp;
       server_id_fits = h.member.event.server_id;
@@ -161,17 +149,12 @@ source-groups bytes sel are accepted =
 
 -- ---- its first event
 
--- an accepted log begins with a format description
-pub source-format : (bytes : List ℕ) (sel : Selection) → IsAccepted bytes sel → (format : Event) × (rest : List Event) × (read bytes sel.stop ≡ format ∷ rest) × (format_fault format ≡ None)
-source-format bytes sel accepted =
-    let parts = accepted-lines bytes sel accepted in
-    by_case (read bytes sel.stop) refl parts.1.1.0 parts.1.1.1.0
-  where
-    by_case : (es : List Event) → read bytes sel.stop ≡ es → fault_at 4 (needs (has_first es) CutEvent) ≡ None → fault_at 4 (first_format_fault es) ≡ None
-        → (format : Event) × (rest : List Event) × (read bytes sel.stop ≡ format ∷ rest) × (format_fault format ≡ None)
-    by_case [] is first fault = absurd (cc)
-    by_case (e ∷ es) is first fault = (e, es, is, no-fault-at 4 (format_fault e) fault)
+-- events of which the first checks hold begin with a format description
+first-format : (es : List Event) → fault_at 4 (needs (has_first es) CutEvent) ≡ None → fault_at 4 (first_format_fault es) ≡ None
+    → (format : Event) × (rest : List Event) × (es ≡ format ∷ rest) × (format_fault format ≡ None)
+first-format [] first fault = absurd (cc)
+first-format (e ∷ es) first fault = (e, es, refl, no-fault-at 4 (format_fault e) fault)
 
--- it is an event
-pub format-event : (bytes : List ℕ) (sel : Selection) (format : Event) (rest : List Event) → AreBytes bytes → read bytes sel.stop ≡ format ∷ rest → IsEvent format
-format-event bytes sel format rest are is = (subst (λ (es : List Event). AllByRecursion IsEvent es) is (read-events bytes sel.stop are)).0
+-- so does an accepted log
+pub source-format : (bytes : List ℕ) (sel : Selection) → IsAccepted bytes sel → (format : Event) × (rest : List Event) × (read bytes sel.stop ≡ format ∷ rest) × (format_fault format ≡ None)
+source-format bytes sel accepted = let parts = accepted-lines bytes sel accepted in first-format (read bytes sel.stop) parts.1.1.0 parts.1.1.1.0

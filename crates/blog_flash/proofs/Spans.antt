@@ -1,15 +1,14 @@
 -- Where the events of groups stand: each transaction is one span, and each statement is one cut of its inside.
-use Rattle.std.proofs.Common.{◌≡◌, ℕ, ◌+◌, List, [], ◌∷◌, ◌++◌, find, Bool, true, false, ◌&&◌, not, bytes_eq, Option, Some, is_some, refl, sym, ap, subst, ◌∙◌, inl, inr, append_assoc}
+use Rattle.std.proofs.Common.{◌≡◌, ℕ, ◌+◌, List, [], ◌∷◌, ◌++◌, find, Bool, true, false, ◌&&◌, not, Option, Some, is_some, refl, sym, ap, subst, ◌∙◌, inl, inr, append_assoc, arith}
 use Rattle.std.specs.List.{AllByRecursion, flat_map}
 use Rattle.blog_event.specs.Event.{Event, event_size}
 use Rattle.blog_event.specs.File.{Placed, end_of}
 use Rattle.blog_event.specs.Format.{front_while}
 use Rattle.blog_row.specs.RowsEvent.{has_end_flag}
-use Rattle.blog_row.specs.RowsEvent.{table_id}
 use Rattle.blog_row.specs.declared.event_kinds.EventKind.{EventKind}
 use Rattle.blog_row.specs.declared.event_kinds.EventKind.TheVariants as kind
 use Rattle.blog_row.specs.Kinds.{kind_of, is_begin_kind, is_end_kind, is_map_kind, rows_of_kind}
-use Rattle.blog_trans.specs.Places.{kind_at, is_begin, is_end, is_last_rows, is_map_of, map_in}
+use Rattle.blog_trans.specs.Places.{kind_at, is_begin, is_end, is_last_rows, map_in}
 use Rattle.blog_trans.specs.Groups.{Span, spans, onto_first, statements_of, RowsEvent, Statement, Transaction}
 use Rattle.blog_trans.proofs.PlacedParts.{all-joined}
 use Rattle.blog_flash.specs.Texts.{rows_event, rows_events, statement_events, transaction_events}
@@ -43,16 +42,10 @@ pub maps-stand : (pos : ℕ) (maps : List Event) (more : List Placed) → HasMap
 maps-stand pos [] more id m found = cc
 maps-stand pos (x ∷ maps) more id m found = by_case (is_map_of_id id x) refl (maps-stand (pos + event_size x) maps more id m)
   where
-    others : List Placed
-    others = stood (pos + event_size x) maps ++ more
-
-    same : is_map_of id (stands_at pos x) ≡ is_map_of_id id x
-    same = by-kind (λ k. is_map_kind k && bytes_eq (table_id x.body) id) pos x (kind_of x) refl
-
-    by_case : (b : Bool) → is_map_of_id id x ≡ b → (map_among maps id ≡ Some m → HasValue (map_in others id) (λ map. map.event.body) m.body)
-        → HasValue (map_in (stands_at pos x ∷ others) id) (λ map. map.event.body) m.body
-    by_case true e later = let it = rw e at found in (stands_at pos x, rw (same ∙ e) refl, cc)
-    by_case false e later = rw (same ∙ e) (later (rw e at found))
+    by_case : (b : Bool) → is_map_of_id id x ≡ b → (map_among maps id ≡ Some m → HasValue (map_in (stood (pos + event_size x) maps ++ more) id) (λ map. map.event.body) m.body)
+        → HasValue (map_in (stood pos (x ∷ maps) ++ more) id) (λ map. map.event.body) m.body
+    by_case true e later = let it = rw e at found in (stands_at pos x, rw (by-kind is_map_kind pos x (kind_of x) refl, e) refl, cc)
+    by_case false e later = rw (by-kind is_map_kind pos x (kind_of x) refl, e) (later (rw e at found))
 
 -- ---- inside of a transaction
 
@@ -85,9 +78,7 @@ end-stands pos e (inr h) = (by-kind is_end_kind pos e kind.Xid h.0, by-kind is_b
 past-inner : (xs rest : List Placed) (e : Placed) → AllByRecursion (λ p. IsInner p.event) xs → is_end e ≡ true
     → (find is_end (xs ++ e ∷ rest) ≡ Some e) × (front_while (λ x. not (is_end x)) (xs ++ e ∷ rest) ≡ xs) × (spans (xs ++ e ∷ rest) ≡ spans (e ∷ rest))
 past-inner [] rest e inner ends = (rw ends refl, rw ends refl, refl)
-past-inner (x ∷ xs) rest e inner ends =
-    let (found, front, others) = past-inner xs rest e inner.1 ends in
-    (rw inner.0.1 found, rw inner.0.1 (ap (λ l. x ∷ l) front), rw inner.0.0 others)
+past-inner (x ∷ xs) rest e inner ends = let others = past-inner xs rest e inner.1 ends in grind arith
 
 -- a begin, no further one, and the first end
 span-of : (b e : Placed) (xs rest : List Placed) → is_begin b ≡ true → AllByRecursion (λ p. IsInner p.event) xs → (is_end e ≡ true) × (is_begin e ≡ false)
@@ -104,16 +95,14 @@ span_at pos t =
     record { begin = stands_at pos t.begin; inside = stood from inside; end = stands_at (end_of from inside) t.end }
 
 -- the first span of events that begin with those of a transaction
-pub span-first : (Known : Event → Type 0) (pos : ℕ) (t : Transaction) (rest : List Placed) → IsTransaction Known t
-    → spans (stood pos (transaction_events t) ++ rest) ≡ span_at pos t ∷ spans rest
+pub span-first : (Known : Event → Type 0) (pos : ℕ) (t : Transaction) (rest : List Placed) → IsTransaction Known t → spans (stood pos (transaction_events t) ++ rest) ≡ span_at pos t ∷ spans rest
 span-first Known pos t rest h =
     let from : ℕ = pos + event_size t.begin in
     let inside : List Event = flat_map statement_events t.statements in
     let span : Span = span_at pos t in
-    ap (λ l. spans (span.begin ∷ (l ++ rest))) (stood-append from inside (t.end ∷ []))
-    ∙ ap (λ l. spans (span.begin ∷ l)) (append_assoc span.inside (span.end ∷ []) rest)
-    ∙ span-of span.begin span.end span.inside rest (by-kind is_begin_kind pos t.begin kind.Begin h.begin_kind)
-    (inner-stood from inside (statements-inner Known t.statements h.statements_formed)) (end-stands (end_of from inside) t.end h.end_is)
+    rw (stood-append from inside (t.end ∷ []), append_assoc span.inside (span.end ∷ []) rest)
+    (span-of span.begin span.end span.inside rest (by-kind is_begin_kind pos t.begin kind.Begin h.begin_kind)
+    (inner-stood from inside (statements-inner Known t.statements h.statements_formed)) (end-stands (end_of from inside) t.end h.end_is))
 
 -- ---- a statement is one cut
 

@@ -2,9 +2,10 @@
 use Rattle.std.proofs.Common.{◌≡◌, ℕ, zero, suc, ◌+◌, ◌-◌, ◌≤◌, List, [], ◌∷◌, ◌++◌, length, take, drop, map, refl, sym, ap, subst, ◌∙◌, arith, append_assoc, length-append}
 use Rattle.std.specs.List.{AllByRecursion, flat_map}
 use Rattle.std.proofs.lemmas.List.{length-reverse, length-map, length-take-le, length-drop, take-append-drop, take_at}
+use Rattle.std.proofs.lemmas.List.Elements.{All-from_recursion, recursion_from_All, All-take, All-drop}
 use Rattle.std.proofs.lemmas.List.Concat.{flat_map-append}
 use Rattle.blog_event.specs.Event.{Event, event_size, event_text}
-use Rattle.blog_event.specs.File.{magic, BeginsWith, AreBytes, file_text, end_of}
+use Rattle.blog_event.specs.File.{BeginsWith, AreBytes, file_text, end_of}
 use Rattle.blog_row.specs.Kinds.{is_end_kind}
 use Rattle.blog_trans.specs.Selection.{Selection, all}
 use Rattle.blog_trans.specs.Acceptance.{IsAccepted}
@@ -44,14 +45,9 @@ through-transaction Known k pos t rest h =
     let from : ℕ = pos + event_size t.begin in
     let inside : List Event = flat_map statement_events t.statements in
     let events : List Event = with_log_pos from inside in
-    let at : ℕ = end_of from inside + event_size t.end in
-    let end : Event = record t.end { log_pos = at } in
-    let ends : through_ends (suc k) (end ∷ rest) ≡ end ∷ through_ends k rest = rw ((end-stands (end_of from inside) t.end h.end_is).0) refl in
-    let parts : (others : List Event) → with_log_pos from (inside ++ t.end ∷ []) ++ others ≡ events ++ end ∷ others =
-    λ others. ap (λ l. l ++ others) (placed-append from inside (t.end ∷ [])) ∙ append_assoc events (end ∷ []) others in
-    rw (ap is_end_kind (kind-placed t.begin from ∙ h.begin_kind)) (ap (λ l. record t.begin { log_pos = from } ∷ l)
-    (ap (through_ends (suc k)) (parts rest) ∙ through-inside k from inside (end ∷ rest) (statements-inner Known t.statements h.statements_formed)
-    ∙ ap (λ l. events ++ l) ends ∙ sym (parts (through_ends k rest))))
+    let end : Event = record t.end { log_pos = end_of from inside + event_size t.end } in
+    rw (ap is_end_kind (kind-placed t.begin from ∙ h.begin_kind), placed-append from inside (t.end ∷ []), append_assoc events (end ∷ []) rest, append_assoc events (end ∷ []) (through_ends k rest))
+    (rw (through-inside k from inside (end ∷ rest) (statements-inner Known t.statements h.statements_formed), (end-stands (end_of from inside) t.end h.end_is).0) refl)
 
 -- the events up to the k-th end event are those of the first k transactions
 through-groups : (Known : Event → Type 0) (k pos : ℕ) (ts : List Transaction) → AreGroups Known ts
@@ -79,14 +75,8 @@ laid-begins : (format : Event) (xs ys : List Transaction) → BeginsWith (laid_o
 unfolding laid_out
 laid-begins format xs ys =
     let from : ℕ = 4 + event_size format in
-    let first : List Event = with_log_pos from (group_events xs) in
-    let rest : List Event = with_log_pos (end_of from (group_events xs)) (group_events ys) in (
-      flat_map event_text rest,
-      ap (λ events. file_text (format ∷ with_log_pos from events)) (flat_map-append transaction_events xs ys)
-          ∙ ap (λ events. file_text (format ∷ events)) (placed-append from (group_events xs) (group_events ys))
-          ∙ ap (λ texts. magic ++ (event_text format ++ texts)) (flat_map-append event_text first rest)
-          ∙ ap (λ texts. magic ++ texts) (sym (append_assoc (event_text format) (flat_map event_text first) (flat_map event_text rest))),
-    )
+    let rest : List ℕ = flat_map event_text (with_log_pos (end_of from (group_events xs)) (group_events ys)) in
+    (rest, rw (flat_map-append transaction_events xs ys, placed-append from (group_events xs) (group_events ys)) (simp (flat_map-append, append_assoc)))
 
 -- the log begins with its first k groups, laid out
 front-begins : (k : ℕ) (format : Event) (ts : List Transaction) → BeginsWith (laid_out format ts) (laid_out format (take k ts))
@@ -94,20 +84,14 @@ front-begins k format ts =
     let begins = laid-begins format (take k ts) (drop k ts) in
     (begins.0, ap (laid_out format) (sym (take-append-drop k ts)) ∙ begins.1)
 
--- of the elements, also of the first k and of the others
-all-parted : {A : Type 0} (P : A → Type 0) (k : ℕ) (xs : List A) → AllByRecursion P xs → AllByRecursion P (take k xs) × AllByRecursion P (drop k xs)
-all-parted P zero xs h = (tt, h)
-all-parted P (suc k) [] h = (tt, tt)
-all-parted P (suc k) (x ∷ xs) h = let others = all-parted P k xs h.1 in ((h.0, others.0), others.1)
-
 -- the first k groups can be laid out where all of them can
 front-writable : (Known : Event → Type 0) (k : ℕ) (format : Event) (ts : List Transaction) → IsWritable Known format ts → IsWritable Known format (take k ts)
 front-writable Known k format ts h =
     let begins = front-begins k format ts in
-    let whole : length (laid_out format ts) ≡ length (laid_out format (take k ts) ++ begins.0) = ap length begins.1 in
-    let parts = length-append (laid_out format (take k ts)) begins.0 in
+    let parts = simp length-append at (ap length begins.1) in
     let short = h.short in
-    record { are_groups = (all-parted (IsTransaction Known) k ts h.are_groups).0; agree = h.agree; served = h.served; event = h.event; short = omega arith }
+    let are = All-take (IsTransaction Known) k ts (All-from_recursion (IsTransaction Known) ts h.are_groups) in
+    record { are_groups = recursion_from_All (IsTransaction Known) (take k ts) are; agree = h.agree; served = h.served; event = h.event; short = omega arith }
 
 -- ---- the last groups
 
@@ -135,14 +119,14 @@ stops-at : (Known : Event → Type 0) (bytes : List ℕ) (sel : Selection) (k : 
 stops-at Known bytes sel k h fits =
     let gs : List Transaction = groups bytes sel in
     let last : List Transaction = drop (length gs - k) gs in
-    let front : List ℕ = laid_out h.format (take k (reversed gs)) in
-    let writable : IsWritable Known h.format (take k (reversed gs)) = front-writable Known k h.format (reversed gs) h.backward in
-    let is : front_through k (flashback_text bytes sel) ≡ front = ap (front_through k) (flashback-is Known bytes sel h) ∙ front-is Known k h.format (reversed gs) h.backward in
-    let begins : BeginsWith (laid_out h.format (reversed gs)) front = front-begins k h.format (reversed gs) in
+    let writable = front-writable Known k h.format (reversed gs) h.backward in
+    let is = ap (front_through k) (flashback-is Known bytes sel h) ∙ front-is Known k h.format (reversed gs) h.backward in
+    let begins = front-begins k h.format (reversed gs) in
     let are : groups (front_through k (flashback_text bytes sel)) all ≡ take k (reversed gs) = ap (λ written. groups written all) is ∙ written-groups Known h.format (take k (reversed gs)) writable in
     let many = reversed-length gs in
+    let last_are = All-drop (IsTransaction Known) (length gs - k) gs (All-from_recursion (IsTransaction Known) gs h.forward.are_groups) in
     let made : changes (front_through k (flashback_text bytes sel)) all ≡ inverse_all (changes_of last) =
-    ap changes_of (are ∙ last-reversed k gs fits) ∙ reversed-changes Known last (all-parted (IsTransaction Known) (length gs - k) gs h.forward.are_groups).1 in
+    ap changes_of (are ∙ last-reversed k gs fits) ∙ reversed-changes Known last (recursion_from_All (IsTransaction Known) last last_are) in
     record {
       front = (begins.0, flashback-is Known bytes sel h ∙ begins.1 ∙ ap (λ written. written ++ begins.0) (sym is));
       accepted = subst (λ written. IsAccepted written all) (sym is) (written-accepted Known h.format (take k (reversed gs)) writable);

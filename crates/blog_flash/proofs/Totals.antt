@@ -1,6 +1,6 @@
 -- Written events are no longer than the events that the groups show: in sum, and each of them. So what is written is no longer
 -- than the log: groups have events of the range, none of them twice.
-use Rattle.std.proofs.Common.{◌≡◌, ℕ, ◌+◌, ◌-◌, ◌≤◌, max, Bool, true, false, List, [], ◌∷◌, length, map, reverse, take, refl, ap, ◌∙◌, arith}
+use Rattle.std.proofs.Common.{◌≡◌, ℕ, ◌+◌, ◌-◌, ◌≤◌, max, Bool, true, false, List, [], ◌∷◌, length, map, take, refl, ap, arith}
 use Rattle.std.specs.List.{AllByRecursion, Contains, flat_map}
 use Rattle.blog_event.specs.Event.{Event, event_size}
 use Rattle.blog_event.specs.File.{Placed, end_of, read}
@@ -16,10 +16,8 @@ use Rattle.blog_trans.specs.InTurn.{GroupEvent, Maps, Changes, Ends, in_order, i
 use Rattle.blog_trans.specs.PlacedFacts.{IsPlacedRows, IsPlacedStatement, IsPlacedTransaction}
 use Rattle.blog_trans.specs.Shown.{largest, statement_shown, transaction_shown, shown, events_in_range}
 use Rattle.blog_trans.proofs.PlacedFacts.{groups-among}
-use Rattle.blog_trans.proofs.PlacedParts.{all-by}
-use Rattle.blog_trans.proofs.ProgressSteps.{reverse-latest}
 use Rattle.blog_trans.proofs.Shown.{own_size, shown-sizes}
-use Rattle.blog_trans.proofs.Sums.{sum_of, sum-append, sum-map, sum-joined}
+use Rattle.blog_trans.proofs.Sums.{sum_of, sum-append, sum-map, sum-joined, sum-reverse}
 use Rattle.blog_flash.specs.LaidOut.{groups_in, transactions_of, written_event}
 use Rattle.blog_flash.specs.Texts.{group_events, laid_out}
 use Rattle.blog_flash.proofs.InTurn.{written-in-turn}
@@ -36,11 +34,7 @@ sum-fits P f g fits (x ∷ xs) all = let own = fits x all.0 in let others = sum-
 -- of the elements in an order
 sum-in-order : {A : Type 0} (f : A → ℕ) (order : Order) (xs : List A) → sum_of f (in_order order xs) ≡ sum_of f xs
 sum-in-order f Forward xs = refl
-sum-in-order f Backward [] = refl
-sum-in-order f Backward (x ∷ xs) =
-    let joined = ap (sum_of f) (reverse-latest x xs) ∙ sum-append f (reverse xs) (x ∷ []) in
-    let others = sum-in-order f Backward xs in
-    omega arith
+sum-in-order f Backward xs = sum-reverse f xs
 
 all-in-order : {A : Type 0} (P : A → Type 0) (order : Order) (xs : List A) → AllByRecursion P xs → AllByRecursion P (in_order order xs)
 all-in-order P Forward xs all = all
@@ -61,58 +55,53 @@ parts-fit P f g written source fits order xs all =
 abbrev Grows : (ℕ → ℕ) → Type 0
 Grows w = (m n : ℕ) → m ≤ n → w m ≤ w n
 
-abbrev written_weight : (ℕ → ℕ) → Order → GroupEvent → ℕ
-written_weight w order e = w (event_size (written_event order e))
+module _ (w : ℕ → ℕ) (grows : Grows w) (order : Order) where
+  abbrev written_weight : GroupEvent → ℕ
+  written_weight e = w (event_size (written_event order e))
 
-abbrev own_weight : (ℕ → ℕ) → Placed → ℕ
-own_weight w p = w (own_size p)
+  abbrev own_weight : Placed → ℕ
+  own_weight p = w (own_size p)
 
--- of a rows event, the last of its statement or not
-abbrev RowsFit : (ℕ → ℕ) → Order → PlacedRows → Type 0
-RowsFit w order r = (last : Bool) → written_weight w order (Changes r last) ≤ own_weight w r.event
+  module _ (Member : Placed → Type 0) (sel : Selection) where
+    -- of a rows event, the last of its statement or not
+    row-fits : (maps : List Placed) (r : PlacedRows) (last : Bool) → IsPlacedRows Member sel maps r → written_weight (Changes r last) ≤ own_weight r.event
+    row-fits maps r last h =
+        let content : RowsContent = content_of r.kind r.body in
+        let long = written-fits r.kind h.map.layout r.event.event.body r.body (fields-found Member sel maps r h) in
+        grows _ _ (omega (arith, long, body-len order last content, body-len Forward true content))
 
-row-fits : (w : ℕ → ℕ) → Grows w → (Member : Placed → Type 0) (sel : Selection) (order : Order) (maps : List Placed) (r : PlacedRows) → IsPlacedRows Member sel maps r → RowsFit w order r
-row-fits w grows Member sel order maps r h last =
-    let content : RowsContent = content_of r.kind r.body in
-    let long = written-fits r.kind h.map.layout r.event.event.body r.body (fields-found Member sel maps r h) in
-    grows _ _ (omega (arith, long, body-len order last content, body-len Forward true content))
+    rows-fit : (maps : List Placed) (rs : List PlacedRows) → AllByRecursion (IsPlacedRows Member sel maps) rs → sum_of written_weight (rows_in_turn rs) ≤ sum_of (λ r. own_weight r.event) rs
+    rows-fit maps [] all = omega arith
+    rows-fit maps (r ∷ []) all = omega (arith, row-fits maps r true all.0)
+    rows-fit maps (r ∷ s ∷ rs) all = omega (arith, row-fits maps r false all.0, rows-fit maps (s ∷ rs) all.1)
 
-rows-fit : (w : ℕ → ℕ) (order : Order) (rs : List PlacedRows) → AllByRecursion (RowsFit w order) rs → sum_of (written_weight w order) (rows_in_turn rs) ≤ sum_of (λ r. own_weight w r.event) rs
-rows-fit w order [] all = omega arith
-rows-fit w order (r ∷ []) all = omega (arith, all.0 true)
-rows-fit w order (r ∷ s ∷ rs) all = omega (arith, all.0 false, rows-fit w order (s ∷ rs) all.1)
+    statement-fits : (s : PlacedStatement) → IsPlacedStatement Member sel s → sum_of written_weight (statement_in_turn order s) ≤ sum_of own_weight (statement_shown s)
+    statement-fits s h =
+        let parts = sum-append written_weight (map Maps s.maps) (rows_in_turn (in_order order s.rows)) in
+        let maps = sum-map written_weight Maps s.maps in
+        let rows = rows-fit s.maps (in_order order s.rows) (all-in-order (IsPlacedRows Member sel s.maps) order s.rows h.rows) in
+        let same = sum-in-order (λ (r : PlacedRows). own_weight r.event) order s.rows in
+        let sources = sum-append own_weight s.maps (map (λ (r : PlacedRows). r.event) s.rows) in
+        let events = sum-map own_weight (λ (r : PlacedRows). r.event) s.rows in
+        omega arith
 
-statement-fits : (w : ℕ → ℕ) → Grows w → (Member : Placed → Type 0) (sel : Selection) (order : Order) (s : PlacedStatement) → IsPlacedStatement Member sel s
-    → sum_of (written_weight w order) (statement_in_turn order s) ≤ sum_of (own_weight w) (statement_shown s)
-statement-fits w grows Member sel order s h =
-    let parts = sum-append (written_weight w order) (map Maps s.maps) (rows_in_turn (in_order order s.rows)) in
-    let maps = sum-map (written_weight w order) Maps s.maps in
-    let each = all-by _ (RowsFit w order) (row-fits w grows Member sel order s.maps) s.rows h.rows in
-    let rows = rows-fit w order (in_order order s.rows) (all-in-order (RowsFit w order) order s.rows each) in
-    let same = sum-in-order (λ (r : PlacedRows). own_weight w r.event) order s.rows in
-    let sources = sum-append (own_weight w) s.maps (map (λ (r : PlacedRows). r.event) s.rows) in
-    let events = sum-map (own_weight w) (λ (r : PlacedRows). r.event) s.rows in
-    omega arith
+    transaction-fits : (t : PlacedTransaction) → IsPlacedTransaction Member sel t → sum_of written_weight (transaction_in_turn order t) ≤ sum_of own_weight (transaction_shown t)
+    transaction-fits t h =
+        let parts = sum-append written_weight (flat_map (statement_in_turn order) (in_order order t.statements)) (Ends t.end ∷ []) in
+        let inside = parts-fit (IsPlacedStatement Member sel) written_weight own_weight (statement_in_turn order) statement_shown statement-fits order t.statements h.statements in
+        let sources = sum-append own_weight (flat_map statement_shown t.statements) (t.end ∷ []) in
+        omega arith
 
-transaction-fits : (w : ℕ → ℕ) → Grows w → (Member : Placed → Type 0) (sel : Selection) (order : Order) (t : PlacedTransaction) → IsPlacedTransaction Member sel t
-    → sum_of (written_weight w order) (transaction_in_turn order t) ≤ sum_of (own_weight w) (transaction_shown t)
-transaction-fits w grows Member sel order t h =
-    let parts = sum-append (written_weight w order) (flat_map (statement_in_turn order) (in_order order t.statements)) (Ends t.end ∷ []) in
-    let inside = parts-fit (IsPlacedStatement Member sel) (written_weight w order) (own_weight w) (statement_in_turn order) statement_shown (statement-fits w grows Member sel order) order t.statements h.statements in
-    let sources = sum-append (own_weight w) (flat_map statement_shown t.statements) (t.end ∷ []) in
-    omega arith
-
--- of the groups of a log
-groups-fit : (w : ℕ → ℕ) → Grows w → (order : Order) (bytes : List ℕ) (sel : Selection)
-    → sum_of (λ e. w (event_size e)) (group_events (transactions_of order (placed_groups bytes sel))) ≤ sum_of (own_weight w) (shown bytes sel)
-unfolding shown placed_groups in_turn
-groups-fit w grows order bytes sel =
-    let Member : Placed → Type 0 = Contains (events_in_range bytes sel) in
-    let fits = parts-fit (IsPlacedTransaction Member sel) (written_weight w order) (own_weight w) (transaction_in_turn order) transaction_shown (transaction-fits w grows Member sel order) order
-    (placed_groups bytes sel) (groups-among sel (events_in_range bytes sel)) in
-    let events = sum-map (λ e. w (event_size e)) (written_event order) (in_turn order (placed_groups bytes sel)) in
-    let written = ap (sum_of (λ e. w (event_size e))) (written-in-turn order (placed_groups bytes sel)) in
-    omega arith
+  -- of the groups of a log
+  groups-fit : (bytes : List ℕ) (sel : Selection) → sum_of (λ e. w (event_size e)) (group_events (transactions_of order (placed_groups bytes sel))) ≤ sum_of own_weight (shown bytes sel)
+  unfolding shown placed_groups in_turn
+  groups-fit bytes sel =
+      let Member : Placed → Type 0 = Contains (events_in_range bytes sel) in
+      let fits = parts-fit (IsPlacedTransaction Member sel) written_weight own_weight (transaction_in_turn order) transaction_shown (transaction-fits Member sel) order
+      (placed_groups bytes sel) (groups-among sel (events_in_range bytes sel)) in
+      let events = sum-map (λ e. w (event_size e)) (written_event order) (in_turn order (placed_groups bytes sel)) in
+      let written = ap (sum_of (λ e. w (event_size e))) (written-in-turn order (placed_groups bytes sel)) in
+      omega arith
 
 -- ---- in sum
 

@@ -1,7 +1,7 @@
 -- What was changed is undone by the inverse changes, with no fault.
-use Rattle.std.proofs.Common.{◌≡◌, ℕ, ◌+◌, ◌-◌, Bool, true, false, if◌then◌else◌, ◌==◌, List, [], ◌∷◌, ◌++◌, Option, Some, None, option_and_then, bytes_eq, refl, sym, ap, ◌∙◌, arith, Decides, map, ne_eqb}
-use Rattle.std.proofs.lemmas.Bool.{false≢true, cond-true, cond-false, eqb-false}
-use Rattle.std.proofs.lemmas.Bool.Decides.{Decides-and, Decides-like}
+use Rattle.std.proofs.Common.{◌≡◌, ℕ, ◌+◌, ◌-◌, ◌==◌, List, [], ◌∷◌, ◌++◌, Option, Some, None, option_and_then, bytes_eq, refl, sym, ap, ◌∙◌, arith, Decides, map, ne_eqb, ◌≢◌}
+use Rattle.std.proofs.lemmas.Bool.{false≢true, cond-true, cond-false}
+use Rattle.std.proofs.lemmas.Bool.Decides.{Decides-and, Decides-like, nat_tests}
 use Rattle.std.proofs.lemmas.Option.{none-some, same_Some}
 use Rattle.std.proofs.lemmas.Slice.Eq.{bytes_eq-Decides, slice_eq-Decides}
 use Rattle.blog_row.specs.Image.{Row}
@@ -32,19 +32,11 @@ with_copies-own state t r n = cond-true (is_row t r t r) n (state t r) ((is_row-
 
 -- a number put over another leaves the later one
 pub with_copies-twice : (state : State) (t : Table) (r : Row) (m n : ℕ) → with_copies (with_copies state t r m) t r n ≡ with_copies state t r n
-with_copies-twice state t r m n = fun_ext λ u. fun_ext λ s. at u s (is_row t r u s)
-  where
-    at : (u : Table) (s : Row) (b : Bool) → (if b then n else (if b then m else state u s)) ≡ (if b then n else state u s)
-    at u s true = refl
-    at u s false = refl
+with_copies-twice state t r m n = fun_ext λ u. fun_ext λ s. grind arith
 
 -- putting the number that is there changes nothing
 pub with_copies-kept : (state : State) (t : Table) (r : Row) (n : ℕ) → state t r ≡ n → with_copies state t r n ≡ state
-with_copies-kept state t r n e = fun_ext λ u. fun_ext λ s. by_case u s (is_row t r u s) refl
-  where
-    by_case : (u : Table) (s : Row) (b : Bool) → is_row t r u s ≡ b → (if b then n else state u s) ≡ state u s
-    by_case u s true same = let p = (is_row-Decides t r u s).0 same in sym e ∙ (λ i. state (p.0 i) (p.1 i))
-    by_case u s false other = refl
+with_copies-kept state t r n e = fun_ext λ u. fun_ext λ s. let same = (is_row-Decides t r u s).0 in grind arith
 
 -- taking the copy that was put there
 pub delete-insert : (t : Table) (r : Row) (state : State) → delete_row t r (insert_row t r state) ≡ Some state
@@ -56,14 +48,10 @@ delete-insert t r state =
 
 -- putting back the copy that was taken
 pub insert-delete : (t : Table) (r : Row) (state left : State) → delete_row t r state ≡ Some left → insert_row t r left ≡ state
-insert-delete t r state left = by_case (state t r == 0) refl
-  where
-    by_case : (b : Bool) → (state t r == 0) ≡ b → (if b then None else Some (with_copies state t r (state t r - 1))) ≡ Some left → insert_row t r left ≡ state
-    by_case true none e = absurd (none-some left e)
-    by_case false some e =
-        let own = with_copies-own state t r (state t r - 1) in
-        let counted : with_copies state t r (state t r - 1) t r + 1 ≡ state t r = omega (arith, own, eqb-false (state t r) 0 some) in
-        ap (insert_row t r) (sym (same_Some _ _ e)) ∙ with_copies-twice state t r (state t r - 1) _ ∙ with_copies-kept state t r _ (sym counted)
+insert-delete t r state left e =
+    let taken : (state t r ≢ 0) × (with_copies state t r (state t r - 1) ≡ left) = grind (arith, nat_tests) in
+    let own = with_copies-own state t r (state t r - 1) in
+    ap (insert_row t r) (sym taken.1) ∙ with_copies-twice state t r (state t r - 1) _ ∙ with_copies-kept state t r _ (omega arith)
 
 -- ---- changes
 
@@ -79,12 +67,7 @@ undo_one (Updated t old new) before after e =
 -- changes one list after the other
 pub apply_all-append : (cs ds : List Change) (before : State) → apply_all (cs ++ ds) before ≡ option_and_then (apply_all ds) (apply_all cs before)
 apply_all-append [] ds before = refl
-apply_all-append (c ∷ cs) ds before = step (apply c before) (apply_all-append cs ds)
-  where
-    step : (o : Option State) → ((s : State) → apply_all (cs ++ ds) s ≡ option_and_then (apply_all ds) (apply_all cs s))
-        → option_and_then (apply_all (cs ++ ds)) o ≡ option_and_then (apply_all ds) (option_and_then (apply_all cs) o)
-    step None same = refl
-    step (Some s) same = same s
+apply_all-append (c ∷ cs) ds before = let each = apply_all-append cs ds in grind arith
 
 -- the inverse changes give the state back, and none of them faults
 pub undo_all : (cs : List Change) (before after : State) → apply_all cs before ≡ Some after → apply_all (inverse_all cs) after ≡ Some before

@@ -1,5 +1,5 @@
 -- A log that is laid out is read again, is accepted, and has the groups that were laid out.
-use Rattle.std.proofs.Common.{◌≡◌, ℕ, ◌+◌, ◌≤◌, ◌<◌, ◌^◌, true, List, [], ◌∷◌, length, take, map, reverse, None, bytes_eq, refl, sym, ap, ◌∙◌, arith}
+use Rattle.std.proofs.Common.{◌≡◌, ℕ, ◌+◌, ◌≤◌, ◌<◌, ◌^◌, true, List, [], ◌∷◌, length, take, map, reverse, None, bytes_eq, refl, ap, ◌∙◌, arith}
 use Rattle.std.specs.List.{AllByRecursion}
 use Rattle.std.proofs.lemmas.Bool.{lt-ltb, le-ltb, le-leb, eq-eqb}
 use Rattle.blog_event.specs.Fault.{first_failing}
@@ -38,26 +38,12 @@ written_events format ts = format ∷ with_log_pos (4 + event_size format) (grou
 placed-events : (pos : ℕ) (es : List Event) → end_of pos es < 2 ^ 32 → AllByRecursion Fits es → AllByRecursion IsEvent (with_log_pos pos es)
 placed-events pos [] short fits = tt
 placed-events pos (e ∷ es) short fits =
-    let end = end-total (pos + event_size e) es in (
-      record {
-        timestamp = fits.0.timestamp;
-        kind = fits.0.kind;
-        server_id = fits.0.server_id;
-        size = omega arith;
-        log_pos = omega arith;
-        flags = fits.0.flags;
-      },
-      placed-events (pos + event_size e) es short fits.1,
-    )
-
--- the log ends where the events of the groups do
-groups-end : (format : Event) (ts : List Transaction) → end_of (4 + event_size format) (group_events ts) ≡ length (laid_out format ts)
-groups-end format ts = end-total (4 + event_size format) (group_events ts) ∙ sym (laid-out-length format ts)
+    let end = end-total (pos + event_size e) es in (omega (arith, fits.0), placed-events (pos + event_size e) es short fits.1)
 
 -- they are events
 written-are : (Known : Event → Type 0) (format : Event) (ts : List Transaction) → IsWritable Known format ts → AllByRecursion IsEvent (written_events format ts)
 written-are Known format ts h =
-    (h.event, placed-events (4 + event_size format) (group_events ts) (omega (arith, groups-end format ts, h.short)) (events-fit Known ts h.are_groups))
+    (h.event, placed-events (4 + event_size format) (group_events ts) (omega (arith, end-total (4 + event_size format) (group_events ts), laid-out-length format ts, h.short)) (events-fit Known ts h.are_groups))
 
 -- what is laid out is read again
 pub written-read : (Known : Event → Type 0) (format : Event) (ts : List Transaction) → IsWritable Known format ts → read (laid_out format ts) None ≡ written_events format ts

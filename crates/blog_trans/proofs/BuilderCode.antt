@@ -7,17 +7,16 @@ use Rattle.indexmap.specs.IndexMap.{values}
 use Rattle.blog_event.specs.File.{Placed}
 use Rattle.blog_row.specs.TableMap.{Table}
 use Rattle.blog_trans.specs.declared.checker.Checker.{Checker}
-use Rattle.blog_trans.specs.declared.checker.MapSeen.{MapSeen}
 use Rattle.blog_trans.specs.declared.counts.Counts.{Counts}
 use Rattle.blog_trans.specs.Selection.{Selection}
 use Rattle.blog_trans.specs.Groups.{PlacedRows, PlacedStatement, PlacedTransaction, rows_value, transaction_if}
 use Rattle.blog_trans.specs.Changes.{Change, table_of, changes_of_rows}
 use Rattle.blog_trans.specs.Progress.{Open, appended_if, with_rows, ended}
-use Rattle.blog_trans.specs.StatementMaps.{MapFacts, first_of_ids, facts_of, facts_held, used_maps, used_of}
-use Rattle.blog_trans.specs.ListsView.{statement_behind, open_behind, between_statements, closed_by}
+use Rattle.blog_trans.specs.StatementMaps.{MapFacts, used_maps, used_of}
+use Rattle.blog_trans.specs.ListsView.{open_behind, between_statements, closed_by}
 use Rattle.blog_trans.specs.CheckerView.{HasChecked}
 use Rattle.blog_trans.specs.CountsView.{AreCounts}
-use Rattle.blog_trans.specs.BuilderView.{rows_changes, statements_changes, open_changes, progress_changes, statements_tables, progress_tables}
+use Rattle.blog_trans.specs.BuilderView.{statements_changes, progress_changes, statements_tables, progress_tables}
 use Rattle.blog_trans.proofs.Columns.{flat_push}
 
 -- ---- the changes and the tables of what is kept
@@ -25,32 +24,15 @@ use Rattle.blog_trans.proofs.Columns.{flat_push}
 -- with one more rows event
 pub changes-rows : (done : List PlacedTransaction) (o : Open) (r : PlacedRows)
     → progress_changes (open_behind done o) ++ changes_of_rows (rows_value r) ≡ progress_changes (open_behind done (with_rows (Some r) o))
-changes-rows done o r =
-    let before = flat_map (λ (t : PlacedTransaction). statements_changes t.statements) done in
-    let new = changes_of_rows (rows_value r) in
-    append_assoc before (open_changes o) new
-    ∙ ap (λ cs. before ++ cs) (append_assoc (statements_changes o.statements) (rows_changes o.rows) new)
-    ∙ ap (λ cs. before ++ (statements_changes o.statements ++ cs)) (sym (flat_push (λ (x : PlacedRows). changes_of_rows (rows_value x)) o.rows r))
+changes-rows done o r = grind (arith, append_assoc, flat_push)
 
 -- at the end of a statement
 changes-closed : (done : List PlacedTransaction) (o : Open) (ms : List Placed) → progress_changes (open_behind done o) ≡ progress_changes (open_behind done (closed_by ms o))
-changes-closed done o ms = ap (λ cs. flat_map (λ (t : PlacedTransaction). statements_changes t.statements) done ++ cs) (at o.rows)
-  where
-    at : (rows : List PlacedRows) → statements_changes o.statements ++ rows_changes rows ≡ statements_changes (statement_behind o.statements ms rows) ++ []
-    at [] = refl
-    at (r ∷ rows) = sym (append-nil _ ∙ flat_push (λ (s : PlacedStatement). rows_changes s.rows) o.statements (record { maps = ms; rows = r ∷ rows }))
+changes-closed done o ms = grind (arith, append-nil, flat_push)
 
 tables-closed : (done : List PlacedTransaction) (o : Open) (ms : List Placed) → (o.rows ≡ [] → ms ≡ [])
     → progress_tables (open_behind done o) ++ map (λ m. table_of m.event.body) ms ≡ progress_tables (open_behind done (closed_by ms o))
-tables-closed done o ms none =
-    append_assoc before (statements_tables o.statements) (map (λ m. table_of m.event.body) ms) ∙ ap (λ ts. before ++ ts) (at o.rows none)
-  where
-    before : List Table
-    before = flat_map (λ (t : PlacedTransaction). statements_tables t.statements) done
-
-    at : (rows : List PlacedRows) → (rows ≡ [] → ms ≡ []) → statements_tables o.statements ++ map (λ m. table_of m.event.body) ms ≡ statements_tables (statement_behind o.statements ms rows)
-    at [] none = ap (λ l. statements_tables o.statements ++ map (λ (m : Placed). table_of m.event.body) l) (none refl) ∙ append-nil (statements_tables o.statements)
-    at (r ∷ rows) none = sym (flat_push (λ (s : PlacedStatement). map (λ (m : Placed). table_of m.event.body) s.maps) o.statements (record { maps = ms; rows = r ∷ rows }))
+tables-closed done o ms none = grind (arith, append_assoc, append-nil, flat_push)
 
 -- at the end of a transaction
 flat-ended : {B : Type 0} (f : List PlacedStatement → List B) → f [] ≡ [] → (done : List PlacedTransaction) (begin p : Placed) (ss : List PlacedStatement)
@@ -68,13 +50,7 @@ filter-map test f (x ∷ xs) = let others = filter-map test f xs in grind arith
 pub used-held : {A B : Type 0} (f : ℕ → List ℕ → B) (checker : Checker A) (sel : Selection) (statement earlier : List Placed) → HasChecked sel statement earlier checker
     → map (λ m. f m.at m.body.now) (used_maps (values checker.maps)) ≡ map (λ m. f m.pos m.event.body) (used_of sel statement)
 used-held f checker sel statement earlier knows =
-    let g = λ (x : MapFacts). f x.at x.body in
-    ap (map (λ (m : MapSeen). f m.at m.body.now)) (filter-map (λ (m : MapSeen). m.used) (λ (e : ℕ × MapSeen). e.1) checker.maps.entries)
-    ∙ map-map (λ (m : MapSeen). f m.at m.body.now) (λ (e : ℕ × MapSeen). e.1) _
-    ∙ sym (map-map g facts_held (filter (λ (e : ℕ × MapSeen). e.1.used) checker.maps.entries))
-    ∙ ap (map g) (sym (filter-map (λ (x : MapFacts). x.used) facts_held checker.maps.entries) ∙ ap (filter (λ (x : MapFacts). x.used)) knows.maps_are
-    ∙ filter-map (λ (x : MapFacts). x.used) (facts_of sel statement) (first_of_ids statement))
-    ∙ map-map g (facts_of sel statement) (used_of sel statement)
+    simp (filter-map, map-map) (simp (filter-map, map-map) at (ap (λ facts. map (λ (x : MapFacts). f x.at x.body) (filter (λ (x : MapFacts). x.used) facts)) knows.maps_are))
 
 -- ---- the counts of what is kept
 
@@ -86,8 +62,5 @@ closed-counts tables counts done o ms none = subst (λ (x : List Change × List 
 pub ended-counts : {A : Type 0} (tables : List Table) (counts : Counts A) (done : List PlacedTransaction) (begin : Placed) (ss : List PlacedStatement) (p : Placed)
     → AreCounts tables (progress_changes (open_behind done (between_statements begin ss))) (progress_tables (open_behind done (between_statements begin ss))) counts
     → AreCounts tables (progress_changes (ended p done (between_statements begin ss))) (progress_tables (ended p done (between_statements begin ss))) counts
-ended-counts tables counts done begin ss p = subst (λ (x : List Change × List Table). AreCounts tables x.0 x.1 counts)
-    (λ i. (
-      (ap (λ cs. flat_map (λ (t : PlacedTransaction). statements_changes t.statements) done ++ cs) (append-nil (statements_changes ss)) ∙ flat-ended statements_changes refl done begin p ss) i,
-      flat-ended statements_tables refl done begin p ss i,
-    ))
+ended-counts tables counts done begin ss p =
+    grind (arith, append-nil (statements_changes ss), flat-ended statements_changes refl done begin p ss, flat-ended statements_tables refl done begin p ss)

@@ -1,11 +1,8 @@
 -- One more event, and what the builder's parts hold.
-use Rattle.std.proofs.Common.{rules, ◌≡◌, Bool, true, false, not, if◌then◌else◌, ◌==◌, ℕ, List, [], ◌∷◌, length, reverse, Option, Some, None, option_map, is_some, refl, sym, ap, ◌∙◌, subst, inl, inr}
+use Rattle.std.proofs.Common.{arith, rules, ◌≡◌, Bool, true, false, if◌then◌else◌, ℕ, List, [], ◌∷◌, length, reverse, Option, Some, None, option_map, is_some, refl, sym, ap, ◌∙◌, subst, inl, inr}
 use Rattle.std.specs.Prelude.{◌⊎◌}
-use Rattle.std.specs.List.{list_any}
 use Rattle.std.proofs.Math.Bool.{and-false}
-use Rattle.std.proofs.lemmas.Bool.{not-true}
-use Rattle.blog_event.specs.declared.fault.Fault.TheVariants.{OutOfPlace, Unended, BadBody}
-use Rattle.blog_event.specs.Fault.{Cause, needs, first_failing}
+use Rattle.blog_event.specs.Fault.{first_failing}
 use Rattle.blog_event.specs.File.{Placed}
 use Rattle.blog_row.specs.declared.kind.RowsKind.{RowsKind}
 use Rattle.blog_row.specs.RowsEvent.{has_end_flag}
@@ -17,21 +14,20 @@ use Rattle.blog_trans.specs.declared.checker.Checker.{Checker}
 use Rattle.blog_trans.specs.declared.checker.KeptRows.{KeptRows}
 use Rattle.blog_trans.specs.declared.builder.IndexBuilder.{IndexBuilder}
 use Rattle.blog_trans.specs.Selection.{Selection}
-use Rattle.blog_trans.specs.Places.{kind_at, is_map, is_rows, leads_to, place, is_inside, since}
-use Rattle.blog_trans.specs.Acceptance.{end_checks, checks, event_fault, HavePassed}
+use Rattle.blog_trans.specs.Places.{kind_at, is_map, leads_to, place, is_inside, since}
+use Rattle.blog_trans.specs.Acceptance.{checks, end_checks, event_fault, HavePassed}
 use Rattle.blog_trans.specs.Groups.{PlacedRows, PlacedStatement, PlacedTransaction, kept_rows, first_maps}
-use Rattle.blog_trans.specs.Progress.{Open, Progress, appended_if, with_rows, closed, ended_if, rows_taken, advance_by, advance, progress}
+use Rattle.blog_trans.specs.Progress.{Open, Progress, with_rows, closed, ended_if, rows_taken, advance_by, advance, progress}
 use Rattle.blog_trans.specs.StatementMaps.{used_of}
 use Rattle.blog_trans.specs.TablesView.{tables_known, HaveGrown}
 use Rattle.blog_trans.specs.CheckerView.{IsKept, HasChecked}
-use Rattle.blog_trans.specs.ListsView.{statement_behind, all_ended, open_behind, between_statements, closed_by}
+use Rattle.blog_trans.specs.ListsView.{all_ended, open_behind, between_statements, closed_by}
 use Rattle.blog_trans.specs.BuilderView.{HasTaken, Keeps, progress_changes, progress_tables}
 use Rattle.blog_trans.proofs.Growing.{counts-grown}
 use Rattle.blog_trans.proofs.Checking.{knows-quiet}
-use Rattle.blog_trans.proofs.ProgressSteps.{needs-passed}
 use Rattle.blog_trans.proofs.ProgressState.{open-inside, open-no-rows, since-rows, since-last}
 use Rattle.blog_trans.proofs.ProgressGroups.{none-open}
-use Rattle.blog_trans.proofs.ProgressMaps.{used_statement, taken-maps, taken-closed}
+use Rattle.blog_trans.proofs.ProgressMaps.{taken-maps, taken-closed}
 use Rattle.blog_trans.proofs.ProgressFirsts.{ids_of}
 use Rattle.blog_trans.proofs.IndexFacts.{some_found}
 
@@ -39,9 +35,7 @@ use Rattle.blog_trans.proofs.IndexFacts.{some_found}
 
 -- none is open before a `BEGIN`
 pub ended-before : (sel : Selection) (earlier : List Placed) (p : Placed) → kind_at p ≡ kind.Begin → HavePassed sel (p ∷ earlier) → progress sel earlier ≡ all_ended (progress sel earlier).done
-ended-before sel earlier p is passed =
-    let outside = not-true (is_inside (place earlier)) (needs-passed (not (is_inside (place earlier))) OutOfPlace [] (ap (λ j. first_failing (checks sel earlier p j)) (sym is) ∙ passed.0)).0 in
-    λ i. record { done = (progress sel earlier).done; current = none-open sel earlier passed.1 outside i }
+ended-before sel earlier p is passed = grind (arith, none-open sel earlier passed.1)
 
 -- inside a transaction one is open
 open-there : (sel : Selection) (earlier : List Placed) → HavePassed sel earlier → is_inside (place earlier) ≡ true → (o : Open) × ((progress sel earlier).current ≡ Some o)
@@ -49,18 +43,15 @@ open-there sel earlier passed inside = some_found (progress sel earlier).current
 
 -- before a rows event
 pub open-rows-event : (sel : Selection) (earlier : List Placed) (p : Placed) (k : RowsKind) → kind_at p ≡ kind.Rows k → HavePassed sel (p ∷ earlier) → (o : Open) × ((progress sel earlier).current ≡ Some o)
-open-rows-event sel earlier p k is passed = open-there sel earlier passed.1 (needs-passed (is_inside (place earlier)) OutOfPlace _ (ap (λ j. first_failing (checks sel earlier p j)) (sym is) ∙ passed.0)).0
+open-rows-event sel earlier p k is passed = open-there sel earlier passed.1 (grind arith)
 
 -- before an end no statement is
 pub open-end : (sel : Selection) (earlier : List Placed) → HavePassed sel earlier → first_failing (end_checks earlier) ≡ None
     → (begin : Placed) × (ss : List PlacedStatement) × (progress sel earlier ≡ open_behind (progress sel earlier).done (between_statements begin ss))
 open-end sel earlier passed checked =
-    let unended : Option Cause = needs (not (list_any is_rows (since earlier))) Unended in
-    let inside = needs-passed (is_inside (place earlier)) OutOfPlace (unended ∷ []) checked in
-    let none = not-true (list_any is_rows (since earlier)) (needs-passed (not (list_any is_rows (since earlier))) Unended [] inside.1).0 in
-    let there = open-there sel earlier passed inside.0 in
-    let rows = open-no-rows sel earlier there.0 passed there.1 none in
-    (there.0.begin, there.0.statements, λ i. record { done = (progress sel earlier).done; current = (there.1 ∙ ap (λ rs. Some (record { begin = there.0.begin; statements = there.0.statements; rows = rs })) rows) i })
+    let there = open-there sel earlier passed (grind arith) in
+    let rows = open-no-rows sel earlier there.0 passed there.1 (grind arith) in
+    (there.0.begin, there.0.statements, grind arith)
 
 -- what is kept, told otherwise
 pub keeps-as : {A : Type 0} (k l : Progress) (w : IndexBuilder A) → k ≡ l → Keeps k w → Keeps l w
@@ -80,32 +71,24 @@ pub record IsEnding (sel : Selection) (earlier : List Placed) (p : Placed) : Typ
 
 pub ending : (sel : Selection) (earlier : List Placed) (p : Placed) → (kind_at p ≡ kind.Commit) ⊎ ((kind_at p ≡ kind.Xid) × (length p.event.body ≡ 8)) → IsEnding sel earlier p
 ending sel earlier p (inl is) = record { ends = rw is refl; checks_are = rw is refl; progress_is = rw is refl }
-ending sel earlier p (inr xid) = record {
-  ends = rw (xid.0) refl;
-  checks_are = rw (xid.0) (ap (λ (n : ℕ). first_failing (needs (n == 8) BadBody ∷ end_checks earlier)) xid.1);
-  progress_is = rw (xid.0) refl;
-}
+ending sel earlier p (inr xid) = record { ends = rw (xid.0) refl; checks_are = rw (xid.0, xid.1) refl; progress_is = rw (xid.0) refl }
 
 -- ---- a rows event
 
 -- a statement of the used maps, closed either way
 closed-same : (sel : Selection) (earlier : List Placed) (p : Placed) (o : Open) → HavePassed sel (p ∷ earlier) → (progress sel earlier).current ≡ Some o
     → closed_by (used_of sel (p ∷ since earlier)) (with_rows (kept_rows sel (reverse (since earlier)) p) o) ≡ closed (reverse (p ∷ since earlier)) (with_rows (kept_rows sel (reverse (since earlier)) p) o)
-closed-same sel earlier p o passed current =
-    ap (between_statements o.begin) (at (with_rows (kept_rows sel (reverse (since earlier)) p) o).rows) ∙ sym (taken-closed sel earlier p o passed current)
-  where
-    at : (rs : List PlacedRows) → statement_behind o.statements (used_of sel (p ∷ since earlier)) rs ≡ appended_if o.statements (used_statement sel (p ∷ since earlier) rs)
-    at rs = search rules
+closed-same sel earlier p o passed current = search (rules, taken-closed)
 
 -- no maps are used where no rows event is kept
+no-maps : (ps : List Placed) → first_maps [] ps ≡ []
+no-maps [] = refl
+no-maps (p ∷ ps) = rw (and-false (is_map p)) (no-maps ps)
+
 pub no-used : (sel : Selection) (earlier : List Placed) (p : Placed) (o : Open) → HavePassed sel (p ∷ earlier) → (progress sel earlier).current ≡ Some o
     → (with_rows (kept_rows sel (reverse (since earlier)) p) o).rows ≡ [] → used_of sel (p ∷ since earlier) ≡ []
 no-used sel earlier p o passed current none =
     sym (taken-maps sel earlier p o passed current) ∙ ap (λ rs. first_maps (ids_of rs) (reverse (p ∷ since earlier))) none ∙ no-maps (reverse (p ∷ since earlier))
-  where
-    no-maps : (ps : List Placed) → first_maps [] ps ≡ []
-    no-maps [] = refl
-    no-maps (q ∷ qs) = rw (and-false (is_map q)) (no-maps qs)
 
 -- one that is kept is the log's
 pub kept-some : {A : Type 0} (tables : List Table) (at : ℕ) (kept : KeptRows) (r : Option PlacedRows) (done : List PlacedTransaction) (o : Open) (w : IndexBuilder A)
@@ -123,18 +106,24 @@ keeps-grown k w checker grown keeps = record {
   counts = counts-grown (tables_known w.checker.layouts) (tables_known checker.layouts) (progress_changes k) (progress_tables k) w.counts grown keeps.counts;
 }
 
+-- one that is nothing to the groups
+pub walks-other : {A : Type 0} (w : IndexBuilder A) (checker : Checker A) (sel : Selection) (earlier : List Placed) (p : Placed) → HaveGrown (tables_known w.checker.layouts) (tables_known checker.layouts)
+    → ((k : Progress) → advance sel earlier p k ≡ k) → (event_fault sel earlier p ≡ None) × HasChecked sel (since (p ∷ earlier)) (p ∷ earlier) checker → HasTaken sel earlier w
+    → (event_fault sel earlier p ≡ None) × HasTaken sel (p ∷ earlier) (record { checker = checker; lists = w.lists; counts = w.counts })
+walks-other w checker sel earlier p grown same knows h =
+    let keeps = keeps-as _ _ _ (sym (same (progress sel earlier))) (keeps-grown (progress sel earlier) w checker grown h.keeps) in
+    (knows.0, record { passed = (knows.0, h.passed); checker = knows.1; keeps = keeps })
+
+-- one of a kind that leads nowhere either
+pub walks-quiet : {A : Type 0} (w : IndexBuilder A) (sel : Selection) (earlier : List Placed) (p : Placed) (k : EventKind) → kind_at p ≡ k → first_failing (checks sel earlier p k) ≡ None
+    → is_begin_kind k ≡ false → is_map_kind k ≡ false → is_some (rows_of_kind k) ≡ false → leads_to k ≡ None → ((x : Progress) → advance_by k sel earlier p x ≡ x)
+    → HasTaken sel earlier w → (event_fault sel earlier p ≡ None) × HasTaken sel (p ∷ earlier) w
+walks-quiet w sel earlier p k is fits no_begin no_map no_rows nowhere same h =
+    let led : w.checker.place ≡ place (p ∷ earlier) = h.checker.place_is ∙ rw (is, nowhere) refl in
+    let knows = knows-quiet sel p earlier w.checker w.checker.place (rw is no_begin) (rw is no_map) (rw is no_rows) led h.checker in
+    walks-other w w.checker sel earlier p (inl refl) (λ x. rw is (same x)) (rw is fits, knows) h
+
 module _ {A : Type 0} (w : IndexBuilder A) (sel : Selection) (earlier : List Placed) (p : Placed) (passed : HavePassed sel (p ∷ earlier)) where
-  -- one that is nothing to the groups
-  pub walks-other : ((k : Progress) → advance sel earlier p k ≡ k) → HasChecked sel (since (p ∷ earlier)) (p ∷ earlier) w.checker → Keeps (progress sel earlier) w → HasTaken sel (p ∷ earlier) w
-  walks-other same knows keeps = record { passed = passed; checker = knows; keeps = subst (λ k. Keeps k w) (sym (same (progress sel earlier))) keeps }
-
-  -- one of a kind that leads nowhere either
-  pub walks-quiet : (k : EventKind) → kind_at p ≡ k → is_begin_kind k ≡ false → is_map_kind k ≡ false → is_some (rows_of_kind k) ≡ false → leads_to k ≡ None
-      → ((x : Progress) → advance_by k sel earlier p x ≡ x) → HasTaken sel earlier w → HasTaken sel (p ∷ earlier) w
-  walks-quiet k is no_begin no_map no_rows nowhere same h =
-      walks-other (λ x. rw is (same x))
-      (knows-quiet sel p earlier w.checker w.checker.place (rw is no_begin) (rw is no_map) (rw is no_rows) (h.checker.place_is ∙ rw (is, nowhere) refl) h.checker) h.keeps
-
   -- a rows event, which may be the last of its statement
   module _ (k : RowsKind) (o : Open) (is : kind_at p ≡ kind.Rows k) (current : (progress sel earlier).current ≡ Some o) where
     abbrev pub taken : Open

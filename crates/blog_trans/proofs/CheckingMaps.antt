@@ -8,12 +8,14 @@ use Rattle.std.specs.List.{list_any, AllByRecursion, IsDistinct}
 use Rattle.std.specs.Map.{lookup, set_value, keys_of}
 use Rattle.std.proofs.Math.Bool.{and-true}
 use Rattle.std.proofs.lemmas.Bool.{eqb-true}
+use Rattle.blog_trans.proofs.ProgressFirsts.{bytes-same}
+use Rattle.blog_trans.proofs.ProgressMaps.{bytes-turned}
 use Rattle.std.proofs.lemmas.Bool.Decides.{Decides-eqb, Decides-like, same_from_decides}
 use Rattle.std.proofs.lemmas.List.{length-take-le, map-append, take_all, take_at}
 use Rattle.std.proofs.lemmas.List.Folds.{find-append}
 use Rattle.std.proofs.lemmas.Map.Keys.{IsDistinct-head, IsDistinct-tail}
 use Rattle.std.proofs.lemmas.Slice.Eq.{bytes_eq-Decides}
-use Rattle.byteorder.specs.Endian.{little_number, little_bytes}
+use Rattle.byteorder.specs.Endian.{little_number}
 use Rattle.blog_event.specs.File.{Placed, AreBytes}
 use Rattle.blog_event.proofs.Framing.{bytes-take, number-bytes}
 use Rattle.blog_row.specs.LayoutView.{layout_columns}
@@ -28,7 +30,8 @@ use Rattle.blog_trans.specs.Selection.{Selection}
 use Rattle.blog_trans.specs.Places.{is_map, is_rows, is_map_of, map_in}
 use Rattle.blog_trans.specs.Acceptance.{is_selected, clashes_by_id}
 use Rattle.blog_trans.specs.StatementMaps.{MapFacts, first_of_ids, facts_of, facts_held}
-use Rattle.blog_trans.specs.CheckerView.{IsPassed, IsPassedStatement, differs}
+use Rattle.blog_trans.specs.CheckerView.{HasChecked, IsPassed, IsPassedStatement}
+use Rattle.blog_trans.specs.declared.checker.Checker.{Checker}
 use Rattle.blog_trans.proofs.EntriesFound.{mapped}
 use Rattle.blog_trans.proofs.CheckingStatement.{map-first, map-there, or-none, facts-kept}
 
@@ -41,9 +44,7 @@ pub record IsId (id : List ℕ) : Type 0 where
 
 -- an id's number tells its bytes
 same-id : (a b : List ℕ) → IsId a → IsId b → little_number 6 a ≡ little_number 6 b → a ≡ b
-same-id a b is_a is_b h =
-    sym (take_all 6 a (omega arith)) ∙ sym (number-bytes 6 a is_a.bytes (omega arith)) ∙ ap (little_bytes 6) h
-    ∙ number-bytes 6 b is_b.bytes (omega arith) ∙ take_all 6 b (omega arith)
+same-id a b is_a is_b h = grind (arith, number-bytes 6 a is_a.bytes, number-bytes 6 b is_b.bytes, take_all 6 a, take_all 6 b)
 
 -- so numbers compare as the bytes do
 ids-compare : (a b : List ℕ) (k n : ℕ) → IsId a → IsId b → k ≡ little_number 6 a → n ≡ little_number 6 b → nat_eq k n ≡ bytes_eq b a
@@ -57,6 +58,9 @@ pub record IsPassedMap (sel : Selection) (m : Placed) : Type 0 where
   pub is : is_map m ≡ true
   pub passed : IsPassed sel m
 
+id-of : (sel : Selection) (m : Placed) → IsPassedMap sel m → IsId (table_id m.event.body)
+id-of sel m h = record { len = h.passed.id_len; bytes = h.passed.id_bytes }
+
 pub first-passed : (sel : Selection) (statement : List Placed) → AllByRecursion (λ m. is_map m ≡ true → IsPassed sel m) statement
     → AllByRecursion (IsPassedMap sel) (first_of_ids statement)
 first-passed sel [] all = tt
@@ -66,8 +70,8 @@ first-passed sel (p ∷ statement) all =
     grind arith
 
 -- the first of an id among them
-or-some : {A : Type 0} (o p : Option A) → is_some o ≡ true → option_or o p ≡ o
-or-some o p h = grind arith
+or-own : {A : Type 0} (o : Option A) (x : A) (b : Bool) → (b ≡ true → is_some o ≡ true) → option_or o (if b then Some x else None) ≡ o
+or-own o x b some = grind arith
 
 find-step : (p : Placed) (statement : List Placed) (id : List ℕ) (b any : Bool) → is_map p ≡ b → list_any (is_map_of (table_id p.event.body)) statement ≡ any
     → find (is_map_of id) (first_of_ids statement) ≡ map_in (reverse statement) id
@@ -75,13 +79,9 @@ find-step : (p : Placed) (statement : List Placed) (id : List ℕ) (b any : Bool
     ≡ option_or (map_in (reverse statement) id) (if b && bytes_eq (table_id p.event.body) id then Some p else None)
 find-step p statement id false any is there h = h ∙ sym (or-none (map_in (reverse statement) id))
 find-step p statement id true false is there h = find-append (is_map_of id) (first_of_ids statement) (p ∷ []) ∙ rw (h, is) refl
-find-step p statement id true true is there h = h ∙ sym (by (bytes_eq (table_id p.event.body) id) refl)
-  where
-    by : (same : Bool) → bytes_eq (table_id p.event.body) id ≡ same → option_or (map_in (reverse statement) id) (if same then Some p else None) ≡ map_in (reverse statement) id
-    by false e = or-none (map_in (reverse statement) id)
-    by true e =
-        let own : table_id p.event.body ≡ id = (bytes_eq-Decides (table_id p.event.body) id).0 e in
-        or-some (map_in (reverse statement) id) (Some p) (map-there statement id ∙ ap (λ (i : List ℕ). list_any (is_map_of i) statement) (sym own) ∙ there)
+find-step p statement id true true is there h =
+    let own = λ (same : bytes_eq (table_id p.event.body) id ≡ true). ap (λ (i : List ℕ). list_any (is_map_of i) statement) (sym (bytes-same (table_id p.event.body) id same)) in
+    h ∙ sym (or-own (map_in (reverse statement) id) p (bytes_eq (table_id p.event.body) id) (λ same. map-there statement id ∙ own same ∙ there))
 
 pub find-first : (statement : List Placed) (id : List ℕ) → find (is_map_of id) (first_of_ids statement) ≡ map_in (reverse statement) id
 find-first [] id = refl
@@ -104,13 +104,10 @@ held sel statement id k is_id k_is [] [] all h = refl
 held sel statement id k is_id k_is [] (m ∷ ms) all h = absurd (cc)
 held sel statement id k is_id k_is (e ∷ es) [] all h = absurd (cc)
 held sel statement id k is_id k_is (e ∷ es) (m ∷ ms) all h =
-    let passed : IsPassedMap sel m = all.0 in
     let first : facts_held e ≡ facts_of sel statement m = cc in
-    let others : map facts_held es ≡ map (facts_of sel statement) ms = cc in
-    let is_m : IsId (table_id m.event.body) = record { len = passed.passed.id_len; bytes = passed.passed.id_bytes } in
-    let compare = ids-compare id (table_id m.event.body) k e.0 is_id is_m k_is (ap (λ (f : MapFacts). f.id) first) in
-    let own : is_map_of id m ≡ bytes_eq (table_id m.event.body) id = rw passed.is refl in
-    held-step sel statement id k e m es ms (bytes_eq (table_id m.event.body) id) compare own first (held sel statement id k is_id k_is es ms all.1 others)
+    let compare = ids-compare id (table_id m.event.body) k e.0 is_id (id-of sel m all.0) k_is (ap (λ (f : MapFacts). f.id) first) in
+    let own : is_map_of id m ≡ bytes_eq (table_id m.event.body) id = rw (all.0.is) refl in
+    held-step sel statement id k e m es ms (bytes_eq (table_id m.event.body) id) compare own first (held sel statement id k is_id k_is es ms all.1 (cc))
 
 pub held-map : (sel : Selection) (statement : List Placed) (id : List ℕ) (k : ℕ) (es : List (ℕ × MapSeen)) → IsId id → k ≡ little_number 6 id → IsPassedStatement sel statement
     → map facts_held es ≡ map (facts_of sel statement) (first_of_ids statement)
@@ -126,13 +123,8 @@ pub maps-more : (sel : Selection) (m : Placed) (statement : List Placed) (k : �
     → map facts_held es ≡ map (facts_of sel statement) (first_of_ids statement) → after ≡ es ++ (k, v) ∷ [] → facts_held (k, v) ≡ facts_of sel (m ∷ statement) m
     → map facts_held after ≡ map (facts_of sel (m ∷ statement)) (first_of_ids (m ∷ statement))
 maps-more sel m statement k v es after is no_rows new passed h after_is last =
-    let kept : map (facts_of sel (m ∷ statement)) (first_of_ids statement) ≡ map (facts_of sel statement) (first_of_ids statement) =
-    ap (λ (facts : Placed → MapFacts). map facts (first_of_ids statement)) (facts-kept sel m statement no_rows) in
-    let left : map facts_held after ≡ map facts_held es ++ facts_held (k, v) ∷ [] = ap (map facts_held) after_is ∙ map-append facts_held es ((k, v) ∷ []) in
-    let right : map (facts_of sel (m ∷ statement)) (first_of_ids statement ++ m ∷ []) ≡ map (facts_of sel (m ∷ statement)) (first_of_ids statement) ++ facts_of sel (m ∷ statement) m ∷ [] =
-    map-append (facts_of sel (m ∷ statement)) (first_of_ids statement) (m ∷ []) in
-    let joined : map facts_held es ++ facts_held (k, v) ∷ [] ≡ map (facts_of sel (m ∷ statement)) (first_of_ids statement) ++ facts_of sel (m ∷ statement) m ∷ [] = rw (h, kept, last) refl in
-    rw (is, new) (left ∙ joined ∙ sym right)
+    let kept = ap (λ (facts : Placed → MapFacts). map facts (first_of_ids statement)) (sym (facts-kept sel m statement no_rows)) in
+    rw (is, new, after_is, map-append facts_held es ((k, v) ∷ []), map-append (facts_of sel (m ∷ statement)) (first_of_ids statement) (m ∷ [])) (λ i. (h ∙ kept) i ++ last i ∷ [])
 
 -- ---- a rows event that goes by a map
 
@@ -146,9 +138,7 @@ some-map f o = search rules
 module _ (sel : Selection) (p : Placed) (statement : List Placed) (k : ℕ) (is_id : IsId (table_id p.event.body)) (k_is : k ≡ little_number 6 (table_id p.event.body)) (is : is_rows p ≡ true) where
   -- whether it goes by a map
   goes-by : (m : Placed) (n : ℕ) → IsPassedMap sel m → n ≡ little_number 6 (table_id m.event.body) → bytes_eq (table_id p.event.body) (table_id m.event.body) ≡ nat_eq k n
-  goes-by m n passed n_is = same_from_decides (bytes_eq (table_id p.event.body) (table_id m.event.body)) (nat_eq k n) (bytes_eq-Decides (table_id p.event.body) (table_id m.event.body))
-      (Decides-like (nat_eq k n) (λ e. same-id (table_id p.event.body) (table_id m.event.body) is_id (record { len = passed.passed.id_len; bytes = passed.passed.id_bytes }) (sym k_is ∙ e ∙ n_is))
-      (λ e. k_is ∙ ap (little_number 6) e ∙ sym n_is) (Decides-eqb k n))
+  goes-by m n passed n_is = grind (arith, bytes-turned, ids-compare (table_id p.event.body) (table_id m.event.body) k n is_id (id-of sel m passed) k_is n_is)
 
   -- a map by which it doesn't go, and the one by which it does
   other : (m : Placed) (e : ℕ × MapSeen) → IsPassedMap sel m → facts_held e ≡ facts_of sel statement m → nat_eq k e.0 ≡ false → facts_held e ≡ facts_of sel (p ∷ statement) m
@@ -182,20 +172,10 @@ module _ (sel : Selection) (p : Placed) (statement : List Placed) (k : ℕ) (is_
   marked v (e ∷ es) (m ∷ ms) all same distinct found =
       let first : facts_held e ≡ facts_of sel statement m = cc in
       let others : map facts_held es ≡ map (facts_of sel statement) ms = cc in
-      by first others (nat_eq k e.0) refl (marked v es ms all.1 others (IsDistinct-tail nat_eq e.0 (keys_of es) distinct))
-    where
-      by : facts_held e ≡ facts_of sel statement m → map facts_held es ≡ map (facts_of sel statement) ms → (b : Bool) → nat_eq k e.0 ≡ b
-          → (lookup (nat_eq k) es ≡ Some v → map facts_held (set_value (nat_eq k) es (record v { used = is_some v.table })) ≡ map (facts_of sel (p ∷ statement)) ms)
-          → map facts_held (set_value (nat_eq k) (e ∷ es) (record v { used = is_some v.table })) ≡ map (facts_of sel (p ∷ statement)) (m ∷ ms)
-      by first others true goes later =
-          let here : Some e.1 ≡ Some v = rw goes at found in
-          let held : e.1 ≡ v = cc in
-          let rest = unmarked es ms all.1 others (subst (λ (n : ℕ). AllByRecursion (λ y. nat_eq n y ≡ false) (keys_of es)) (sym (eqb-true k e.0 goes)) (IsDistinct-head nat_eq e.0 (keys_of es) distinct)) in
-          let now = ap (λ (x : MapSeen). facts_held (e.0, record x { used = is_some x.table })) (sym held) ∙ own m e all.0 first goes in
-          rw goes (λ i. now i ∷ rest i)
-      by first others false apart later =
-          let rest = later (rw apart at found) in
-          rw apart (λ i. other m e all.0 first apart i ∷ rest i)
+      let heads = IsDistinct-head nat_eq e.0 (keys_of es) distinct in
+      let apart = λ (here : nat_eq k e.0 ≡ true). subst (λ (n : ℕ). AllByRecursion (λ y. nat_eq n y ≡ false) (keys_of es)) (sym (eqb-true k e.0 here)) heads in
+      let later = marked v es ms all.1 others (IsDistinct-tail nat_eq e.0 (keys_of es) distinct) in
+      grind (arith, own m e all.0 first, other m e all.0 first, λ (here : nat_eq k e.0 ≡ true). unmarked es ms all.1 others (apart here))
 
 pub maps-marked : (sel : Selection) (p : Placed) (statement : List Placed) (k : ℕ) (v w : MapSeen) (es after : List (ℕ × MapSeen)) → IsId (table_id p.event.body)
     → k ≡ little_number 6 (table_id p.event.body) → is_map p ≡ false → is_rows p ≡ true → IsPassedStatement sel statement
@@ -211,39 +191,13 @@ maps-marked sel p statement k v w es after is_id k_is no_map is passed h distinc
 pub body-id : (body : List ℕ) → 6 ≤ length body → AreBytes body → IsId (table_id body)
 body-id body long bytes = record { len = length-take-le 6 body long; bytes = bytes-take 6 body bytes }
 
-unmapped : {A B : Type 0} (f : A → B) (o : Option A) → option_map f o ≡ None → o ≡ None
-unmapped f o is = grind arith
-
 -- what is held under an id's number
 pub held-some : (sel : Selection) (statement : List Placed) (id : List ℕ) (k : ℕ) (v : MapSeen) (es : List (ℕ × MapSeen)) → IsId id → k ≡ little_number 6 id → IsPassedStatement sel statement
     → map facts_held es ≡ map (facts_of sel statement) (first_of_ids statement) → lookup (nat_eq k) es ≡ Some v
-    → (m : Placed) × (map_in (reverse statement) id ≡ Some m) × (facts_held (k, v) ≡ facts_of sel statement m)
+    → (m : Placed) × (map_in (reverse statement) id ≡ Some m) × (facts_of sel statement m ≡ facts_held (k, v))
 held-some sel statement id k v es is_id k_is passed h found =
-    let (m, is, same) = mapped (facts_of sel statement) (map_in (reverse statement) id) (facts_held (k, v))
-    (sym (held-map sel statement id k es is_id k_is passed h) ∙ ap (option_map (λ (x : MapSeen). facts_held (k, x))) found) in
-    (m, is, sym same)
-
-pub held-none : (sel : Selection) (statement : List Placed) (id : List ℕ) (k : ℕ) (es : List (ℕ × MapSeen)) → IsId id → k ≡ little_number 6 id → IsPassedStatement sel statement
-    → map facts_held es ≡ map (facts_of sel statement) (first_of_ids statement) → lookup (nat_eq k) es ≡ None → map_in (reverse statement) id ≡ None
-held-none sel statement id k es is_id k_is passed h found =
-    unmapped (facts_of sel statement) (map_in (reverse statement) id) (sym (held-map sel statement id k es is_id k_is passed h) ∙ ap (option_map (λ (x : MapSeen). facts_held (k, x))) found)
-
-pub compare-some : (sel : Selection) (statement : List Placed) (p : Placed) (k : ℕ) (v : MapSeen) (es : List (ℕ × MapSeen)) (same : Bool) → IsId (table_id p.event.body)
-    → k ≡ little_number 6 (table_id p.event.body) → IsPassedStatement sel statement → map facts_held es ≡ map (facts_of sel statement) (first_of_ids statement) → lookup (nat_eq k) es ≡ Some v
-    → bytes_eq v.body.now p.event.body ≡ same → (list_any (clashes_by_id p) statement ≡ not same) × (list_any (is_map_of (table_id p.event.body)) statement ≡ true)
-compare-some sel statement p k v es same is_id k_is passed h found same_is =
-    let first = held-some sel statement (table_id p.event.body) k v es is_id k_is passed h found in
-    let body : v.body.now ≡ first.0.event.body = ap (λ (f : MapFacts). f.body) first.2 in
-    let clash : list_any (clashes_by_id p) statement ≡ not same =
-    passed.agree p ∙ ap (λ (o : Option Placed). option_map_or (differs p) o false) first.1 ∙ ap (λ (b : List ℕ). not (bytes_eq b p.event.body)) (sym body) ∙ ap not same_is in
-    (clash, sym (map-there statement (table_id p.event.body)) ∙ ap is_some first.1)
-
-pub compare-none : (sel : Selection) (statement : List Placed) (p : Placed) (k : ℕ) (es : List (ℕ × MapSeen)) → IsId (table_id p.event.body)
-    → k ≡ little_number 6 (table_id p.event.body) → IsPassedStatement sel statement → map facts_held es ≡ map (facts_of sel statement) (first_of_ids statement) → lookup (nat_eq k) es ≡ None
-    → (list_any (clashes_by_id p) statement ≡ false) × (list_any (is_map_of (table_id p.event.body)) statement ≡ false)
-compare-none sel statement p k es is_id k_is passed h found =
-    let none = held-none sel statement (table_id p.event.body) k es is_id k_is passed h found in
-    (passed.agree p ∙ ap (λ (o : Option Placed). option_map_or (differs p) o false) none, sym (map-there statement (table_id p.event.body)) ∙ ap is_some none)
+    mapped (facts_of sel statement) (map_in (reverse statement) id) (facts_held (k, v))
+    (sym (held-map sel statement id k es is_id k_is passed h) ∙ ap (option_map (λ (x : MapSeen). facts_held (k, x))) found)
 
 -- the id of a map
 pub map-id : (body : List ℕ) (names : Names) → AreBytes body → HasNames body names → IsId (table_id body) × (little_number 6 names.id ≡ little_number 6 (table_id body))
@@ -251,3 +205,13 @@ map-id body names bytes has =
     let long : 6 ≤ length body = omega (arith, ap length has.text, length-append names.id, has.id_len) in
     let front : take 6 body ≡ names.id = ap (take 6) has.text ∙ take_at names.id _ 6 has.id_len in
     (body-id body long bytes, ap (little_number 6) (sym front))
+
+-- so another map of the id is compared with it
+pub compare-held : {A : Type 0} (sel : Selection) (statement earlier : List Placed) (p : Placed) (n : Names) (k : ℕ) (checker : Checker A) (o : Option MapSeen)
+    → AreBytes p.event.body → HasNames p.event.body n → k ≡ little_number 6 n.id → HasChecked sel statement earlier checker → lookup (nat_eq k) checker.maps.entries ≡ o
+    → (list_any (clashes_by_id p) statement ≡ option_map_or (λ v. not (bytes_eq v.body.now p.event.body)) o false)
+    × (list_any (is_map_of (table_id p.event.body)) statement ≡ is_some o)
+compare-held sel statement earlier p n k checker o bytes has k_is h found =
+    let id = map-id p.event.body n bytes has in
+    let held = held-map sel statement (table_id p.event.body) k checker.maps.entries id.0 (k_is ∙ id.1) h.passed h.maps_are in
+    grind (arith, h.passed.agree p, map-there statement (table_id p.event.body))

@@ -1,7 +1,6 @@
 -- What is told and known of a rows event.
-use Rattle.std.proofs.Common.{◌≡◌, ℕ, ◌≤◌, ◌<◌, Bool, true, false, List, [], ◌∷◌, length, map, reverse, Option, Some, None, Result, Ok, Err, refl, sym, subst, ap, ◌∙◌, arith, length-append, rules}
-use Rattle.std.specs.Prelude.{if◌then◌else◌, is_some, nat_eq, nat_le, option_map, option_and_then, slice_get, IsErrAnd, IsOk}
-use Rattle.std.specs.Result.{result_ok}
+use Rattle.std.proofs.Common.{◌≡◌, ℕ, ◌≤◌, ◌<◌, Bool, true, false, List, [], ◌∷◌, length, map, reverse, Option, Some, None, Result, Ok, refl, sym, subst, ap, ◌∙◌, arith, length-append, rules}
+use Rattle.std.specs.Prelude.{is_some, nat_eq, nat_le, IsErrAnd}
 use Rattle.std.specs.List.{concat, list_any, AllByRecursion, IsDistinct}
 use Rattle.std.specs.Map.{lookup, set_value, keys_of, values_of}
 use Rattle.std.proofs.lemmas.Bool.{leb-true}
@@ -19,7 +18,7 @@ use Rattle.blog_row.specs.declared.rows_event.RowsHead.{RowsHead}
 use Rattle.blog_row.specs.Column.{Layout}
 use Rattle.blog_row.specs.Image.{IsSomeImage}
 use Rattle.blog_row.specs.LayoutView.{layout_columns}
-use Rattle.blog_row.specs.TableMap.{Table, layout_of}
+use Rattle.blog_row.specs.TableMap.{Table}
 use Rattle.blog_row.specs.RowsEvent.{RowsBody, IsRowsBody, rows_of, table_id, fixed_len}
 use Rattle.blog_row.specs.declared.rows_event.RowsEvent.{RowsEvent}
 use Rattle.blog_row.specs.RowsEventView.{counted_seen, head_of}
@@ -30,15 +29,14 @@ use Rattle.blog_trans.specs.declared.layouts.SelectedTable.{SelectedTable}
 use Rattle.blog_trans.specs.declared.checker.MapSeen.{MapSeen}
 use Rattle.blog_trans.specs.Selection.{Selection}
 use Rattle.blog_trans.specs.Places.{kind_at, is_map, is_rows, is_map_of, map_in, is_inside, since}
-use Rattle.blog_trans.specs.Acceptance.{is_selected, cause_of_row, rows_check, event_fault}
-use Rattle.blog_trans.specs.Changes.{table_of}
+use Rattle.blog_trans.specs.Acceptance.{cause_of_row, rows_check, event_fault}
 use Rattle.blog_trans.specs.Groups.{kept_rows}
 use Rattle.blog_trans.specs.TablesView.{tables_known, IsNumbered}
 use Rattle.blog_trans.specs.StatementMaps.{MapFacts, first_of_ids}
-use Rattle.blog_trans.specs.CheckerView.{IsKept, HasChecked, LayoutsAgree, IsMapHeld, columns_known}
+use Rattle.blog_trans.specs.CheckerView.{IsKept, HasChecked, IsMapHeld}
 use Rattle.blog_trans.proofs.PlacedParts.{all-found}
 use Rattle.blog_trans.proofs.CheckingStatement.{map-there, passed-rows}
-use Rattle.blog_trans.proofs.CheckingMaps.{IsId, body-id, held-none, IsPassedMap, first-passed, find-first, held-some, maps-marked}
+use Rattle.blog_trans.proofs.CheckingMaps.{IsId, body-id, held-map, IsPassedMap, first-passed, find-first, held-some, maps-marked}
 use Rattle.blog_trans.proofs.CheckingLayouts.{layouts-quiet}
 
 -- ---- how many images it has
@@ -54,45 +52,27 @@ images-few layout (image ∷ images) some all =
 -- nor than the body has
 pub images-fit : (kind : RowsKind) (layout : Layout) (body : List ℕ) (b : RowsBody) → 0 < length layout → IsRowsBody kind layout body b → length b.images ≤ length body
 images-fit kind layout body b some is =
-    let few : length b.images ≤ length (concat b.images) = images-few layout b.images some is.images_each in
-    omega (arith, ap length is.text, length-append b.id, length-append b.flags, length-append b.extra_len, length-append b.extra, length-append b.count, length-append (concat b.bitmaps) (concat b.images))
+    omega (arith, images-few layout b.images some is.images_each, ap length is.text, length-append {A = ℕ})
 
 -- ---- its check
-
--- a table that isn't selected has no known columns, and a selected one has its map's
-unselected : (b : Bool) (r : Result Layout RowFault) → (b ≡ true → IsOk r) → None ≡ (if b then result_ok r else None) → b ≡ false
-unselected b r known h = grind arith
-
-selected : (b : Bool) (r : Result Layout RowFault) (layout : Layout) → Some layout ≡ (if b then result_ok r else None) → (b ≡ true) × (r ≡ Ok layout)
-selected b r layout h = grind arith
 
 -- a rows event of a table that isn't selected passes, and isn't kept
 pub rows-unselected : (tables : List Table) (sel : Selection) (statement : List Placed) (p : Placed) (rows : RowsKind) (v : MapSeen) (m : Placed) → IsMapHeld sel statement (table_id p.event.body) v m → v.table ≡ None
     → (rows_check sel rows p.event.body (map_in (reverse statement) (table_id p.event.body)) ≡ None) × IsKept tables p.pos None (kept_rows sel (reverse statement) p)
-rows-unselected tables sel statement p rows v m held none =
-    let known : None ≡ columns_known sel m = ap (option_map (λ (t : SelectedTable). layout_columns t.layout)) (sym none) ∙ held.layout in
-    let off = unselected (is_selected sel m.event.body) (layout_of m.event.body) held.known known in
-    (rw (held.found, off) refl, rw (held.found, off) tt)
+rows-unselected tables sel statement p rows v m held none = grind (arith, held.known)
 
 -- one that is read passes, and is kept
 pub rows-kept : (tables : List Table) (sel : Selection) (statement : List Placed) (p : Placed) (rows : RowsKind) (v : MapSeen) (m : Placed) (t : SelectedTable) (b : RowsBody) (images : ℕ) → kind_at p ≡ kind.Rows rows
     → IsNumbered tables v → IsMapHeld sel statement (table_id p.event.body) v m → v.table ≡ Some t → rows_of rows (layout_columns t.layout) p.event.body ≡ Ok b → images ≡ length b.images
     → (rows_check sel rows p.event.body (map_in (reverse statement) (table_id p.event.body)) ≡ None)
     × IsKept tables p.pos (Some (record { map = v.at; table = t.number; action = rows.action; images = images })) (kept_rows sel (reverse statement) p)
-rows-kept tables sel statement p rows v m t b images is numbered held table read images_are =
-    let on = selected (is_selected sel m.event.body) (layout_of m.event.body) (layout_columns t.layout) (ap (option_map (λ (t : SelectedTable). layout_columns t.layout)) (sym table) ∙ held.layout) in
-    let number = ap (option_and_then (λ (t : SelectedTable). slice_get tables t.number)) (sym table) ∙ numbered.number ∙ ap (option_map (λ (t : SelectedTable). table_of v.body.now)) table
-    ∙ ap (λ (body : List ℕ). Some (table_of body)) held.body in
-    (rw (held.found, on.0, on.1, read) refl, rw (held.found, on.0, is, on.1, read) (refl, held.at, number, refl, images_are))
+rows-kept tables sel statement p rows v m t b images is numbered held table read images_are = grind (arith, held.known)
 
 -- one that isn't read is refused
 pub rows-refused : (sel : Selection) (statement : List Placed) (p : Placed) (rows : RowsKind) (v : MapSeen) (m : Placed) (t : SelectedTable) (read : Result (RowsEvent × ℕ) RowFault) (f : Fault)
     → IsMapHeld sel statement (table_id p.event.body) v m → v.table ≡ Some t → counted_seen read ≡ rows_of rows (layout_columns t.layout) p.event.body → IsErrAnd read (λ cause. f ≡ cause_of_row cause p.pos)
     → fault_at p.pos (rows_check sel rows p.event.body (map_in (reverse statement) (table_id p.event.body))) ≡ Some f
-rows-refused sel statement p rows v m t (Err cause) f held table seen is =
-    let on = selected (is_selected sel m.event.body) (layout_of m.event.body) (layout_columns t.layout) (ap (option_map (λ (t : SelectedTable). layout_columns t.layout)) (sym table) ∙ held.layout) in
-    rw (held.found, on.0, on.1, sym seen, is) refl
-rows-refused sel statement p rows v m t (Ok _) f held table seen is = absurd is
+rows-refused sel statement p rows v m t read f held table seen is = grind (arith, held.known)
 
 -- alone, it decides
 pub alone : {A : Type 0} (check : Option A) → first_failing (check ∷ []) ≡ check
@@ -140,7 +120,7 @@ module _ {A : Type 0} (sel : Selection) (p : Placed) (earlier : List Placed) (ch
   check-is = rw (is, ap is_inside (sym h.place_is) ∙ inside, head-long rows.version p.event.body head read) (alone (rows_check sel rows p.event.body (map_in (reverse (since earlier)) (table_id p.event.body))))
 
   pub no-map : lookup (nat_eq k) checker.maps.entries ≡ None → event_fault sel earlier p ≡ Some NoMap
-  no-map none = check-is ∙ ap (rows_check sel rows p.event.body) (held-none sel (since earlier) (table_id p.event.body) k checker.maps.entries id k_is h.passed h.maps_are none)
+  no-map none = let held = held-map sel (since earlier) (table_id p.event.body) k checker.maps.entries id k_is h.passed h.maps_are in grind (arith, check-is)
 
   -- the map under whose number one is held
   pub goes-by : (v : MapSeen) → lookup (nat_eq k) checker.maps.entries ≡ Some v → GoesBy sel p earlier checker rows v
@@ -151,9 +131,9 @@ module _ {A : Type 0} (sel : Selection) (p : Placed) (earlier : List Placed) (ch
         map = some.0;
         held = record {
           found = some.1;
-          at = ap (λ (f : MapFacts). f.at) some.2;
-          body = ap (λ (f : MapFacts). f.body) some.2;
-          layout = ap (λ (f : MapFacts). f.layout) some.2;
+          at = ap (λ (f : MapFacts). f.at) (sym some.2);
+          body = ap (λ (f : MapFacts). f.body) (sym some.2);
+          layout = ap (λ (f : MapFacts). f.layout) (sym some.2);
           known = all.passed.layout;
         };
         numbered = value-all (IsNumbered (tables_known checker.layouts)) (nat_eq k) checker.maps.entries v h.numbered found;
@@ -174,11 +154,9 @@ knows-rows sel p earlier checker after rows k v w is k_is by distinct found w_is
       place_is = place_same ∙ h.place_is ∙ rw is refl;
       open_is = has_rows ∙ rw is_one refl;
       maps_are = maps-marked sel p (since earlier) k v w checker.maps.entries after.maps.entries by.id k_is no_map is_one h.passed h.maps_are distinct found w_is marked;
-      passed = passed-rows sel p (since earlier) no_map is_one there h.passed;
-      layouts_agree = subst (λ l. LayoutsAgree sel (p ∷ earlier) l) (sym layouts_same) (layouts-quiet sel p earlier checker.layouts no_map h.layouts_agree);
+      passed = passed-rows sel p (since earlier) no_map there h.passed;
+      layouts_agree = rw layouts_same (layouts-quiet sel p earlier checker.layouts no_map h.layouts_agree);
       numbered =
           let new : IsNumbered (tables_known checker.layouts) w = subst (IsNumbered (tables_known checker.layouts)) (sym w_is) (record { number = by.numbered.number; selected = λ used. used }) in
-          subst (λ l. AllByRecursion (IsNumbered (tables_known l)) (map (λ e. e.1) after.maps.entries)) (sym layouts_same)
-          (subst (λ es. AllByRecursion (IsNumbered (tables_known checker.layouts)) (map (λ e. e.1) es)) (sym marked)
-          (written-all (IsNumbered (tables_known checker.layouts)) (nat_eq k) checker.maps.entries w h.numbered new));
+          rw (layouts_same, marked) (written-all (IsNumbered (tables_known checker.layouts)) (nat_eq k) checker.maps.entries w h.numbered new);
     }

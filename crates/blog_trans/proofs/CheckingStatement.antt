@@ -7,7 +7,7 @@ use Rattle.std.proofs.Math.Bool.{or-false}
 use Rattle.std.proofs.lemmas.Bool.{or_parts, not-false}
 use Rattle.std.proofs.lemmas.List.{reverse-append}
 use Rattle.std.proofs.lemmas.List.Folds.{find-append}
-use Rattle.std.proofs.lemmas.Slice.Eq.{bytes_eq-Decides}
+use Rattle.blog_trans.proofs.ProgressFirsts.{bytes-same}
 use Rattle.blog_event.specs.File.{Placed}
 use Rattle.blog_row.specs.RowsEvent.{table_id}
 use Rattle.blog_trans.specs.Selection.{Selection}
@@ -43,10 +43,8 @@ map-there (p ∷ statement) id =
 
 -- the facts of maps are as they were
 pub facts-kept : (sel : Selection) (p : Placed) (statement : List Placed) → is_rows p ≡ false → facts_of sel (p ∷ statement) ≡ facts_of sel statement
-facts-kept sel p statement no_rows = λ i m. at m i
-  where
-    at : (m : Placed) → facts_of sel (p ∷ statement) m ≡ facts_of sel statement m
-    at m = rw no_rows refl
+facts-kept sel p statement no_rows =
+    let at : (m : Placed) → facts_of sel (p ∷ statement) m ≡ facts_of sel statement m = λ m. rw no_rows refl in λ i m. at m i
 
 pub facts-quiet : (sel : Selection) (p : Placed) (statement : List Placed) → is_map p ≡ false → is_rows p ≡ false
     → map (facts_of sel (p ∷ statement)) (first_of_ids (p ∷ statement)) ≡ map (facts_of sel statement) (first_of_ids statement)
@@ -54,35 +52,34 @@ facts-quiet sel p statement no_map no_rows =
     ap (λ (facts : Placed → MapFacts). map facts (first_of_ids (p ∷ statement))) (facts-kept sel p statement no_rows)
     ∙ rw no_map refl
 
-pub passed-quiet : (sel : Selection) (p : Placed) (statement : List Placed) → is_map p ≡ false → is_rows p ≡ false → IsPassedStatement sel statement → IsPassedStatement sel (p ∷ statement)
-passed-quiet sel p statement no_map no_rows h = record {
+-- what is known of one more event that isn't a map
+passed-more : (sel : Selection) (p : Placed) (statement : List Placed) → is_map p ≡ false → ((id : List ℕ) → list_any (is_map_of id) statement ≡ false → is_rows_of id p ≡ false)
+    → IsPassedStatement sel statement → IsPassedStatement sel (p ∷ statement)
+passed-more sel p statement no_map mapped h = record {
   maps = ((λ is. absurd (cc)), h.maps);
-  mapped = λ id none. rw no_rows (h.mapped id (rw no_map at none));
+  mapped = λ id none. let free : list_any (is_map_of id) statement ≡ false = rw no_map at none in rw (mapped id free) (h.mapped id free);
   agree = λ q. rw no_map (h.agree q) ∙ ap (λ first. option_map_or (differs q) first false) (sym (map-same p statement (table_id q.event.body) (rw no_map refl)));
 }
+
+pub passed-quiet : (sel : Selection) (p : Placed) (statement : List Placed) → is_map p ≡ false → is_rows p ≡ false → IsPassedStatement sel statement → IsPassedStatement sel (p ∷ statement)
+passed-quiet sel p statement no_map no_rows h = passed-more sel p statement no_map (λ id none. rw no_rows refl) h
 
 -- ---- a rows event
 
 -- it goes by a map of its table id
-pub passed-rows : (sel : Selection) (p : Placed) (statement : List Placed) → is_map p ≡ false → is_rows p ≡ true → list_any (is_map_of (table_id p.event.body)) statement ≡ true
+own-there : (p : Placed) (statement : List Placed) (id : List ℕ) → list_any (is_map_of (table_id p.event.body)) statement ≡ true
+    → list_any (is_map_of id) statement ≡ false → is_rows_of id p ≡ false
+own-there p statement id there none =
+    grind (arith, bytes-same (table_id p.event.body) id, λ (own : table_id p.event.body ≡ id). ap (λ (i : List ℕ). list_any (is_map_of i) statement) own)
+
+pub passed-rows : (sel : Selection) (p : Placed) (statement : List Placed) → is_map p ≡ false → list_any (is_map_of (table_id p.event.body)) statement ≡ true
     → IsPassedStatement sel statement → IsPassedStatement sel (p ∷ statement)
-passed-rows sel p statement no_map is there h = record {
-  maps = ((λ is. absurd (cc)), h.maps);
-  mapped = λ id none. mapped id (rw no_map at none) (bytes_eq (table_id p.event.body) id) refl;
-  agree = λ q. rw no_map (h.agree q) ∙ ap (λ first. option_map_or (differs q) first false) (sym (map-same p statement (table_id q.event.body) (rw no_map refl)));
-}
-  where
-    mapped : (id : List ℕ) → list_any (is_map_of id) statement ≡ false → (same : Bool) → bytes_eq (table_id p.event.body) id ≡ same → list_any (is_rows_of id) (p ∷ statement) ≡ false
-    mapped id none false e = rw (is, e) (h.mapped id none)
-    mapped id none true e =
-        let own : table_id p.event.body ≡ id = (bytes_eq-Decides (table_id p.event.body) id).0 e in
-        let other : list_any (is_map_of id) statement ≡ true = ap (λ (i : List ℕ). list_any (is_map_of i) statement) (sym own) ∙ there in
-        absurd (cc)
+passed-rows sel p statement no_map there h = passed-more sel p statement no_map (λ id none. own-there p statement id there none) h
 
 -- ---- a map
 
 -- tests joined
-pub twice : (a b : Bool) → a ≡ b → (a || b) ≡ b
+twice : (a b : Bool) → a ≡ b → (a || b) ≡ b
 twice a b h = grind arith
 
 -- another map's body is compared with the first one's
@@ -90,21 +87,17 @@ agree-first : (q m : Placed) (o : Option Placed) → option_map_or (differs m) o
     → (differs q m || option_map_or (differs q) o false) ≡ option_map_or (differs q) (option_or o (Some m)) false
 agree-first q m None h = or-false (differs q m)
 agree-first q m (Some f) h =
-    let own : f.event.body ≡ m.event.body = (bytes_eq-Decides f.event.body m.event.body).0 (not-false (bytes_eq f.event.body m.event.body) h) in
+    let own = bytes-same f.event.body m.event.body (not-false (bytes_eq f.event.body m.event.body) h) in
     twice (differs q m) (differs q f) (ap (λ (body : List ℕ). not (bytes_eq body q.event.body)) (sym own))
 
-agree-step : (q m : Placed) (statement : List Placed) (same : Bool) → is_map m ≡ true → bytes_eq (table_id m.event.body) (table_id q.event.body) ≡ same
-    → list_any (clashes_by_id m) statement ≡ false
+agree-step : (q m : Placed) (statement : List Placed) (same : Bool) → bytes_eq (table_id m.event.body) (table_id q.event.body) ≡ same → list_any (clashes_by_id m) statement ≡ false
     → ((p : Placed) → list_any (clashes_by_id p) statement ≡ option_map_or (differs p) (map_in (reverse statement) (table_id p.event.body)) false)
     → ((same && differs q m) || list_any (clashes_by_id q) statement)
     ≡ option_map_or (differs q) (option_or (map_in (reverse statement) (table_id q.event.body)) (if same then Some m else None)) false
-agree-step q m statement false is e none agree =
-    agree q ∙ ap (λ first. option_map_or (differs q) first false) (sym (or-none (map_in (reverse statement) (table_id q.event.body))))
-agree-step q m statement true is e none agree =
-    let own : table_id m.event.body ≡ table_id q.event.body = (bytes_eq-Decides (table_id m.event.body) (table_id q.event.body)).0 e in
-    let first : option_map_or (differs m) (map_in (reverse statement) (table_id q.event.body)) false ≡ false =
-    ap (λ (i : List ℕ). option_map_or (differs m) (map_in (reverse statement) i) false) (sym own) ∙ sym (agree m) ∙ none in
-    ap (λ (b : Bool). differs q m || b) (agree q) ∙ agree-first q m (map_in (reverse statement) (table_id q.event.body)) first
+agree-step q m statement false e none agree = agree q ∙ ap (λ first. option_map_or (differs q) first false) (sym (or-none (map_in (reverse statement) (table_id q.event.body))))
+agree-step q m statement true e none agree =
+    let own = ap (λ (i : List ℕ). option_map_or (differs m) (map_in (reverse statement) i) false) (sym (bytes-same (table_id m.event.body) (table_id q.event.body) e)) in
+    ap (λ (b : Bool). differs q m || b) (agree q) ∙ agree-first q m (map_in (reverse statement) (table_id q.event.body)) (own ∙ sym (agree m) ∙ none)
 
 pub passed-map : (sel : Selection) (m : Placed) (statement : List Placed) → is_map m ≡ true → is_rows m ≡ false → IsPassed sel m → list_any (clashes_by_id m) statement ≡ false
     → IsPassedStatement sel statement → IsPassedStatement sel (m ∷ statement)
@@ -113,6 +106,6 @@ passed-map sel m statement is no_rows own none h = record {
   mapped = λ id free. rw no_rows (h.mapped id (or_parts (is_map_of id m) (list_any (is_map_of id) statement) free).1);
   agree = λ q.
       let first = map-first m statement (table_id q.event.body) in
-      let step = agree-step q m statement (bytes_eq (table_id m.event.body) (table_id q.event.body)) is refl none h.agree in
+      let step = agree-step q m statement (bytes_eq (table_id m.event.body) (table_id q.event.body)) refl none h.agree in
       rw (first, is) step;
 }

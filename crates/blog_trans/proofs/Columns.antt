@@ -1,19 +1,16 @@
 -- The lists of an index when one more transaction, or one more statement, comes last.
-use Rattle.std.proofs.Common.{◌≡◌, ℕ, ◌+◌, List, [], ◌∷◌, ◌++◌, map, length, refl, sym, ap, ap₂, ◌∙◌, add-zero, length-append, append_assoc, arith}
+use Rattle.std.proofs.Common.{◌≡◌, ℕ, ◌+◌, List, [], ◌∷◌, ◌++◌, length, refl, sym, ap, ap₂, ◌∙◌, add-zero, length-append, append_assoc, arith}
 use Rattle.std.specs.List.{flat_map}
 use Rattle.std.proofs.lemmas.Grind.{flat_map-append}
 use Rattle.std.proofs.lemmas.List.{append-nil, length-map}
 use Rattle.blog_trans.specs.Groups.{PlacedStatement, PlacedTransaction}
-use Rattle.blog_trans.specs.Entries.{event_entry, rows_entry, statement_entries, transaction_entries, entries_of, transaction_start, statement_start, transaction_starts, starts_in, statement_starts, statements_in}
+use Rattle.blog_trans.specs.Entries.{statement_entries, transaction_entries, entries_of, transaction_start, statement_start, transaction_starts, starts_in, statement_starts, statements_in}
 
 -- a list of lists joined, and one more of them
 pub flat_push : {X A : Type 0} (f : X → List A) (xs : List X) (x : X) → flat_map f (xs ++ x ∷ []) ≡ flat_map f xs ++ f x
 flat_push f xs x = flat_map-append f xs (x ∷ []) ∙ ap (λ ys. flat_map f xs ++ ys) (append-nil (f x))
 
 -- ---- one more transaction
-
-pub entries_push : (ts : List PlacedTransaction) (t : PlacedTransaction) → entries_of (ts ++ t ∷ []) ≡ entries_of ts ++ transaction_entries t
-entries_push ts t = flat_push transaction_entries ts t
 
 pub statements_cons : (t : PlacedTransaction) (ts : List PlacedTransaction) → statements_in (t ∷ ts) ≡ length t.statements + statements_in ts
 statements_cons t ts = length-append t.statements (flat_map (λ x. x.statements) ts)

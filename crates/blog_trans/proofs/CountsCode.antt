@@ -1,13 +1,13 @@
 -- How what the counts hold changes with room for more tables, with one more rows event and with one more kept map.
-use Rattle.std.proofs.Common.{rules, ◌≡◌, ◌≢◌, ℕ, zero, suc, ◌+◌, ◌/◌, ◌<◌, ◌≤◌, Bool, true, false, cond, if◌then◌else◌, ◌||◌, List, [], ◌∷◌, ◌++◌, map, length, slice_get, slice_set, replicate, take, take_all, Option, Some, None, option_map, refl, sym, ap, ◌∙◌, subst, arith, count_by, length-set, append-nil, append_assoc}
+use Rattle.std.proofs.Common.{◌≡◌, ◌≢◌, ℕ, zero, suc, ◌+◌, ◌/◌, ◌<◌, ◌≤◌, Bool, true, false, cond, if◌then◌else◌, ◌||◌, List, [], ◌∷◌, ◌++◌, map, length, slice_get, slice_set, replicate, take, take_all, Option, Some, None, option_map, refl, sym, ap, ◌∙◌, subst, arith, count_by, length-set, append-nil, append_assoc}
 use Rattle.std.specs.List.{list_any, position_or_len, AllByRecursion, IsDistinct}
-use Rattle.std.proofs.Math.Bool.{or-false, or-true}
-use Rattle.std.proofs.lemmas.List.{length-map, map-append}
+use Rattle.std.proofs.Math.Bool.{or-false}
+use Rattle.std.proofs.lemmas.List.{length-map, map-append, get_or-set_same, get_or-set_other}
 use Rattle.std.proofs.lemmas.List.Elements.{filter-append}
 use Rattle.std.proofs.lemmas.List.Folds.{list_any-append}
 use Rattle.std.proofs.lemmas.List.Sums.{sum_by-append, sum_by-cons, passes_at_first}
 use Rattle.std.proofs.lemmas.Map.Keys.{IsDistinct-head, IsDistinct-tail}
-use Rattle.std.proofs.lemmas.Option.{none-some, same_Some, slice_get-map, slice_get_within, get_or_from_slice_get}
+use Rattle.std.proofs.lemmas.Option.{none-some, same_Some, slice_get-map, slice_get_within, get_or_from_slice_get, slice_get-get_or, slice_get_past, slice_get_cases}
 use Rattle.blog_row.specs.declared.kind.RowsAction.{RowsAction}
 use Rattle.blog_row.specs.declared.kind.RowsAction.TheVariants.{Write, Update, Delete}
 use Rattle.blog_row.specs.Image.{Row}
@@ -22,20 +22,17 @@ use Rattle.blog_trans.specs.CountsView.{with_images, AreCounts, counted, is_kept
 use Rattle.blog_trans.specs.StatementMaps.{used_maps}
 use Rattle.blog_trans.proofs.Tables.{same-table, own-table, table-laws, first_tables-more}
 use Rattle.blog_trans.proofs.PlacedParts.{all-at}
+use Rattle.blog_trans.proofs.EntriesFound.{mapped}
 
 -- ---- the place of an element
 
 slice_get-set_same : {X : Type 0} (xs : List X) (i : ℕ) (x : X) → i < length xs → slice_get (slice_set xs i x) i ≡ Some x
-slice_get-set_same [] i x lt = absurd (omega (arith, lt))
-slice_get-set_same (y ∷ xs) zero x lt = refl
-slice_get-set_same (y ∷ xs) (suc i) x lt = slice_get-set_same xs i x (omega (arith, lt))
+slice_get-set_same xs i x lt = slice_get-get_or (slice_set xs i x) i x (omega (arith, length-set xs i x)) ∙ ap Some (get_or-set_same xs i x x lt)
 
 slice_get-set_other : {X : Type 0} (xs : List X) (i j : ℕ) (x : X) → j ≢ i → slice_get (slice_set xs i x) j ≡ slice_get xs j
-slice_get-set_other [] i j x other = refl
-slice_get-set_other (y ∷ xs) zero zero x other = absurd (other refl)
-slice_get-set_other (y ∷ xs) zero (suc j) x other = refl
-slice_get-set_other (y ∷ xs) (suc i) zero x other = refl
-slice_get-set_other (y ∷ xs) (suc i) (suc j) x other = slice_get-set_other xs i j x (λ e. other (ap suc e))
+slice_get-set_other xs i j x other =
+    let read = slice_get-get_or xs j x in
+    grind (arith, slice_get_cases xs j, slice_get-get_or (slice_set xs i x) j x, slice_get_past (slice_set xs i x) j, get_or-set_other xs i j x x other, length-set xs i x)
 
 -- where an added element tells no more than none does, the added elements change nothing
 filled-same : {X Y : Type 0} (f : Option X → Y) (x : X) → f (Some x) ≡ f None → (xs : List X) (k n : ℕ) → f (slice_get (xs ++ replicate k x) n) ≡ f (slice_get xs n)
@@ -61,15 +58,17 @@ number-at (u ∷ tables) (suc k) t distinct at =
 -- another table has another
 number-other : (tables : List Table) (k : ℕ) (t u : Table) → slice_get tables k ≡ Some u → is_same_table t u ≡ false → position_or_len (is_same_table t) tables ≢ k
 number-other tables k t u at other same =
-    let passes = passes_at_first (is_same_table t) tables u (omega (arith, same, slice_get_within tables k u at)) in
-    let here = get_or_from_slice_get tables k u u at in
-    grind arith
+    grind (arith, passes_at_first (is_same_table t) tables u (omega (arith, same, slice_get_within tables k u at)), get_or_from_slice_get tables k u u at)
 
 -- whether a table is among them with one more
 any-more : (t u : Table) (ts : List Table) (b : Bool) → is_same_table t u ≡ b → list_any (is_same_table t) (ts ++ u ∷ []) ≡ (list_any (is_same_table t) ts || b)
 any-more t u ts b same = list_any-append (is_same_table t) ts (u ∷ []) ∙ ap (λ c. list_any (is_same_table t) ts || c) (or-false (is_same_table t u) ∙ same)
 
 -- ---- numbers of changes
+
+-- no rows
+abbrev pub none : Count
+none = record { inserts = 0; updates = 0; deletes = 0; kept = false }
 
 count-append : (p : Change → Bool) (cs ds : List Change) → count_by p (cs ++ ds) ≡ count_by p cs + count_by p ds
 count-append p cs ds = sum_by-append (λ x. cond (p x) 1 0) cs ds
@@ -83,51 +82,33 @@ count-updates : (p : Change → Bool) (u : Table) (b : Bool) → ((x y : Row) �
 count-updates p u b same [] = grind arith
 count-updates p u b same (x ∷ []) = grind arith
 count-updates p u b same (x ∷ y ∷ rows) =
-    let others = count-updates p u b same rows in
-    let one = same x y in
-    let sum = sum_by-cons (λ z. cond (p z) 1 0) (Updated u x y) (updates u rows) in
+    grind (arith, count-updates p u b same rows, same x y, sum_by-cons (λ z. cond (p z) 1 0) (Updated u x y) (updates u rows))
+
+-- those of the rows of a rows event
+count-rows : (kind : RowsAction) (t u : Table) (b : Bool) → is_same_table t u ≡ b → (rows : List Row)
+    → count_of (changes_by_action kind u rows) t ≡ counted t (Some (with_images kind (cond b (length rows) 0) none))
+count-rows Write t u b same rows =
+    let inserts = count-all (is_insert_into t) (Inserted u) b (λ row. same) rows in
+    let updates = count-all (is_update_of t) (Inserted u) false (λ row. refl) rows in
+    let deletes = count-all (is_delete_from t) (Inserted u) false (λ row. refl) rows in
     grind arith
-
--- equal numbers, kind by kind
-same-counts : (t : Table) (i u d j v e : ℕ) → i ≡ j → u ≡ v → d ≡ e → ◌≡◌ {A = TableCount} (record { table = t; inserts = i; updates = u; deletes = d }) (record { table = t; inserts = j; updates = v; deletes = e })
-same-counts t i u d j v e p q r = λ k. record { table = t; inserts = p k; updates = q k; deletes = r k }
-
--- a number, and what comes with more changes
-more-of : (p : Change → Bool) (cs ds : List Change) (n m : ℕ) → n ≡ count_by p cs → count_by p ds ≡ m → n + m ≡ count_by p (cs ++ ds)
-more-of p cs ds n m before new = (λ i. before i + sym new i) ∙ sym (count-append p cs ds)
-
--- a number that stays
-none-of : (p : Change → Bool) (cs ds : List Change) (n : ℕ) → n ≡ count_by p cs → count_by p ds ≡ 0 → n ≡ count_by p (cs ++ ds)
-none-of p cs ds n before new = omega (arith, before, new, count-append p cs ds)
+count-rows Update t u b same rows =
+    let inserts = count-updates (is_insert_into t) u false (λ x y. refl) rows in
+    let updates = count-updates (is_update_of t) u b (λ x y. same) rows in
+    let deletes = count-updates (is_delete_from t) u false (λ x y. refl) rows in
+    grind arith
+count-rows Delete t u b same rows =
+    let inserts = count-all (is_insert_into t) (Deleted u) false (λ row. refl) rows in
+    let updates = count-all (is_update_of t) (Deleted u) false (λ row. refl) rows in
+    let deletes = count-all (is_delete_from t) (Deleted u) b (λ row. same) rows in
+    grind arith
 
 -- the rows of one more rows event are counted where it is of the table
 counts-with : (kind : RowsAction) (t u : Table) (b : Bool) → is_same_table t u ≡ b → (rows : List Row) (c : Count) (cs : List Change) → counted t (Some c) ≡ count_of cs t
     → counted t (Some (with_images kind (cond b (length rows) 0) c)) ≡ count_of (cs ++ changes_by_action kind u rows) t
-counts-with Write t u b same rows c cs e =
-    same-counts t _ _ _ _ _ _
-    (more-of (is_insert_into t) cs (map (Inserted u) rows) c.inserts (cond b (length rows) 0) (ap (λ (x : TableCount). x.inserts) e) (count-all (is_insert_into t) (Inserted u) b (λ row. same) rows))
-    (none-of (is_update_of t) cs (map (Inserted u) rows) c.updates (ap (λ (x : TableCount). x.updates) e) (count-all (is_update_of t) (Inserted u) false (λ row. refl) rows))
-    (none-of (is_delete_from t) cs (map (Inserted u) rows) c.deletes (ap (λ (x : TableCount). x.deletes) e) (count-all (is_delete_from t) (Inserted u) false (λ row. refl) rows))
-counts-with Update t u b same rows c cs e =
-    same-counts t _ _ _ _ _ _
-    (none-of (is_insert_into t) cs (updates u rows) c.inserts (ap (λ (x : TableCount). x.inserts) e) (count-updates (is_insert_into t) u false (λ x y. refl) rows))
-    (more-of (is_update_of t) cs (updates u rows) c.updates (cond b (length rows) 0 / 2) (ap (λ (x : TableCount). x.updates) e) (count-updates (is_update_of t) u b (λ x y. same) rows))
-    (none-of (is_delete_from t) cs (updates u rows) c.deletes (ap (λ (x : TableCount). x.deletes) e) (count-updates (is_delete_from t) u false (λ x y. refl) rows))
-counts-with Delete t u b same rows c cs e =
-    same-counts t _ _ _ _ _ _
-    (none-of (is_insert_into t) cs (map (Deleted u) rows) c.inserts (ap (λ (x : TableCount). x.inserts) e) (count-all (is_insert_into t) (Deleted u) false (λ row. refl) rows))
-    (none-of (is_update_of t) cs (map (Deleted u) rows) c.updates (ap (λ (x : TableCount). x.updates) e) (count-all (is_update_of t) (Deleted u) false (λ row. refl) rows))
-    (more-of (is_delete_from t) cs (map (Deleted u) rows) c.deletes (cond b (length rows) 0) (ap (λ (x : TableCount). x.deletes) e) (count-all (is_delete_from t) (Deleted u) b (λ row. same) rows))
-
--- no rows are none
-no-images : (kind : RowsAction) (t : Table) (c : Count) → counted t (Some c) ≡ counted t (Some (with_images kind 0 c))
-no-images kind t c = grind arith
+counts-with kind t u b same rows c cs e = let new = count-rows kind t u b same rows in grind (arith, count-append)
 
 -- ---- what the counts hold
-
--- no rows
-abbrev pub none : Count
-none = record { inserts = 0; updates = 0; deletes = 0; kept = false }
 
 -- of the table of a number
 pub told-at : {A : Type 0} (tables : List Table) (cs : List Change) (ts : List Table) (counts : Counts A) (n : ℕ) (t : Table) → slice_get tables n ≡ Some t
@@ -171,34 +152,15 @@ pub counts-more : {A : Type 0} (tables : List Table) (cs : List Change) (ts : Li
     → after.rows.items ≡ slice_set before.rows.items i (with_images r.content.kind.action (length r.content.images) c) → after.tables.items ≡ before.tables.items
     → AreCounts tables cs ts before → AreCounts tables (cs ++ changes_of_rows r) ts after
 counts-more tables cs ts r i c before after at had rows same are =
-    counts-set tables cs (cs ++ changes_of_rows r) ts ts table i (with_images kind (length r.content.images) c) before after at (slice_get_within before.rows.items i c had) rows
-    (λ k. (own k, (stays kind (length r.content.images) ∙ ap (λ (x : TableCount × Bool). x.1) was) k))
-    (λ u other k. ((no-images kind u (held u) ∙ counts-with kind u table false other images (held u) cs refl) k, list_any (is_same_table u) ts))
+    let kind = r.content.kind.action in
+    let t = table_of r.map in
+    let images : List Row = map (row_by (layout_of r.map)) r.content.images in
+    let long : length images ≡ length r.content.images = length-map r.content.images (row_by (layout_of r.map)) in
+    let was : told_of t (Some c) ≡ facts_of cs ts t = ap (told_of t) (sym had) ∙ told-at tables cs ts before i t at are in
+    counts-set tables cs (cs ++ changes_of_rows r) ts ts t i (with_images kind (length r.content.images) c) before after at (slice_get_within before.rows.items i c had) rows
+    (let new = counts-with kind t t true (own-table t) images c cs (ap (λ (x : TableCount × Bool). x.0) was) in grind arith)
+    (λ u other. let new = count-rows kind u t false other images in grind (arith, count-append))
     (ap (map (λ n. slice_get tables n)) same ∙ are.firsts) are
-  where
-    table : Table
-    table = table_of r.map
-
-    kind : RowsAction
-    kind = r.content.kind.action
-
-    images : List Row
-    images = map (row_by (layout_of r.map)) r.content.images
-
-    was : told_of table (Some c) ≡ facts_of cs ts table
-    was = ap (told_of table) (sym had) ∙ told-at tables cs ts before i table at are
-
-    own : counted table (Some (with_images kind (length r.content.images) c)) ≡ count_of (cs ++ changes_of_rows r) table
-    own =
-        ap (λ n. counted table (Some (with_images kind n c))) (sym (length-map r.content.images (row_by (layout_of r.map))))
-        ∙ counts-with kind table table true (own-table table) images c cs (ap (λ (x : TableCount × Bool). x.0) was)
-
-    stays : (kind : RowsAction) (k : ℕ) → (with_images kind k c).kept ≡ c.kept
-    stays kind k = search rules
-
-    -- the numbers of another table
-    held : Table → Count
-    held u = record { inserts = (count_of cs u).inserts; updates = (count_of cs u).updates; deletes = (count_of cs u).deletes; kept = false }
 
 -- with a kept map of one more table
 pub counts-kept : {A : Type 0} (tables : List Table) (cs : List Change) (ts : List Table) (t : Table) (i : ℕ) (c : Count) (before after : Counts A)
@@ -206,55 +168,37 @@ pub counts-kept : {A : Type 0} (tables : List Table) (cs : List Change) (ts : Li
     → after.rows.items ≡ slice_set before.rows.items i (record c { kept = true }) → after.tables.items ≡ before.tables.items ++ i ∷ []
     → AreCounts tables cs ts before → AreCounts tables cs (ts ++ t ∷ []) after
 counts-kept tables cs ts t i c before after at had unkept rows added are =
+    let was : told_of t (Some c) ≡ facts_of cs ts t = ap (told_of t) (sym had) ∙ told-at tables cs ts before i t at are in
+    let more = first_tables-more [] ts t in
+    let pushed = map-append Some (first_tables [] ts) (t ∷ []) in
     counts-set tables cs cs ts (ts ++ t ∷ []) t i (record c { kept = true }) before after at (slice_get_within before.rows.items i c had) rows
-    (λ k. (ap (λ (x : TableCount × Bool). x.0) was k, sym (any-more t t ts true (own-table t) ∙ or-true (list_any (is_same_table t) ts)) k))
-    (λ u other k. (count_of cs u, sym (any-more u t ts false other ∙ or-false (list_any (is_same_table u) ts)) k))
-    (ap (map (λ n. slice_get tables n)) added
-    ∙ map-append (λ n. slice_get tables n) before.tables.items (i ∷ [])
-    ∙ (λ k. are.firsts k ++ at k ∷ [])
-    ∙ sym (map-append Some (first_tables [] ts) (t ∷ []))
-    ∙ ap (map Some) (sym (first_tables-more [] ts t ∙ ap (λ b. first_tables [] ts ++ (if b then [] else t ∷ [])) new)))
-    are
-  where
-    was : told_of t (Some c) ≡ facts_of cs ts t
-    was = ap (told_of t) (sym had) ∙ told-at tables cs ts before i t at are
+    (let any = any-more t t ts true (own-table t) in grind arith) (λ u other. let any = any-more u t ts false other in grind arith)
+    (ap (map (λ n. slice_get tables n)) added ∙ map-append (λ n. slice_get tables n) before.tables.items (i ∷ []) ∙ (let firsts = are.firsts in grind arith)) are
 
-    new : list_any (is_same_table t) ts ≡ false
-    new = sym (ap (λ (x : TableCount × Bool). x.1) was) ∙ unkept
+-- a table that is among others is no new one
+any-again : (u t : Table) (ts : List Table) → list_any (is_same_table t) ts ≡ true → list_any (is_same_table u) (ts ++ t ∷ []) ≡ list_any (is_same_table u) ts
+any-again u t ts known = grind (arith, list_any-append, same-table u t)
 
 -- with one more kept map of a table that has one
 pub counts-kept_again : {A : Type 0} (tables : List Table) (cs : List Change) (ts : List Table) (t : Table) (i : ℕ) (c : Count) (before after : Counts A)
     → slice_get tables i ≡ Some t → slice_get before.rows.items i ≡ Some c → c.kept ≡ true
     → after.rows.items ≡ before.rows.items → after.tables.items ≡ before.tables.items
     → AreCounts tables cs ts before → AreCounts tables cs (ts ++ t ∷ []) after
-counts-kept_again tables cs ts t i c before after at had kept rows same are = record {
-  told = λ u. ap (λ xs. told_of u (slice_get xs (position_or_len (is_same_table u) tables))) rows ∙ are.told u ∙ (λ k. (count_of cs u, sym (any-again u (is_same_table u t) refl) k));
-  firsts = ap (map (λ n. slice_get tables n)) same ∙ are.firsts
-      ∙ ap (map Some) (sym (first_tables-more [] ts t ∙ ap (λ b. first_tables [] ts ++ (if b then [] else t ∷ [])) known ∙ append-nil (first_tables [] ts)));
-  few = subst (λ xs. length xs ≤ length tables) (sym rows) are.few;
-  distinct = are.distinct;
-}
-  where
-    known : list_any (is_same_table t) ts ≡ true
-    known = sym (ap (λ (x : TableCount × Bool). x.1) (told-at tables cs ts before i t at are)) ∙ ap is_kept had ∙ kept
-
-    any-again : (u : Table) (b : Bool) → is_same_table u t ≡ b → list_any (is_same_table u) (ts ++ t ∷ []) ≡ list_any (is_same_table u) ts
-    any-again u true is = any-more u t ts true is ∙ or-true (list_any (is_same_table u) ts) ∙ sym (ap (λ v. list_any (is_same_table v) ts) (same-table u t is) ∙ known)
-    any-again u false is = any-more u t ts false is ∙ or-false (list_any (is_same_table u) ts)
+counts-kept_again tables cs ts t i c before after at had kept rows same are =
+    let known : list_any (is_same_table t) ts ≡ true = sym (ap (λ (x : TableCount × Bool). x.1) (told-at tables cs ts before i t at are)) ∙ ap is_kept had ∙ kept in
+    let more = first_tables-more [] ts t in
+    let none_new = append-nil (first_tables [] ts) in
+    grind (arith, λ (u : Table). any-again u t ts known)
 
 -- of the n-th of the tables with kept maps
-pub told-first : {A : Type 0} (tables : List Table) (cs : List Change) (ts : List Table) (counts : Counts A) (n k : ℕ) (o : Option Count) → AreCounts tables cs ts counts
-    → slice_get counts.tables.items n ≡ Some k → slice_get counts.rows.items k ≡ o → (t : Table) × (slice_get tables k ≡ Some t) × (option_map (count_of cs) (slice_get (first_tables [] ts) n) ≡ Some (counted t o))
-told-first tables cs ts counts n k o are at found =
-    by (slice_get (first_tables [] ts) n) refl
-    (ap (option_map (λ i. slice_get tables i)) (sym at) ∙ sym (slice_get-map (λ i. slice_get tables i) counts.tables.items n) ∙ ap (λ xs. slice_get xs n) are.firsts ∙ slice_get-map Some (first_tables [] ts) n)
-  where
-    by : (x : Option Table) → slice_get (first_tables [] ts) n ≡ x → Some (slice_get tables k) ≡ option_map Some (slice_get (first_tables [] ts) n)
-        → (t : Table) × (slice_get tables k ≡ Some t) × (option_map (count_of cs) (slice_get (first_tables [] ts) n) ≡ Some (counted t o))
-    by None is e = absurd (none-some (slice_get tables k) (sym (e ∙ ap (option_map Some) is)))
-    by (Some t) is e =
-        let there : slice_get tables k ≡ Some t = same_Some (slice_get tables k) (Some t) (e ∙ ap (option_map Some) is) in
-        (t, there, ap (option_map (count_of cs)) is ∙ ap Some (sym (ap (λ (x : TableCount × Bool). x.0) (told-at tables cs ts counts k t there are)) ∙ ap (counted t) found))
+pub told-first : {A : Type 0} (tables : List Table) (cs : List Change) (ts : List Table) (counts : Counts A) (n k : ℕ) → AreCounts tables cs ts counts
+    → slice_get counts.tables.items n ≡ Some k → (t : Table) × (slice_get tables k ≡ Some t)
+    × (option_map (count_of cs) (slice_get (first_tables [] ts) n) ≡ Some (counted t (slice_get counts.rows.items k)))
+told-first tables cs ts counts n k are at =
+    let (t, is, there) = mapped Some (slice_get (first_tables [] ts) n) (slice_get tables k)
+    (sym (ap (λ xs. slice_get xs n) are.firsts ∙ slice_get-map Some (first_tables [] ts) n)
+    ∙ slice_get-map (λ i. slice_get tables i) counts.tables.items n ∙ ap (option_map (λ i. slice_get tables i)) at) in
+    (t, sym there, ap (option_map (count_of cs)) is ∙ ap Some (sym (ap (λ (x : TableCount × Bool). x.0) (told-at tables cs ts counts k t (sym there) are))))
 
 -- ---- the tables of used maps
 
@@ -265,13 +209,8 @@ tables_used maps = map (λ m. table_of m.body.now) (used_maps maps)
 pub used-more : {B : Type 0} (now : B → MapSeen) (maps : List B) (m : B) (b : Bool) (ts : List Table) → (now m).used ≡ b
     → (ts ++ tables_used (map now maps)) ++ (if b then table_of (now m).body.now ∷ [] else []) ≡ ts ++ tables_used (map now (maps ++ m ∷ []))
 used-more now maps m b ts used =
-    append_assoc ts (tables_used (map now maps)) _
-    ∙ ap (λ us. ts ++ us) (sym (ap tables_used (map-append now maps (m ∷ []))
-    ∙ ap (map (λ (x : MapSeen). table_of x.body.now)) (filter-append (λ (x : MapSeen). x.used) (map now maps) (now m ∷ []) ∙ ap (λ c. used_maps (map now maps) ++ (if c then now m ∷ [] else [])) used)
-    ∙ map-append (λ (x : MapSeen). table_of x.body.now) (used_maps (map now maps)) (if b then now m ∷ [] else []) ∙ ap (λ us. tables_used (map now maps) ++ us) (at b)))
-  where
-    at : (b : Bool) → map (λ x. table_of x.body.now) (if b then now m ∷ [] else []) ≡ (if b then table_of (now m).body.now ∷ [] else [])
-    at b = search rules
+    let more : tables_used (map now (maps ++ m ∷ [])) ≡ tables_used (map now maps) ++ tables_used (now m ∷ []) = simp (map-append, filter-append) in
+    grind (arith, append_assoc)
 
 -- what all of a list with one more have
 pub all-last : {A B : Type 0} (P : A → Type 0) (now : B → A) (xs : List B) (x : B) → AllByRecursion P (map now (xs ++ x ∷ [])) → AllByRecursion P (map now xs) × P (now x)

@@ -2,9 +2,8 @@
 use Rattle.std.proofs.Common.{◌≡◌, ℕ, zero, suc, ◌+◌, ◌<◌, ◌≤◌, List, [], ◌∷◌, ◌++◌, length, map, take, get_or, Option, Some, None, IsSome, option_map, option_and_then, refl, ap, ap₂, ◌∙◌, length-append, arith}
 use Rattle.std.specs.Option.{option_map_or}
 use Rattle.std.specs.List.{flat_map, slice_get}
-use Rattle.std.proofs.lemmas.Bool.{false≢true}
-use Rattle.std.proofs.lemmas.List.{length-map, take_all, take_more}
-use Rattle.std.proofs.lemmas.Option.{option_and_then_some, none-some, same_Some, slice_get-map, slice_get_within, get_or_from_slice_get}
+use Rattle.std.proofs.lemmas.List.{length-map, take_all, take_more, get_or_append_left, get_or-append-add}
+use Rattle.std.proofs.lemmas.Option.{option_and_then_some, none-some, same_Some, slice_get-map, slice_get_within, slice_get-get_or, get_or_from_slice_get}
 use Rattle.blog_event.specs.File.{Placed}
 use Rattle.blog_trans.specs.declared.lists.Entry.{Entry}
 use Rattle.blog_trans.specs.Groups.{PlacedRows, PlacedStatement, PlacedTransaction}
@@ -37,15 +36,16 @@ list_some f o n some = grind arith
 pub own_item : {A : Type 0} (xs : List A) (n : ℕ) (x v : A) → slice_get xs n ≡ Some v → x ≡ get_or xs n x → x ≡ v
 own_item xs n x v here item = item ∙ get_or_from_slice_get xs n v x here
 
-get_front : {A : Type 0} (xs ys : List A) (n : ℕ) (x : A) → slice_get xs n ≡ Some x → slice_get (xs ++ ys) n ≡ Some x
-get_front [] ys n x found = absurd (none-some x found)
-get_front (a ∷ xs) ys zero x found = found
-get_front (a ∷ xs) ys (suc n) x found = get_front xs ys n x found
+pub get_front : {A : Type 0} (xs ys : List A) (n : ℕ) (x : A) → slice_get xs n ≡ Some x → slice_get (xs ++ ys) n ≡ Some x
+get_front xs ys n x found =
+    let within = slice_get_within xs n x found in
+    slice_get-get_or (xs ++ ys) n x (omega (arith, length-append xs ys)) ∙ ap Some (get_or_append_left xs ys x n within ∙ get_or_from_slice_get xs n x x found)
 
 get_behind : {A : Type 0} (xs ys : List A) (n m : ℕ) (x : A) → m ≡ length xs + n → slice_get ys n ≡ Some x → slice_get (xs ++ ys) m ≡ Some x
-get_behind [] ys n m x at found = let same : m ≡ n = omega arith in ap (slice_get ys) same ∙ found
-get_behind (a ∷ xs) ys n zero x at found = absurd (omega arith)
-get_behind (a ∷ xs) ys n (suc m) x at found = get_behind xs ys n m x (omega arith) found
+get_behind xs ys n m x at found =
+    let within = slice_get_within ys n x found in
+    slice_get-get_or (xs ++ ys) m x (omega (arith, length-append xs ys))
+    ∙ ap Some (ap (λ k. get_or (xs ++ ys) k x) at ∙ get_or-append-add xs ys n x ∙ get_or_from_slice_get ys n x x found)
 
 -- of lists joined
 get_flat : {X A : Type 0} (f : X → List A) (xs : List X) (n k m : ℕ) (y : A) → slice_get (option_map_or f (slice_get xs n) []) k ≡ Some y → m ≡ length (flat_map f (take n xs)) + k

@@ -1,18 +1,17 @@
 -- The lists of what is kept when a transaction begins, when a statement ends, and when a transaction ends.
-use Rattle.std.proofs.Common.{◌≡◌, ℕ, ◌+◌, ◌<◌, List, [], ◌∷◌, ◌++◌, map, length, take, drop, refl, sym, ap, ap₂, subst, ◌∙◌, zero-add, append_assoc, length-append, arith, take_at, drop_at}
+use Rattle.std.proofs.Common.{◌≡◌, ℕ, ◌+◌, ◌<◌, List, [], ◌∷◌, ◌++◌, map, length, take, drop, ap, subst, ◌∙◌, append_assoc, length-append, arith, take_at, drop_at}
 use Rattle.std.specs.List.{flat_map}
 use Rattle.std.proofs.lemmas.List.{append-nil, length-map}
 use Rattle.std.proofs.lemmas.Simd.{map-map}
 use Rattle.blog_event.specs.File.{Placed}
 use Rattle.blog_trans.specs.declared.lists.Entry.{Entry}
 use Rattle.blog_trans.specs.declared.lists.IndexLists.{IndexLists}
-use Rattle.blog_trans.specs.declared.lists.TransactionStart.{TransactionStart}
 use Rattle.blog_trans.specs.declared.checker.MapSeen.{MapSeen}
 use Rattle.blog_trans.specs.Groups.{PlacedRows, PlacedStatement, PlacedTransaction}
 use Rattle.blog_trans.specs.Progress.{Open, ended}
-use Rattle.blog_trans.specs.Entries.{entry_at, event_entry, rows_entry, statement_entries, entries_of, map_entries, transaction_start, statement_start, starts_in, statement_starts, statements_in, Shows}
+use Rattle.blog_trans.specs.Entries.{entry_at, event_entry, rows_entry, statement_entries, transaction_entries, entries_of, map_entries, transaction_start, statement_start, statement_starts, statements_in, Shows}
 use Rattle.blog_trans.specs.ListsView.{HasKept, all_ended, open_behind, between_statements, closed_by, statement_behind}
-use Rattle.blog_trans.proofs.Columns.{flat_push, entries_push, transaction_starts_push, statement_starts_push, starts_push, starts_len, statements_len}
+use Rattle.blog_trans.proofs.Columns.{flat_push, transaction_starts_push, statement_starts_push, starts_push, starts_len, statements_len}
 
 -- ---- lengths
 
@@ -43,9 +42,7 @@ closed_entries : (entries : List Entry) (start : ℕ) (done : List PlacedTransac
 closed_entries entries start done o used ms is begins same =
     let front : List Entry = entries_of done ++ (event_entry o.begin ∷ flat_map statement_entries o.statements) in
     let rows : List Entry = map rows_entry o.rows in
-    let maps : map_entries used ≡ map event_entry ms =
-    sym (map-map (λ n. entry_at n 0) (λ (m : MapSeen). m.at) used) ∙ ap (map (λ n. entry_at n 0)) same
-    ∙ map-map (λ n. entry_at n 0) (λ (m : Placed). m.pos) ms in
+    let maps : map_entries used ≡ map event_entry ms = simp map-map at (ap (map (λ n. entry_at n 0)) same) in
     let push = flat_push statement_entries o.statements (record { maps = ms; rows = o.rows }) in
     grind (arith, take_at front rows start, drop_at front rows start, append_assoc, append-nil, length-append)
 
@@ -94,4 +91,4 @@ module _ {A : Type 0} (before after : IndexLists A) (done : List PlacedTransacti
   taken begin [] p entries transactions statements more h = absurd (more (omega (arith, open_statements before done (between_statements begin []) h.shows, h.marked.first_is)))
   taken begin (s ∷ ss) p entries transactions statements more h =
       let t : PlacedTransaction = record { begin = begin; statements = s ∷ ss; end = p } in
-      grind (arith, append-nil, append_assoc, entries_push done t, transaction_starts_push 0 0 done t, statement_starts_push 0 done t)
+      grind (arith, append-nil, append_assoc, flat_push transaction_entries done t, transaction_starts_push 0 0 done t, statement_starts_push 0 done t)

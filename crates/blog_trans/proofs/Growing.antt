@@ -1,21 +1,15 @@
 -- One more table among the selected ones changes no number of the others.
-use Rattle.std.proofs.Common.{◌≡◌, inl, inr, ℕ, zero, suc, ◌≤◌, ◌+◌, List, [], ◌∷◌, ◌++◌, map, length, slice_get, Option, Some, refl, sym, ap, ◌∙◌, subst, arith, length-append}
+use Rattle.std.proofs.Common.{◌≡◌, ℕ, suc, ◌≤◌, ◌+◌, List, [], ◌∷◌, ◌++◌, map, length, slice_get, Option, Some, refl, ap, arith, length-append}
 use Rattle.std.specs.List.{position_or_len}
 use Rattle.std.proofs.lemmas.Map.Keys.{IsDistinct-push}
-use Rattle.std.proofs.lemmas.Option.{none-some}
 use Rattle.blog_row.specs.TableMap.{Table}
 use Rattle.blog_trans.specs.declared.counts.Counts.{Counts}
 use Rattle.blog_trans.specs.Acceptance.{is_same_table}
-use Rattle.blog_trans.specs.Changes.{Change, first_tables}
-use Rattle.blog_trans.specs.CountsView.{AreCounts, told_of}
+use Rattle.blog_trans.specs.Changes.{Change}
+use Rattle.blog_trans.specs.CountsView.{AreCounts}
 use Rattle.blog_trans.specs.TablesView.{HaveGrown}
 use Rattle.blog_trans.proofs.Tables.{table-laws}
-
--- what is found stays where it is
-pub front-place : {X : Type 0} (xs : List X) (x y : X) (n : ℕ) → slice_get xs n ≡ Some y → slice_get (xs ++ x ∷ []) n ≡ Some y
-front-place [] x y n at = absurd (none-some y at)
-front-place (z ∷ xs) x y zero at = at
-front-place (z ∷ xs) x y (suc n) at = front-place xs x y n at
+use Rattle.blog_trans.proofs.EntriesFound.{get_front}
 
 -- what stands one place behind the first stands there without it
 pub get-behind : {X : Type 0} (x : X) (xs : List X) (n : ℕ) → slice_get (x ∷ xs) (1 + n) ≡ slice_get xs n
@@ -37,4 +31,4 @@ same-row (x ∷ rows) (v ∷ tables) t u few = let later = same-row rows tables 
 
 pub counts-grown : {A : Type 0} (before after : List Table) (cs : List Change) (ts : List Table) (counts : Counts A) → HaveGrown before after
     → AreCounts before cs ts counts → AreCounts after cs ts counts
-counts-grown before after cs ts counts grown are = grind (arith, same-row, found-again, front-place, length-append, IsDistinct-push, table-laws)
+counts-grown before after cs ts counts grown are = grind (arith, same-row, found-again, get_front, length-append, IsDistinct-push, table-laws)

@@ -1,9 +1,7 @@
 -- What is known of an index: its lists, and that the events of its groups stand in its log.
-use Rattle.std.proofs.Common.{rules, ◌≡◌, ℕ, zero, suc, ◌+◌, ◌<◌, List, [], ◌∷◌, length, take, drop, Option, Some, None, IsSome, refl, sym, ap, subst, ◌∙◌, arith}
-use Rattle.std.specs.Option.{option_map_or}
+use Rattle.std.proofs.Common.{rules, ◌≡◌, ℕ, zero, suc, ◌+◌, ◌<◌, List, [], ◌∷◌, length, take, drop, Option, Some, IsSome, refl, sym, ap, subst, ◌∙◌, arith}
 use Rattle.std.specs.List.{AllByRecursion, slice_get}
-use Rattle.std.proofs.lemmas.Bool.{false≢true}
-use Rattle.std.proofs.lemmas.Option.{same_Some, slice_get_within, option_and_then_some}
+use Rattle.std.proofs.lemmas.Option.{slice_get_within, option_and_then_some}
 use Rattle.blog_event.specs.declared.event.Event as told
 use Rattle.blog_event.specs.Event.{Event, event_at, event_of, event_size}
 use Rattle.blog_event.specs.File.{Placed, placed_from, read}
@@ -11,9 +9,9 @@ use Rattle.blog_event.specs.Going.{AreRead}
 use Rattle.blog_event.proofs.Going.{opened-reads-on}
 use Rattle.blog_trans.specs.declared.groups.Index.{Index}
 use Rattle.blog_trans.specs.Selection.{Selection}
-use Rattle.blog_trans.specs.Acceptance.{IsAccepted, is_in_range, range}
+use Rattle.blog_trans.specs.Acceptance.{IsAccepted}
 use Rattle.blog_trans.specs.Groups.{PlacedRows, PlacedStatement, PlacedTransaction, placed_groups}
-use Rattle.blog_trans.specs.PlacedFacts.{IsPlacedMap, IsPlacedRows, IsPlacedStatement, IsPlacedTransaction}
+use Rattle.blog_trans.specs.PlacedFacts.{IsPlacedMap, IsPlacedStatement, IsPlacedTransaction}
 use Rattle.blog_trans.specs.IndexView.{Stands, IsOfEntry, IsRowsOfEntry, index_bytes, index_groups, index_selection, placed, statement_at, map_at, rows_at, maps_in, rows_in, rows_place}
 use Rattle.blog_trans.specs.Entries.{event_entry, transaction_start, statement_start, statements_in, transaction_place, statement_place}
 use Rattle.blog_trans.proofs.PlacedParts.{all-at, all-by, all-filter}
@@ -66,22 +64,19 @@ pub begin_read : {A : Type 0} (index : Index A) (t n : ℕ) → t < length (inde
     → (x : PlacedTransaction) × (slice_get (index_groups index) t ≡ Some x) × IsOfEntry index n x.begin
 begin_read index t n below place =
     let (x, at) = found (index_groups index) t below in
-    let here = ap (λ es. slice_get es n) index.entries_are ∙ get_begin (index_groups index) t n x at place in
-    (x, at, record { entry = event_entry x.begin; here = here; place = refl; stands = (known index t x at).begin_member })
+    (x, at, record { entry = event_entry x.begin; here = rw (index.entries_are) (get_begin (index_groups index) t n x at place); place = refl; stands = (known index t x at).begin_member })
 
 pub end_read : {A : Type 0} (index : Index A) (t n : ℕ) → t < length (index_groups index) → n + 1 ≡ transaction_place (index_groups index) (t + 1)
     → (x : PlacedTransaction) × (slice_get (index_groups index) t ≡ Some x) × IsOfEntry index n x.end
 end_read index t n below place =
     let (x, at) = found (index_groups index) t below in
-    let here = ap (λ es. slice_get es n) index.entries_are ∙ get_end (index_groups index) t n x at place in
-    (x, at, record { entry = event_entry x.end; here = here; place = refl; stands = (known index t x at).end_member })
+    (x, at, record { entry = event_entry x.end; here = rw (index.entries_are) (get_end (index_groups index) t n x at place); place = refl; stands = (known index t x at).end_member })
 
 pub map_read : {A : Type 0} (index : Index A) (t s m n : ℕ) → IsSome (map_at (index_groups index) t s m) → n ≡ statement_place (index_groups index) t s + m
     → (p : Placed) × (map_at (index_groups index) t s m ≡ Some p) × IsOfEntry index n p
 map_read index t s m n some place =
     let (p, is) = some_found (map_at (index_groups index) t s m) some in
-    let here = ap (λ es. slice_get es n) index.entries_are ∙ get_map (index_groups index) t s m n p is place in
-    (p, is, record { entry = event_entry p; here = here; place = refl; stands = (map_known index t s m p is).member })
+    (p, is, record { entry = event_entry p; here = rw (index.entries_are) (get_map (index_groups index) t s m n p is place); place = refl; stands = (map_known index t s m p is).member })
 
 pub rows_read : {A : Type 0} (index : Index A) (t s r n : ℕ) → IsSome (rows_at (index_groups index) t s r) → n ≡ rows_place (index_groups index) t s + r
     → (p : PlacedRows) × (rows_at (index_groups index) t s r ≡ Some p) × IsRowsOfEntry index n p

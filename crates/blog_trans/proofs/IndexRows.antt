@@ -1,8 +1,8 @@
 -- What an index shows of a rows event by its entry.
-use Rattle.std.proofs.Common.{arith, ◌≡◌, ℕ, drop, get_or, Bool, true, false, List, [], ◌∷◌, Option, Some, None, Result, Ok, IfSome, refl, sym, ap, ap₂, subst, ◌∙◌}
-use Rattle.std.specs.Prelude.{◌==◌, ◌||◌, if◌then◌else◌, bytes_eq, codes}
+use Rattle.std.proofs.Common.{arith, ◌≡◌, ℕ, drop, get_or, Bool, List, [], ◌∷◌, Option, Some, None, Result, Ok, IfSome, refl, sym, ap, ◌∙◌}
+use Rattle.std.specs.Prelude.{◌==◌, if◌then◌else◌}
 use Rattle.std.specs.Option.{option_map_or}
-use Rattle.std.proofs.lemmas.Option.{none-some, same_Some}
+use Rattle.std.proofs.lemmas.Option.{same_Some}
 use Rattle.blog_event.specs.declared.event.Event as told
 use Rattle.blog_event.specs.Event.{Event, event_at, event_of}
 use Rattle.blog_event.specs.File.{Placed}
@@ -14,11 +14,11 @@ use Rattle.blog_row.specs.TableMap.{layout_of}
 use Rattle.blog_row.specs.RowsEvent.{RowsBody, rows_of}
 use Rattle.blog_row.specs.declared.event_kinds.EventKind.{EventKind}
 use Rattle.blog_row.specs.declared.event_kinds.EventKind.TheVariants as kind
-use Rattle.blog_row.specs.Kinds.{begins_with, kind_of, other_kind, query_kind, query_text, rows_of_kind}
+use Rattle.blog_row.specs.Kinds.{kind_of, other_kind, query_kind, query_text, rows_of_kind}
 use Rattle.blog_trans.specs.declared.lists.Entry.{Entry}
 use Rattle.blog_trans.specs.declared.groups.Index.{Index}
 use Rattle.blog_trans.specs.Places.{kind_at}
-use Rattle.blog_trans.specs.Acceptance.{rows_under, rows_by_map}
+use Rattle.blog_trans.specs.Acceptance.{rows_by_map}
 use Rattle.blog_trans.specs.Groups.{PlacedRows}
 use Rattle.blog_trans.specs.Entries.{rows_entry}
 use Rattle.blog_trans.specs.IndexView.{IsRowsOfEntry, index_bytes, placed}

@@ -8,7 +8,7 @@ use Rattle.std.proofs.lemmas.Option.{slice_get-map}
 use Rattle.blog_row.specs.TableMap.{Table}
 use Rattle.blog_trans.specs.Selection.{Selection}
 use Rattle.blog_trans.specs.Groups.{PlacedTransaction, Transaction, placed_groups, groups, transaction_value}
-use Rattle.blog_trans.specs.Changes.{Change, TableCount, table_of, changes_of, count_of, first_tables, tables_of, counts_of}
+use Rattle.blog_trans.specs.Changes.{TableCount, table_of, changes_of, count_of, first_tables, tables_of, counts_of}
 use Rattle.blog_trans.specs.BuilderView.{statements_changes, statements_tables, placed_changes, placed_tables}
 
 -- ---- the changes and the tables of values

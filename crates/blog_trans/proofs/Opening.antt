@@ -1,12 +1,11 @@
 -- Opening a log asks the first four lines of its fault.
-use Rattle.std.proofs.Common.{◌≡◌, ℕ, zero, suc, true, List, [], ◌∷◌, take, drop, bytes_eq, Option, Some, None, is_some, refl, sym, ap, ◌∙◌, arith}
+use Rattle.std.proofs.Common.{◌≡◌, ℕ, zero, suc, true, List, [], ◌∷◌, take, drop, bytes_eq, Option, Some, None, is_some, refl, sym, ◌∙◌, arith}
 use Rattle.std.specs.Option.{option_map_or}
 use Rattle.std.proofs.lemmas.Option.{none-some}
 use Rattle.std.proofs.lemmas.Slice.Eq.{bytes_eq-Decides}
 use Rattle.blog_event.specs.declared.fault.Fault.{Fault}
-use Rattle.blog_event.specs.declared.fault.Fault.TheVariants.{NotABinlog, CutEvent}
 use Rattle.blog_event.specs.Event.{Event, event_at}
-use Rattle.blog_event.specs.Fault.{needs, first_failing, fault_at}
+use Rattle.blog_event.specs.Fault.{first_failing}
 use Rattle.blog_event.specs.File.{magic, read}
 use Rattle.blog_event.specs.Format.{format_fault}
 use Rattle.blog_event.specs.Opening.{opening_fault}

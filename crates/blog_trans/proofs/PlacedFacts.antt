@@ -1,19 +1,17 @@
 -- The facts of each group of events.
-use Rattle.std.proofs.Common.{rules, ◌≡◌, ℕ, Bool, true, false, ◌&&◌, ◌||◌, not, if◌then◌else◌, List, [], ◌∷◌, map, reverse, Option, Some, bytes_eq, refl, sym, ap, subst, ◌∙◌, arith}
+use Rattle.std.proofs.Common.{rules, ◌≡◌, ℕ, Bool, true, false, ◌||◌, List, [], ◌∷◌, map, reverse, Option, Some, bytes_eq, refl, sym, ap, subst, ◌∙◌, arith}
 use Rattle.std.specs.Option.{option_map_or}
 use Rattle.std.specs.List.{AllByRecursion, IsDistinct, filter_map, list_any, Contains}
-use Rattle.std.proofs.lemmas.Bool.{not-true, and_parts, or_left, or_right, false≢true}
+use Rattle.std.proofs.lemmas.Bool.{and_parts, or_left, or_right, false≢true}
 use Rattle.std.proofs.lemmas.List.{reverse-reverse}
 use Rattle.std.proofs.lemmas.List.Elements.{All-contains_itself, recursion_from_All}
 use Rattle.std.proofs.lemmas.Option.{none-some, same_Some}
 use Rattle.blog_event.specs.File.{Placed}
-use Rattle.blog_row.specs.TableMap.{names_of, layout_of}
 use Rattle.blog_trans.specs.Selection.{Selection}
-use Rattle.blog_trans.specs.Places.{is_map, is_map_of, map_in}
-use Rattle.blog_trans.specs.Groups.{PlacedRows, PlacedStatement, PlacedTransaction, Span, spans, statements_of, kept_rows, first_maps, statement_if, kept_statement, transaction_if, kept_transaction, placed_groups_in}
-use Rattle.blog_trans.specs.StatementMaps.{first_of_ids}
+use Rattle.blog_trans.specs.Places.{map_in}
+use Rattle.blog_trans.specs.Groups.{PlacedRows, PlacedStatement, PlacedTransaction, Span, kept_rows, first_maps, statement_if, kept_statement, transaction_if, kept_transaction, placed_groups_in}
 use Rattle.blog_trans.specs.PlacedFacts.{IsPlacedMap, IsPlacedRows, IsPlacedStatement, IsPlacedTransaction}
-use Rattle.blog_trans.proofs.ProgressFirsts.{id_at, ids_of, is_id_among, without_id, IsFirst, bytes-own, bytes-same, among-without, first-filter, first-found}
+use Rattle.blog_trans.proofs.ProgressFirsts.{id_at, ids_of, is_id_among, without_id, bytes-own, bytes-same, among-without, first-filter, first-found}
 use Rattle.blog_trans.proofs.KeptRows.{IsKeptOf, under-found, kept-facts}
 use Rattle.blog_trans.proofs.PlacedParts.{all-by, all-both, all-map, all-filter, all-found, all-given, any-map, IsSpanOf, spans-all, statements-all}
 

@@ -1,12 +1,12 @@
 -- What holds of each of some events holds of those of their spans and statements.
-use Rattle.std.proofs.Common.{rules, ◌≡◌, ℕ, zero, suc, Bool, true, false, not, ◌||◌, if◌then◌else◌, List, [], ◌∷◌, map, filter, find, flat_map, Option, Some, None, option_map, refl, ap, subst, arith}
+use Rattle.std.proofs.Common.{rules, ◌≡◌, ℕ, zero, suc, Bool, true, ◌||◌, List, [], ◌∷◌, map, filter, find, flat_map, Option, Some, refl, ap, subst, arith}
 use Rattle.std.specs.List.{AllByRecursion, filter_map, slice_get, list_any}
 use Rattle.std.proofs.lemmas.Option.{none-some, same_Some}
 use Rattle.blog_event.specs.File.{Placed}
 use Rattle.blog_event.specs.Format.{front_while}
 use Rattle.blog_row.proofs.ReversedRows.{all-append}
 use Rattle.blog_trans.specs.Places.{is_begin, is_end}
-use Rattle.blog_trans.specs.Groups.{Span, cons_if, spans, onto_first, statements_of}
+use Rattle.blog_trans.specs.Groups.{Span, spans, onto_first, statements_of}
 
 -- ---- lists
 

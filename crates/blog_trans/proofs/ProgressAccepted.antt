@@ -1,13 +1,12 @@
 -- The progress over the range of an accepted log has the log's groups.
-use Rattle.std.proofs.Common.{rules, ◌≡◌, ℕ, Bool, true, false, if◌then◌else◌, List, [], ◌∷◌, not, reverse, Option, None, arith}
+use Rattle.std.proofs.Common.{rules, ◌≡◌, ℕ, Bool, true, false, if◌then◌else◌, List, [], ◌∷◌, reverse, Option, None, arith}
 use Rattle.std.specs.List.{AllByRecursion}
 use Rattle.blog_event.specs.declared.fault.Fault.{Fault}
-use Rattle.blog_event.specs.declared.fault.Fault.TheVariants.{NoEventAt, Unended}
 use Rattle.blog_event.specs.Fault.{Cause, needs, first_failing, fault_at}
-use Rattle.blog_event.specs.File.{Placed, placed_from, read, end_of}
+use Rattle.blog_event.specs.File.{Placed, placed_from, read}
 use Rattle.blog_trans.specs.Selection.{Selection}
-use Rattle.blog_trans.specs.Places.{place, is_inside, is_outside}
-use Rattle.blog_trans.specs.Acceptance.{event_fault, range, is_in_range, is_start_inside, read_fault, first_read_fault, lines, fault, IsAccepted, Passes}
+use Rattle.blog_trans.specs.Places.{place, is_inside}
+use Rattle.blog_trans.specs.Acceptance.{event_fault, range, is_in_range, first_read_fault, lines, fault, IsAccepted, Passes}
 use Rattle.blog_trans.specs.Groups.{placed_groups}
 use Rattle.blog_trans.specs.Progress.{progress}
 use Rattle.blog_trans.proofs.ProgressGroups.{progress-is-groups}

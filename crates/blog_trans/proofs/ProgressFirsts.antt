@@ -1,9 +1,7 @@
 -- The first maps of table ids. `statement` has the events of a statement, the latest first.
-use Rattle.std.proofs.Common.{◌≡◌, ℕ, Bool, true, false, ◌&&◌, ◌||◌, not, if◌then◌else◌, List, [], ◌∷◌, ◌++◌, map, filter, find, reverse, Some, None, bytes_eq, refl, sym, ap, ◌∙◌, append-nil, rules, arith}
-use Rattle.std.specs.Option.{option_or}
+use Rattle.std.proofs.Common.{◌≡◌, ℕ, Bool, true, false, ◌&&◌, not, if◌then◌else◌, List, [], ◌∷◌, ◌++◌, map, filter, find, reverse, Some, None, bytes_eq, refl, append-nil, arith}
 use Rattle.std.specs.List.{AllByRecursion, list_any}
 pub use Rattle.std.proofs.Math.Bool.{and-false}
-use Rattle.std.proofs.Math.Bool.{and-true}
 use Rattle.std.proofs.lemmas.List.Elements.{filter-append}
 use Rattle.std.proofs.lemmas.List.Folds.{find-append}
 use Rattle.std.proofs.lemmas.List.Sorted.{list_any-IsPermutation, IsPermutation-reverse}

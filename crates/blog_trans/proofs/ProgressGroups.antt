@@ -1,14 +1,14 @@
 -- Of events that pass and end outside of a transaction, what the progress keeps are the groups.
-use Rattle.std.proofs.Common.{arith, rules, ◌≡◌, false, List, [], ◌∷◌, ◌++◌, reverse, Option, None, is_some, sym, ap, subst, ◌∙◌, append-nil}
+use Rattle.std.proofs.Common.{arith, ◌≡◌, false, List, [], ◌∷◌, ◌++◌, reverse, None, sym, subst, append-nil}
 use Rattle.std.proofs.lemmas.List.{reverse-reverse}
 use Rattle.blog_event.specs.File.{Placed}
 use Rattle.blog_trans.specs.Selection.{Selection}
-use Rattle.blog_trans.specs.Places.{place, is_inside, since}
+use Rattle.blog_trans.specs.Places.{place, is_inside}
 use Rattle.blog_trans.specs.Groups.{placed_groups_in}
 use Rattle.blog_trans.specs.Progress.{progress}
 use Rattle.blog_trans.specs.Acceptance.{HavePassed, Passes}
 use Rattle.blog_trans.proofs.ProgressSteps.{reverse-behind}
-use Rattle.blog_trans.proofs.ProgressState.{groups_left, groups-follow, open-inside}
+use Rattle.blog_trans.proofs.ProgressState.{groups-follow, open-inside}
 
 -- outside of a transaction none is open
 pub none-open : (sel : Selection) (earlier : List Placed) → HavePassed sel earlier → is_inside (place earlier) ≡ false → (progress sel earlier).current ≡ None

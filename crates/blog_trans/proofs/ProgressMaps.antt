@@ -1,10 +1,7 @@
 -- The maps of a kept statement are the first maps that are used. `statement` has its events, the latest first.
 use Rattle.std.proofs.Common.{rules, ◌≡◌, ℕ, Bool, true, false, ◌&&◌, ◌||◌, List, [], ◌∷◌, ◌++◌, filter, reverse, Option, Some, None, is_some, bytes_eq, refl, sym, ap, ◌∙◌, append-nil, arith}
 use Rattle.std.specs.Option.{option_map_or}
-use Rattle.std.specs.List.{AllByRecursion, list_any}
-use Rattle.std.proofs.Math.Bool.{and-or_distrib_left}
-use Rattle.std.proofs.lemmas.Bool.{and_from, and_parts, false≢true}
-use Rattle.std.proofs.lemmas.Option.{same_Some}
+use Rattle.std.specs.List.{AllByRecursion}
 use Rattle.blog_event.specs.File.{Placed}
 use Rattle.blog_row.specs.Kinds.{rows_of_kind}
 use Rattle.blog_trans.specs.Selection.{Selection}
@@ -42,7 +39,7 @@ used-step None (Some c) m chosen has one same facts checked own =
     grind (arith, λ (t : one ≡ true). (checked t).1 c refl, λ (t : same ≡ true). own t c refl)
 used-step (Some r) at m chosen has one same facts checked own = grind (arith, facts r refl, λ (t : same ≡ true). own t r.map (facts r refl).0)
 
-bytes-turned : (xs ys : List ℕ) → bytes_eq xs ys ≡ bytes_eq ys xs
+pub bytes-turned : (xs ys : List ℕ) → bytes_eq xs ys ≡ bytes_eq ys xs
 bytes-turned xs ys = grind (arith, bytes-same xs ys, bytes-same ys xs, bytes-own xs)
 
 -- a map is used by a rows event that is its statement's and of its id, if this is kept

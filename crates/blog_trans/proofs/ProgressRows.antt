@@ -1,17 +1,15 @@
 -- The kept rows events of a statement: those that were kept as they came are those that the whole statement keeps.
 -- `statement` has its events, the latest first.
-use Rattle.std.proofs.Common.{◌≡◌, ℕ, Bool, true, false, if◌then◌else◌, List, [], ◌∷◌, ◌++◌, reverse, Option, Some, None, is_some, option_and_then, refl, sym, ap, ◌∙◌, append_assoc, append-nil, arith}
+use Rattle.std.proofs.Common.{◌≡◌, ℕ, true, false, List, [], ◌∷◌, ◌++◌, reverse, Option, Some, None, refl, ap, ◌∙◌, append_assoc, append-nil, arith}
 use Rattle.std.specs.Option.{option_or}
 use Rattle.std.specs.List.{list_any, filter_map, cons_option}
 use Rattle.std.proofs.lemmas.List.Elements.{filter_map-append}
 use Rattle.std.proofs.lemmas.List.Folds.{find-append}
 use Rattle.blog_event.specs.File.{Placed}
-use Rattle.blog_row.specs.RowsEvent.{table_id}
-use Rattle.blog_row.specs.Kinds.{rows_of_kind}
 use Rattle.blog_trans.specs.Selection.{Selection}
-use Rattle.blog_trans.specs.Places.{kind_at, is_rows, since, is_map_of, map_in}
-use Rattle.blog_trans.specs.Acceptance.{is_selected, HavePassed}
-use Rattle.blog_trans.specs.Groups.{PlacedRows, rows_by_kind, kept_rows}
+use Rattle.blog_trans.specs.Places.{is_rows, since, is_map_of, map_in}
+use Rattle.blog_trans.specs.Acceptance.{HavePassed}
+use Rattle.blog_trans.specs.Groups.{PlacedRows, kept_rows}
 use Rattle.blog_trans.specs.Progress.{appended_if}
 use Rattle.blog_trans.proofs.KeptRows.{kept-facts}
 use Rattle.blog_trans.proofs.ProgressSteps.{reverse-latest, reverse-behind, IsChecked, rows-checked}

@@ -1,27 +1,19 @@
 -- The progress over the events so far: its open transaction, and that what it keeps and what is left give the groups.
-use Rattle.std.proofs.Common.{◌≡◌, ℕ, ◌+◌, ◌≤◌, Bool, true, false, not, List, [], ◌∷◌, ◌++◌, length, reverse, find, Option, Some, None, option_map, is_some, option_and_then, nat_le, ◌==◌, refl, sym, ap, ap₂, subst, ◌∙◌, append-nil, arith, rules}
-use Rattle.std.specs.Option.{option_map_or}
+use Rattle.std.proofs.Common.{◌≡◌, ℕ, ◌+◌, ◌≤◌, true, false, not, List, [], ◌∷◌, ◌++◌, reverse, find, Option, Some, None, is_some, option_and_then, refl, ap, ◌∙◌, append-nil, arith}
 use Rattle.std.specs.List.{filter_map, list_any}
-use Rattle.std.proofs.lemmas.Bool.{not-true, and_from, and_left, and_right, false≢true}
-use Rattle.blog_event.specs.declared.fault.Fault.TheVariants.{OutOfPlace, Unended, BadBody}
-use Rattle.blog_event.specs.Fault.{Cause, needs, first_failing}
 use Rattle.blog_event.specs.File.{Placed}
 use Rattle.blog_event.specs.Format.{front_while}
-use Rattle.blog_row.specs.declared.kind.RowsKind.{RowsKind}
-use Rattle.blog_row.specs.RowsEvent.{has_end_flag, fixed_len, table_id}
-use Rattle.blog_row.specs.declared.event_kinds.EventKind.{EventKind}
-use Rattle.blog_row.specs.declared.event_kinds.EventKind.TheVariants as kind
-use Rattle.blog_row.specs.Kinds.{is_begin_kind, is_end_kind, rows_of_kind}
+use Rattle.blog_row.specs.RowsEvent.{has_end_flag}
 use Rattle.blog_trans.specs.Selection.{Selection}
-use Rattle.blog_trans.specs.Places.{kind_at, is_begin, is_end, is_rows, is_last_rows, leads_to, place, is_inside, is_outside, since, map_in}
-use Rattle.blog_trans.specs.Groups.{PlacedRows, PlacedStatement, PlacedTransaction, Span, cons_if, spans, statements_of, kept_rows, statement_if, kept_statement, transaction_if, kept_transaction, placed_groups_in}
-use Rattle.blog_trans.specs.Progress.{Open, Progress, appended_if, with_rows, closed, ended_if, rows_taken, advance, advance_by, progress}
+use Rattle.blog_trans.specs.Places.{is_begin, is_end, is_rows, is_last_rows, place, is_inside, since}
+use Rattle.blog_trans.specs.Groups.{PlacedRows, PlacedStatement, PlacedTransaction, cons_if, statements_of, kept_rows, statement_if, kept_statement, transaction_if, placed_groups_in}
+use Rattle.blog_trans.specs.Progress.{Open, Progress, appended_if, with_rows, advance, progress}
 use Rattle.blog_trans.specs.Acceptance.{HavePassed, event_fault}
 use Rattle.blog_trans.proofs.ProgressSteps.{reverse-behind}
 use Rattle.blog_trans.proofs.ProgressRows.{AreChecked, kept_so_far, kept-before, no-rows-kept, none-kept, statement-keeps, with-checked}
 use Rattle.blog_trans.proofs.Sums.{sum_of, sum-reverse}
 use Rattle.blog_trans.proofs.Apart.{transaction_sum, open_sum, statement-fits, transaction-fits}
-use Rattle.blog_trans.proofs.StatementCuts.{since-no-last, since-cut, since-on, cut-none, cut-last}
+use Rattle.blog_trans.proofs.StatementCuts.{since-no-last, cut-none, cut-last}
 
 -- ---- what is still to come
 

@@ -1,21 +1,16 @@
 -- What is known of events that passed their checks.
-use Rattle.std.proofs.Common.{arith, ◌≡◌, Bool, true, false, List, [], ◌∷◌, ◌++◌, length, reverse, nat_le, Option, Some, None, Result, Ok, Err, is_some, refl, ap, ◌∙◌, append_assoc, rules}
-use Rattle.std.proofs.lemmas.Bool.{false≢true}
+use Rattle.std.proofs.Common.{arith, ◌≡◌, Bool, true, List, [], ◌∷◌, ◌++◌, reverse, Option, Some, None, is_some, ap, ◌∙◌, append_assoc, rules}
 use Rattle.std.proofs.lemmas.List.{reverse-append}
-use Rattle.blog_event.specs.declared.fault.Fault.TheVariants.{OutOfPlace, BadBody}
 use Rattle.blog_event.specs.Fault.{Cause, needs, first_failing}
 use Rattle.blog_event.specs.File.{Placed}
-use Rattle.blog_row.specs.declared.fault.RowFault.{RowFault}
-use Rattle.blog_row.specs.declared.kind.RowsKind.{RowsKind}
-use Rattle.blog_row.specs.RowsEvent.{RowsBody, table_id, fixed_len}
+use Rattle.blog_row.specs.RowsEvent.{table_id}
 use Rattle.blog_row.specs.declared.event_kinds.EventKind.{EventKind}
 use Rattle.blog_row.specs.declared.event_kinds.EventKind.TheVariants as kind
-use Rattle.blog_row.specs.Kinds.{is_begin_kind, rows_of_kind}
-use Rattle.blog_trans.specs.declared.place.Place.{Place}
+use Rattle.blog_row.specs.Kinds.{is_begin_kind}
 use Rattle.blog_trans.specs.Selection.{Selection}
-use Rattle.blog_trans.specs.Places.{kind_at, is_rows, place, is_inside, is_outside, since, map_in}
-use Rattle.blog_trans.specs.Acceptance.{cause_of, is_selected, rows_by_map, rows_check, checks, event_fault}
-use Rattle.blog_trans.specs.Groups.{PlacedRows, rows_if, kept_rows}
+use Rattle.blog_trans.specs.Places.{is_rows, since, map_in}
+use Rattle.blog_trans.specs.Acceptance.{is_selected, event_fault}
+use Rattle.blog_trans.specs.Groups.{kept_rows}
 
 -- ---- events in both orders
 

@@ -1,11 +1,11 @@
 -- Statements are cut going forward, and seen looking back: both are the same.
-use Rattle.std.proofs.Common.{◌≡◌, Bool, true, false, List, [], ◌∷◌, ◌++◌, reverse, refl, sym, ap, ap₂, ◌∙◌, append_assoc, append-nil, arith}
+use Rattle.std.proofs.Common.{◌≡◌, true, false, List, [], ◌∷◌, ◌++◌, reverse, refl, ap, ◌∙◌, append_assoc, append-nil, arith}
 use Rattle.std.specs.List.{AllByRecursion, flat_map}
 use Rattle.std.proofs.Math.Bool.{or-true}
 use Rattle.std.proofs.lemmas.Grind.{flat_map-append}
 use Rattle.blog_event.specs.File.{Placed}
 use Rattle.blog_trans.specs.Places.{is_begin, is_last_rows, since}
-use Rattle.blog_trans.specs.Groups.{onto_first, statements_of}
+use Rattle.blog_trans.specs.Groups.{statements_of}
 use Rattle.blog_trans.proofs.ProgressSteps.{reverse-latest, reverse-behind}
 
 -- ---- one statement

@@ -1,9 +1,8 @@
 -- The numbers of the selected tables: their places among the tables whose layouts are known.
-use Rattle.std.proofs.Common.{rules, ◌≡◌, ℕ, false, ◌||◌, List, [], ◌∷◌, ◌++◌, map, slice_get, Option, Some, None, option_map, is_some, refl, sym, ap, ◌∙◌, inl, inr, arith}
-use Rattle.std.specs.Prelude.{IfSome, option_and_then}
+use Rattle.std.proofs.Common.{rules, ◌≡◌, ℕ, false, List, [], ◌∷◌, ◌++◌, map, slice_get, Option, Some, None, option_map, is_some, refl, sym, ap, ◌∙◌, arith}
+use Rattle.std.specs.Prelude.{IfSome}
 use Rattle.std.specs.List.{list_any, position_or_len, AllByRecursion}
 use Rattle.std.specs.Map.{keys_of}
-use Rattle.std.proofs.lemmas.Bool.{false≢true}
 use Rattle.std.proofs.lemmas.List.{map-append}
 use Rattle.std.proofs.lemmas.Option.{slice_get-map}
 use Rattle.std.proofs.lemmas.Map.Made.{is_some-lookup}
@@ -11,14 +10,14 @@ use Rattle.indexmap.specs.IndexMap.{IndexMap, get, keys, insert_entry, insert_in
 use Rattle.indexmap.proofs.CallerLemmas.{insert_entry-new, keys-insert_entry-present}
 use Rattle.blog_row.specs.declared.layout.Layout.{Layout}
 use Rattle.blog_row.specs.TableMap.{Table, Names, names_of}
-use Rattle.blog_trans.specs.declared.layouts.SelectedTable.{SelectedTable}
 use Rattle.blog_trans.specs.declared.checker.MapSeen.{MapSeen}
 use Rattle.blog_trans.specs.declared.table_name.TableName.{TableName}
 use Rattle.blog_trans.specs.Acceptance.{is_same_table}
-use Rattle.blog_trans.specs.Changes.{table_of}
 use Rattle.blog_trans.specs.CheckerView.{is_same_name}
 use Rattle.blog_trans.specs.TablesView.{table_named, tables_known, HaveGrown, IsNumbered}
-use Rattle.blog_trans.proofs.Growing.{front-place, get-behind}
+use Rattle.blog_trans.proofs.Growing.{get-behind}
+use Rattle.blog_trans.proofs.PlacedParts.{any-map}
+use Rattle.blog_trans.proofs.EntriesFound.{get_front}
 use Rattle.blog_trans.proofs.Tables.{same-table}
 
 -- ---- the number of a name
@@ -44,24 +43,20 @@ pub tables-stay : {S : Type 0} (layouts after : IndexMap TableName Layout S) (na
     → after.entries ≡ insert_entry is_same_name layouts.entries name layout → tables_known after ≡ tables_known layouts
 tables-stay layouts after name layout known there entries = grind (arith, keys-insert_entry-present)
 
-any-named : (names : List TableName) (name : TableName) → list_any (is_same_table (table_named name)) (map table_named names) ≡ list_any (is_same_name name) names
-any-named [] name = refl
-any-named (n ∷ names) name = ap (λ b. is_same_name name n || b) (any-named names name)
-
 -- and stands behind the others, of which it is none
 pub tables-more : {S : Type 0} (layouts after : IndexMap TableName Layout S) (name : TableName) (layout : Layout) → get is_same_name layouts name ≡ None
     → after.entries ≡ insert_entry is_same_name layouts.entries name layout
     → (tables_known after ≡ tables_known layouts ++ table_named name ∷ []) × (list_any (is_same_table (table_named name)) (tables_known layouts) ≡ false)
 tables-more layouts after name layout none entries = (
   grind (arith, insert_entry-new is_same_name layouts name layout none, map-append),
-  any-named (keys layouts) name ∙ sym (is_some-lookup (is_same_name name) layouts.entries) ∙ ap is_some none,
+  any-map table_named (is_same_table (table_named name)) (keys layouts) ∙ sym (is_some-lookup (is_same_name name) layouts.entries) ∙ ap is_some none,
 )
 
 -- ---- one more table
 
 -- a table keeps its number
 get-grown : (before after : List Table) (n : ℕ) (t : Table) → HaveGrown before after → slice_get before n ≡ Some t → slice_get after n ≡ Some t
-get-grown before after n t grown found = grind (arith, front-place)
+get-grown before after n t grown found = grind (arith, get_front)
 
 one-grown : (before after : List Table) (m : MapSeen) → HaveGrown before after → IsNumbered before m → IsNumbered after m
 one-grown before after m grown is = grind (arith, get-grown)

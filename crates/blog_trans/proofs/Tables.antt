@@ -1,10 +1,8 @@
 -- Names of tables, and tables in the order in which each comes first.
-use Rattle.std.proofs.Common.{arith, rules, ◌≡◌, Bool, true, false, if◌then◌else◌, ◌||◌, List, [], ◌∷◌, ◌++◌, refl, sym, ap, ◌∙◌, Decides}
+use Rattle.std.proofs.Common.{rules, ◌≡◌, true, if◌then◌else◌, ◌||◌, List, [], ◌∷◌, ◌++◌, refl, Decides}
 use Rattle.std.specs.Cmp.{IsEquivalence}
 use Rattle.std.specs.List.{list_any}
 use Rattle.std.proofs.Math.Bool.{or-false}
-use Rattle.std.proofs.lemmas.Bool.Decides.{Decides-and, Decides-like, same_from_decides}
-use Rattle.std.proofs.lemmas.Slice.Eq.{bytes_eq-Decides}
 use Rattle.blog_row.specs.TableMap.{Table}
 use Rattle.blog_trans.specs.Acceptance.{is_same_table}
 use Rattle.blog_trans.specs.Changes.{first_tables}

@@ -1,8 +1,8 @@
 -- Events of groups in turn: what comes first of what is left, and what is left behind it.
-use Rattle.std.proofs.Common.{◌≡◌, ◌≢◌, ℕ, zero, suc, ◌+◌, ◌<◌, ◌≤◌, Bool, true, false, List, [], ◌∷◌, length, take, drop, reverse, Option, Some, None, IsSome, option_map, refl, sym, ap, ap₂, ◌∙◌, arith}
+use Rattle.std.proofs.Common.{◌≡◌, ◌≢◌, ℕ, ◌+◌, ◌<◌, ◌≤◌, Bool, true, false, List, [], ◌∷◌, length, take, drop, Option, Some, IsSome, is_some, option_map, sym, ap, ◌∙◌, arith}
 use Rattle.std.specs.Prelude.{option_and_then, slice_get}
-use Rattle.std.proofs.lemmas.List.{drop_all, length-drop, length-take, length-take-le, length-reverse, reverse-append}
-use Rattle.std.proofs.lemmas.Option.{none-some, same_Some, slice_get_within, get_or_from_slice_get}
+use Rattle.std.proofs.lemmas.List.{drop_all, length-drop, length-take, length-take-le, length-reverse, reverse-append, get_or-take}
+use Rattle.std.proofs.lemmas.Option.{slice_get_within, slice_get-get_or, get_or_from_slice_get}
 use Rattle.std.proofs.Math.Seq.{drop-cons, take-length}
 use Rattle.indexmap.proofs.DrainLemmas.{drop_end}
 use Rattle.blog_row.specs.declared.order.Order.{Order}
@@ -11,16 +11,15 @@ use Rattle.std.specs.declared.ops.Range.{Range}
 use Rattle.blog_trans.specs.Groups.{PlacedRows}
 use Rattle.blog_trans.specs.InTurn.{Changes, TakesNumber, in_order, rows_in_turn}
 use Rattle.blog_trans.specs.GroupEventsView.{among}
-use Rattle.blog_trans.proofs.EntriesFound.{take_next}
-use Rattle.blog_trans.proofs.IndexFacts.{some_found}
+use Rattle.std.specs.Option.{option_map_or}
+use Rattle.blog_trans.proofs.EntriesFound.{take_next, inner, counted}
+use Rattle.blog_trans.proofs.IndexFacts.{found, some_found}
 
 -- ---- numbers that are left
 
-slice-take : {A : Type 0} (xs : List A) (i n : ℕ) → i < n → slice_get (take n xs) i ≡ slice_get xs i
-slice-take xs i zero within = absurd (omega arith)
-slice-take [] i (suc n) within = refl
-slice-take (x ∷ xs) zero (suc n) within = refl
-slice-take (x ∷ xs) (suc i) (suc n) within = slice-take xs i n (omega arith)
+slice-take : {A : Type 0} (xs : List A) (i n : ℕ) (x : A) → i < n → slice_get xs i ≡ Some x → slice_get (take n xs) i ≡ Some x
+slice-take xs i n x within here =
+    slice_get-get_or (take n xs) i x (omega (arith, length-take n xs, slice_get_within xs i x here)) ∙ ap Some (get_or-take n xs i x within ∙ get_or_from_slice_get xs i x x here)
 
 pub drop-at : {A : Type 0} (xs : List A) (i : ℕ) (x : A) → slice_get xs i ≡ Some x → drop i xs ≡ x ∷ drop (i + 1) xs
 drop-at xs i x is = grind (arith, drop-cons xs i x, slice_get_within, get_or_from_slice_get xs i x x is)
@@ -29,7 +28,7 @@ drop-at xs i x is = grind (arith, drop-cons xs i x, slice_get_within, get_or_fro
 pub first-taken : {A : Type 0} (order : Order) (xs : List A) (before : Range ℕ) (n : ℕ) (after : Range ℕ) (x : A) → TakesNumber order before n after → before.start < before.end
     → slice_get xs n ≡ Some x → in_order order (among before xs) ≡ x ∷ in_order order (among after xs)
 first-taken Forward xs before n after x (is, start, end) some here =
-    grind (arith, slice-take xs before.start before.end, drop-at (take before.end xs) before.start x)
+    grind (arith, slice-take xs before.start before.end x, drop-at (take before.end xs) before.start x)
 first-taken Backward xs before n after x (is, start, end) some here =
     let long = length-take-le n xs (omega (arith, slice_get_within xs n x here)) in
     grind (arith, take_next xs n x here, drop_end (take n xs) x before.start, reverse-append (drop before.start (take n xs)) (x ∷ []))
@@ -47,27 +46,19 @@ pub none-in-order : {A : Type 0} (order : Order) (numbers : Range ℕ) (xs : Lis
 none-in-order order numbers xs none = grind (arith, none-among)
 
 -- one below their number is there
-slice-some : {A : Type 0} (xs : List A) (m : ℕ) → m < length xs → IsSome (slice_get xs m)
-slice-some [] m below = absurd (omega arith)
-slice-some (x ∷ xs) zero below = refl
-slice-some (x ∷ xs) (suc m) below = slice-some xs m (omega arith)
-
 pub one-below : {A B : Type 0} (f : A → List B) (o : Option A) (n m : ℕ) → option_map (λ x. length (f x)) o ≡ Some n → m < n → IsSome (option_and_then (λ x. slice_get (f x) m) o)
-one-below f None n m long below = absurd (none-some n long)
-one-below f (Some x) n m long below = slice-some (f x) m (omega (arith, below, same_Some (length (f x)) n long))
+one-below f o n m long below = ap is_some (inner f o m ∙ (found (option_map_or f o []) m (omega (arith, counted f o n long, below))).1)
 
 -- all of them
 pub all-among : {A : Type 0} (xs : List A) (n : ℕ) → length xs ≡ n → among (record { start = 0; end = n }) xs ≡ xs
 all-among xs n long = ap (λ m. take m xs) (sym long) ∙ take-length xs
 
 -- not none where there is one
-length-in-order : {A : Type 0} (order : Order) (xs : List A) → length (in_order order xs) ≡ length xs
-length-in-order order xs = grind (arith, length-reverse)
-
 pub some-in-order : {A : Type 0} (order : Order) (xs : List A) (numbers : Range ℕ) → numbers.start < numbers.end → IsSome (slice_get xs numbers.start) → in_order order (among numbers xs) ≢ []
 some-in-order order xs numbers some here = λ none.
     let (x, is) = some_found (slice_get xs numbers.start) here in
-    omega (arith, ap length none, length-in-order order (among numbers xs), length-drop numbers.start (take numbers.end xs), length-take numbers.end xs, slice_get_within xs numbers.start x is)
+    let long : length (in_order order (among numbers xs)) ≡ length (among numbers xs) = grind (arith, length-reverse) in
+    omega (arith, ap length none, length-drop numbers.start (take numbers.end xs), length-take numbers.end xs, slice_get_within xs numbers.start x is)
 
 -- ---- what is left of a transaction
 

@@ -1,5 +1,5 @@
 -- How far a walk over a log has come: what was read, and what is left.
-use Rattle.std.proofs.Common.{◌≡◌, ℕ, ◌+◌, ◌<◌, ◌≤◌, Bool, true, false, not, ◌&&◌, ◌==◌, if◌then◌else◌, List, [], ◌∷◌, ◌++◌, length, drop, reverse, Option, Some, None, Ok, refl, sym, ap, ◌∙◌, subst, inl, inr, arith}
+use Rattle.std.proofs.Common.{◌≡◌, ℕ, ◌+◌, ◌<◌, ◌≤◌, Bool, true, false, not, ◌&&◌, ◌==◌, if◌then◌else◌, List, [], ◌∷◌, ◌++◌, filter, length, drop, reverse, Option, Some, None, Ok, refl, sym, ap, ◌∙◌, subst, inl, inr, arith}
 use Rattle.std.proofs.lemmas.Bool.{ne_eqb, eq-eqb}
 use Rattle.std.proofs.lemmas.List.{append-nil, reverse-reverse, length-drop}
 use Rattle.std.proofs.lemmas.List.Elements.{filter-append}
@@ -44,37 +44,24 @@ fault-first check others f is = ap (λ c. first_failing (c ∷ others)) is
 
 -- ---- the event at 4
 
-format-fault : (sel : Selection) (e : Event) → is_start_inside sel (record { pos = 4; event = e }) ≡ false → read_fault sel [] (record { pos = 4; event = e }) ≡ None
-format-fault sel e out = ap (λ b. first_failing (fault_at sel.start (needs (not b) NoEventAt) ∷ None ∷ [])) out
-
 pub left-start : {A : Type 0} (builder : IndexBuilder A) (bytes : List ℕ) (sel : Selection) (at : ℕ) (first : Event) → LogReads bytes sel.stop at → event_at (drop 4 bytes) ≡ Some first
     → is_start_inside sel (record { pos = 4; event = first }) ≡ false → HasTaken sel [] builder → Left bytes sel at builder
 left-start builder bytes sel at first reads stands out walks =
     let here : reads.first ≡ first = same_Some reads.first first (sym reads.stands ∙ stands) in
-    let read_is : read bytes sel.stop ≡ first ∷ reads.later = reads.read_is ∙ ap (λ (e : Event). e ∷ reads.later) here in
-    let starts : 4 + event_size first ≡ at = ap (λ (e : Event). 4 + event_size e) (sym here) ∙ reads.starts in
-    let p : Placed = record { pos = 4; event = first } in
     record {
-      earlier = p ∷ [];
+      earlier = record { pos = 4; event = first } ∷ [];
       left = reads.later;
       are = reads.left.are;
       walks = walks;
-      same = ap (λ (es : List Event). first_read_fault sel [] (placed_from 4 es)) read_is
-          ∙ fault-behind (read_fault sel [] p) (first_read_fault sel (p ∷ []) (placed_from (4 + event_size first) reads.later)) (format-fault sel first out)
-          ∙ ap (λ (n : ℕ). first_read_fault sel (p ∷ []) (placed_from n reads.later)) starts;
-      whole = ap (λ (n : ℕ). p ∷ placed_from n reads.later) (sym starts) ∙ ap (placed_from 4) (sym read_is);
-      ends = ap (λ (n : ℕ). end_of n reads.later) (sym starts) ∙ ap (end_of 4) (sym read_is);
+      same = grind (arith, reads.read_is, reads.starts);
+      whole = grind (arith, reads.read_is, reads.starts);
+      ends = grind (arith, reads.read_is, reads.starts);
     }
 
 -- the start lies inside the event at 4
 pub inside-format : (bytes : List ℕ) (sel : Selection) (at : ℕ) (first : Event) → LogReads bytes sel.stop at → event_at (drop 4 bytes) ≡ Some first
     → is_start_inside sel (record { pos = 4; event = first }) ≡ true → walk_fault bytes sel ≡ Some (NoEventAt sel.start)
-inside-format bytes sel at first reads stands inside =
-    let here : reads.first ≡ first = same_Some reads.first first (sym reads.stands ∙ stands) in
-    let p : Placed = record { pos = 4; event = first } in
-    fault-first (first_read_fault sel [] (placed_from 4 (read bytes sel.stop))) _ (NoEventAt sel.start)
-    (ap (λ (es : List Event). first_read_fault sel [] (placed_from 4 es)) (reads.read_is ∙ ap (λ (e : Event). e ∷ reads.later) here)
-    ∙ fault-first (read_fault sel [] p) _ (NoEventAt sel.start) (ap (λ b. first_failing (fault_at sel.start (needs (not b) NoEventAt) ∷ None ∷ [])) inside))
+inside-format bytes sel at first reads stands inside = grind (arith, reads.stands, reads.read_is)
 
 -- ---- one more event
 
@@ -96,10 +83,9 @@ module _ {A : Type 0} (bytes : List ℕ) (sel : Selection) (at : ℕ) (before : 
         left = more.0;
         are = subst (λ (m : ℕ). AreRead bytes sel.stop m more.0) next more.2;
         walks = walks;
-        same = fault-here ∙ fault-behind _ _ passed ∙ ap (λ (m : ℕ). first_read_fault sel (latest ∷ l.earlier) (placed_from m more.0)) next;
-        whole = ap (λ (m : ℕ). reverse (latest ∷ l.earlier) ++ placed_from m more.0) (sym next) ∙ reverse-behind latest l.earlier (placed_from (at + event_size e) more.0)
-            ∙ ap (λ (es : List Event). reverse l.earlier ++ placed_from at es) (sym more.1) ∙ l.whole;
-        ends = ap (λ (m : ℕ). end_of m more.0) (sym next) ∙ ap (end_of at) (sym more.1) ∙ l.ends;
+        same = grind (arith, fault-here);
+        whole = grind (arith, reverse-behind latest l.earlier, l.whole);
+        ends = grind (arith, l.ends);
       }
 
   -- it is refused
@@ -147,6 +133,10 @@ reached-inside bytes sel at reached =
 
 -- ---- the end
 
+filter-reverse : {A : Type 0} (test : A → Bool) (xs : List A) → filter test (reverse xs) ≡ reverse (filter test xs)
+filter-reverse test [] = refl
+filter-reverse test (x ∷ xs) = grind (arith, filter-reverse test xs, reverse-latest, filter-append, append-nil)
+
 module _ {A : Type 0} (bytes : List ℕ) (sel : Selection) (at : ℕ) (builder : IndexBuilder A) (l : Left bytes sel at builder) (ends : EndsAt bytes sel.stop at) where
   none : l.left ≡ []
   none = left-none bytes sel.stop at l.left l.are ends
@@ -158,10 +148,7 @@ module _ {A : Type 0} (bytes : List ℕ) (sel : Selection) (at : ℕ) (builder :
   passed = l.same ∙ ap (λ (es : List Event). first_read_fault sel l.earlier (placed_from at es)) none
 
   fault-is : (cut : Bool) → is_below at sel.stop && not (at == length bytes) ≡ cut → walk_fault bytes sel ≡ fault_at at (needs (not cut) CutEvent)
-  fault-is cut is =
-      fault-behind _ _ passed
-      ∙ ap (λ (n : ℕ). fault_at n (needs (not (is_below n sel.stop && not (n == length bytes))) CutEvent)) (sym end-is)
-      ∙ ap (λ b. fault_at at (needs (not b) CutEvent)) is
+  fault-is cut is = grind (arith, passed, end-is)
 
   -- a rest is left that is no event
   pub left-cut : is_below at sel.stop && not (at == length bytes) ≡ true → walk_fault bytes sel ≡ Some (CutEvent at)
@@ -175,15 +162,7 @@ module _ {A : Type 0} (bytes : List ℕ) (sel : Selection) (at : ℕ) (builder :
       (fault-is false is, end-is, subst (λ (ps : List Placed). HasTaken sel ps builder) (range-reverse l.earlier ∙ ap (λ (ps : List Placed). reverse (range sel ps)) read_all) l.walks)
     where
       range-reverse : (ps : List Placed) → range sel ps ≡ reverse (range sel (reverse ps))
-      range-reverse ps = sym (reverse-reverse (range sel ps)) ∙ ap reverse (sym (filter-reverse ps))
-        where
-          filter-reverse : (ps : List Placed) → range sel (reverse ps) ≡ reverse (range sel ps)
-          filter-reverse [] = refl
-          filter-reverse (p ∷ ps) = ap (range sel) (reverse-latest p ps) ∙ filter-append (is_in_range sel) (reverse ps) (p ∷ []) ∙ ap (λ xs. xs ++ range sel (p ∷ [])) (filter-reverse ps) ∙ last (is_in_range sel p)
-            where
-              last : (b : Bool) → reverse (range sel ps) ++ (if b then p ∷ [] else []) ≡ reverse (if b then p ∷ range sel ps else range sel ps)
-              last true = sym (reverse-latest p (range sel ps))
-              last false = append-nil (reverse (range sel ps))
+      range-reverse ps = sym (reverse-reverse (range sel ps)) ∙ ap reverse (sym (filter-reverse (is_in_range sel) ps))
 
 -- the fault of a log that was read to its end, as the program computes it
 pub end-is-fault : {A : Type 0} (bytes : List ℕ) (sel : Selection) (end at : ℕ) (builder : IndexBuilder A) → opening_fault bytes ≡ None → end ≡ length bytes

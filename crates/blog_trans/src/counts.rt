@@ -9,7 +9,7 @@ use blog_row::RowsAction;
 use std::alloc::Allocator;
 
 /// How many rows of a table are inserted, updated and deleted.
-#[derive(Clone, Copy, Debug, PartialEq, Eq)]
+#[derive(Clone, Copy, Debug, Default, PartialEq, Eq)]
 pub(crate) struct Count {
     pub(crate) inserts: u64,
     pub(crate) updates: u64,
@@ -33,14 +33,6 @@ pub(crate) struct Counts<A: Allocator> {
 impl Count {
     ghost use Rattle.std.specs.Prelude.{◌≡◌, ◌+◌, ◌<◌, ◌^◌, ◌/◌};
     ghost use Rattle.blog_trans.specs.CountsView.{with_images};
-
-    /// No rows.
-    const NONE: Count = Count {
-        inserts: 0,
-        updates: 0,
-        deletes: 0,
-        kept: false,
-    };
 
     /// Adds the rows of one more rows event, which has so many images.
     fn add(&mut self, action: RowsAction, images: u64)
@@ -90,7 +82,7 @@ impl<A: Allocator + Copy> Counts<A> {
     {
         let len = table as usize + 1;
         if self.rows.len() < len {
-            self.rows.resize(len, Count::NONE)?;
+            self.rows.resize(len, Count::default())?;
         }
         Ok(())
     }
@@ -164,9 +156,7 @@ impl<A: Allocator> Counts<A> {
             (t : Table) × (slice_get tables result.0 ≡ Some t) × (option_map (count_of cs) (slice_get (first_tables [] ts) n) ≡ Some (counted t (Some result.1))) }
     {
         let table = self.tables[n];
-        match self.rows.get(table as usize) {
-            Some(count) => (table, *count),
-            None => (table, Count::NONE),
-        }
+        let count = self.rows.get(table as usize);
+        (table, count.copied().unwrap_or_default())
     }
 }

@@ -170,8 +170,7 @@ impl<'a, 's, A: Allocator> Index<'a, 's, A> {
         ensures entry { result.entry ≡ statement_place (index_groups self.now) t s }
         ensures maps { result.maps ≡ length (maps_in (index_groups self.now) t s) }
     {
-        let n = self.transaction(t).1 + s;
-        self.statements[n]
+        self.statements[self.transaction(t).1 + s]
     }
 
     /// The entry behind statement `s` of transaction `t`.

@@ -18,60 +18,16 @@ use std::alloc::AllocError;
 use std::path::PathBuf;
 use std::process::{Abort, ExitCode};
 use std::test::Fail;
-use std::{env, fs, io, process};
+use std::{env, fs, io};
+use test_runs::{Outcome, push_words};
 use writers::Broken;
 
 /// Where the rows event of `INSERT_ONE_ROW` has its type.
 const ROWS_TYPE: usize = 200;
 
-/// What a run answered, and what it wrote.
-#[derive(Drop)]
-struct Outcome {
-    status: ExitCode,
-    output: Watched<Vec<u8>>,
-    errors: Watched<Vec<u8>>,
-}
-
-impl Outcome {
-    fn output(&self) -> &[u8] {
-        self.output.device().as_slice()
-    }
-
-    fn errors(&self) -> &[u8] {
-        self.errors.device().as_slice()
-    }
-
-    /// Whether nothing but the words was wrong: some text was printed, and nothing was written.
-    fn is_wrong(&self) -> bool {
-        self.status == ExitCode::from(2) && self.output().is_empty() && !self.errors().is_empty()
-    }
-
-    /// Whether the run did what was asked for, wrote this, and printed nothing.
-    fn is_done(&self, output: &[u8]) -> bool {
-        self.status == ExitCode::SUCCESS && self.output() == output && self.errors().is_empty()
-    }
-
-    /// Whether the run ended with this status, wrote nothing else, and printed this line.
-    fn is_refusal(&self, status: u8, line: &str) -> bool {
-        self.status == ExitCode::from(status)
-            && self.output().is_empty()
-            && self.errors() == line.as_bytes()
-    }
-}
-
-fn push_words(all: &mut Vec<String>, words: &[&str]) -> Result<(), AllocError> {
-    for word in words {
-        all.push(String::from_str(*all.allocator(), word)?)?;
-    }
-    Ok(())
-}
-
-/// The words of a run, of which the first is the program's name.
+/// The arguments of a run, of which the first is the program's name.
 pub fn words_of(rt: &HostRuntime, words: &[&str]) -> Result<Vec<String>, AllocError> {
-    let mut all = Vec::new(rt.alloc());
-    push_words(&mut all, &["flashback"])?;
-    push_words(&mut all, words)?;
-    Ok(all)
+    test_runs::words_of(rt, "flashback", words)
 }
 
 fn run_given(rt: &HostRuntime, words: io::Result<Vec<String>>) -> Outcome {
@@ -91,9 +47,7 @@ fn run_words(rt: &HostRuntime, words: &[&str]) -> Result<Outcome, AllocError> {
 
 /// A path in the folder for temporary files that no other test has.
 fn path_of(rt: &HostRuntime, name: &str) -> io::Result<PathBuf> {
-    let id = process::id(rt.process());
-    let file = format!(in rt.alloc(); "flashback-{id}-{name}.binlog")?;
-    Ok(env::temp_dir(rt)?.join(rt.alloc(), file.as_str())?)
+    test_runs::path_of(rt, "flashback", name)
 }
 
 /// Fails where something doesn't hold of a run with these words.

@@ -98,7 +98,7 @@ fn a_long_line_is_cut(rt: HostRuntime) -> Result<(), Fail> {
         name.push('a')?;
     }
     let outcome = run_words(&rt, &["plain", name.as_str()])?;
-    assert!(rt; outcome.is_refusal(1, "binlog: cannot open the log aaa"));
+    assert!(rt; outcome.begins_refusal(1, "binlog: cannot open the log aaa"));
     assert_eq!(rt; outcome.errors().len(), 4608);
     Ok(())
 }

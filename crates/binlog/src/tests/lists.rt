@@ -1,9 +1,10 @@
 //! Runs of `list`.
 
 use super::logs::{PLAIN, SUMMED, UNITS};
-use super::{Outcome, path_of, run_log, run_words};
+use super::{path_of, run_log, run_words};
 use std::process::{Abort, ExitCode};
 use std::test::Fail;
+use test_runs::Outcome;
 
 const HEADER: &str = "     start       stop  time (UTC)           rows\n";
 
@@ -96,12 +97,12 @@ fn logs_that_are_not_listed_are_told(rt: HostRuntime) -> Result<(), Fail> {
     let outcome = run_log(&rt, "sums", SUMMED.as_slice(), &["list"])?;
     let line =
         "binlog: Checksums at 4: the log has checksums: make a plain copy, binlog plain LOG -r FILE, ";
-    assert!(rt; outcome.is_refusal(1, line));
+    assert!(rt; outcome.begins_refusal(1, line));
     let outcome = run_log(&rt, "no-log", b"no log", &["list"])?;
-    assert!(rt; outcome.is_refusal(1, "binlog: NotABinlog at 0: "));
+    assert!(rt; outcome.begins_refusal(1, "binlog: NotABinlog at 0: "));
     let absent = path_of(&rt, "unlisted")?;
     let outcome = run_words(&rt, &["list", absent.as_str()])?;
-    assert!(rt; outcome.is_refusal(1, "binlog: cannot open the log /"));
+    assert!(rt; outcome.begins_refusal(1, "binlog: cannot open the log /"));
     let outcome = run_log(&rt, "no-units", PLAIN.as_slice(), &["list", "--json"])?;
     assert!(rt; outcome.is_done(b"{\"units\":0,\"not_undoable\":0,\"rows\":0}\n"));
     Ok(())
@@ -130,7 +131,7 @@ fn wrong_values_end_in_two(rt: HostRuntime) -> Result<(), Fail> {
     ];
     for (words, line) in cases {
         let outcome = run_words(&rt, words.as_slice())?;
-        assert!(rt; outcome.is_refusal(2, line), "{words:?}");
+        assert!(rt; outcome.begins_refusal(2, line), "{words:?}");
     }
     Ok(())
 }

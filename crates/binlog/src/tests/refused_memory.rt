@@ -1,13 +1,14 @@
 //! Runs in which one request for memory is refused, each in turn.
 
 use super::logs::{PLAIN, SUMMED, UNITS};
-use super::{Outcome, path_of, words_of};
+use super::{path_of, words_of};
 use crate::commands::command;
 use blog_device::Watched;
 use linked_list_allocator::LocalHeap;
 use refusing::Refusing;
 use std::fs;
 use std::test::Fail;
+use test_runs::Outcome;
 
 /// More requests than each of these runs makes.
 const REQUESTS: usize = 200;
@@ -45,7 +46,7 @@ fn refuse_in_turn(rt: &HostRuntime, words: &[&str], file: &str) -> Result<(Outco
         if !refused {
             return Ok((outcome, number - 1));
         }
-        if !outcome.is_refusal(1, OUT_OF_MEMORY) || fs::exists(rt, file)? {
+        if !outcome.begins_refusal(1, OUT_OF_MEMORY) || fs::exists(rt, file)? {
             return Err(Fail::new(format_args!("request {number}: {words:?}")));
         }
     }

@@ -29,7 +29,7 @@ fn a_file_that_is_there_is_kept_unless_forced(rt: HostRuntime) -> Result<(), Fai
     fs::write(&rt, result.as_path(), long.as_slice())?;
     let words = ["plain", "-r", result.as_str()];
     let outcome = run_log(&rt, "keeps", SUMMED.as_slice(), words.as_slice())?;
-    assert!(rt; outcome.is_refusal(1, "binlog: the result file is there: "));
+    assert!(rt; outcome.begins_refusal(1, "binlog: the result file is there: "));
     assert_eq!(rt;
         fs::read(&rt, result.as_path())?.as_slice(),
         long.as_slice()
@@ -48,13 +48,13 @@ fn a_refused_log_leaves_the_file_alone(rt: HostRuntime) -> Result<(), Fail> {
     let wrong = with_byte(&rt, STOP + 5, 2)?;
     let words = ["plain", "--force", "-r", result.as_str()];
     let outcome = run_log(&rt, "refuses", wrong.as_slice(), words.as_slice())?;
-    assert!(rt; outcome.is_refusal(1, "binlog: WrongSum at 120: "));
+    assert!(rt; outcome.begins_refusal(1, "binlog: WrongSum at 120: "));
     assert!(rt; !fs::exists(&rt, result.as_path())?);
     fs::write(&rt, result.as_path(), b"kept")?;
     let outcome = run_log(&rt, "refuses", wrong.as_slice(), words.as_slice())?;
     let kept = fs::read(&rt, result.as_path())?;
     fs::remove_file(&rt, result.as_path())?;
-    assert!(rt; outcome.is_refusal(1, "binlog: WrongSum at 120: "));
+    assert!(rt; outcome.begins_refusal(1, "binlog: WrongSum at 120: "));
     assert_eq!(rt; kept.as_slice(), b"kept".as_slice());
     Ok(())
 }
@@ -73,7 +73,7 @@ fn the_log_is_no_result_file(rt: HostRuntime) -> Result<(), Fail> {
     let kept = fs::read(&rt, path.as_path())?;
     fs::remove_file(&rt, path.as_path())?;
     for outcome in &outcomes {
-        assert!(rt; outcome.is_refusal(1, "binlog: the result file is the log: "));
+        assert!(rt; outcome.begins_refusal(1, "binlog: the result file is the log: "));
     }
     assert_eq!(rt; kept.as_slice(), SUMMED.as_slice());
     Ok(())
@@ -88,7 +88,7 @@ fn a_file_that_cannot_be_created_is_told(rt: HostRuntime) -> Result<(), Fail> {
     let line = format!(in rt.alloc();
         "binlog: cannot create the result file {result_name}: No such file or directory (os error 2): "
     )?;
-    assert!(rt; outcome.is_refusal(1, line.as_str()));
+    assert!(rt; outcome.begins_refusal(1, line.as_str()));
     let folder = env::temp_dir(&rt)?;
     let words = ["plain", "--force", "-r", folder.as_str()];
     let outcome = run_log(&rt, "in-folder", SUMMED.as_slice(), words.as_slice())?;
@@ -96,7 +96,7 @@ fn a_file_that_cannot_be_created_is_told(rt: HostRuntime) -> Result<(), Fail> {
     let line = format!(in rt.alloc();
         "binlog: cannot create the result file {folder_name}: Is a directory (os error 21): "
     )?;
-    assert!(rt; outcome.is_refusal(1, line.as_str()));
+    assert!(rt; outcome.begins_refusal(1, line.as_str()));
     Ok(())
 }
 
@@ -104,7 +104,7 @@ fn a_file_that_cannot_be_created_is_told(rt: HostRuntime) -> Result<(), Fail> {
 fn a_full_device_is_a_failed_write_and_stays(rt: HostRuntime) -> Result<(), Fail> {
     let words = ["plain", "--force", "-r", "/dev/full"];
     let outcome = run_log(&rt, "overflows", SUMMED.as_slice(), words.as_slice())?;
-    assert!(rt; outcome.is_refusal(1, "binlog: write failed: "));
+    assert!(rt; outcome.begins_refusal(1, "binlog: write failed: "));
     assert!(rt; fs::exists(&rt, "/dev/full")?);
     Ok(())
 }

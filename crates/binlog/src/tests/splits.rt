@@ -35,7 +35,7 @@ fn a_cut_log_is_written_to_a_file(rt: HostRuntime) -> Result<(), Fail> {
     let written = fs::read(&rt, result.as_path())?;
     fs::remove_file(&rt, result.as_path())?;
     assert!(rt; outcome.is_done(b""));
-    assert!(rt; kept.is_refusal(1, "binlog: the result file is there: "));
+    assert!(rt; kept.begins_refusal(1, "binlog: the result file is there: "));
     assert_eq!(rt; written.as_slice(), cut.as_slice());
     Ok(())
 }
@@ -56,7 +56,7 @@ fn logs_that_are_not_cut_are_told(rt: HostRuntime) -> Result<(), Fail> {
     ];
     for (log, line) in cases {
         let outcome = run_log(&rt, "not-cut", log, &["split"])?;
-        assert!(rt; outcome.is_refusal(1, line), "{line}");
+        assert!(rt; outcome.begins_refusal(1, line), "{line}");
     }
     Ok(())
 }
@@ -77,7 +77,7 @@ fn wrong_sizes_end_in_two(rt: HostRuntime) -> Result<(), Fail> {
     ];
     for (words, line) in cases {
         let outcome = run_words(&rt, words.as_slice())?;
-        assert!(rt; outcome.is_refusal(2, line), "{words:?}");
+        assert!(rt; outcome.begins_refusal(2, line), "{words:?}");
     }
     Ok(())
 }

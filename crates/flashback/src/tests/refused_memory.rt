@@ -3,7 +3,7 @@
 use super::both_outputs::{COUNTED, DONE, UNDONE};
 use super::file_names::{check_bytes, has_bytes};
 use super::logs::with_byte;
-use super::{Outcome, ROWS_TYPE, check, path_of, push_words, words_of};
+use super::{ROWS_TYPE, check, path_of, words_of};
 use crate::commands::command;
 use blog_flash::Watched;
 use linked_list_allocator::LocalHeap;
@@ -13,6 +13,7 @@ use std::alloc::Allocator;
 use std::fs;
 use std::process::ExitCode;
 use std::test::Fail;
+use test_runs::{Outcome, push_words};
 
 /// More requests than each of these runs makes.
 const REQUESTS: usize = 200;

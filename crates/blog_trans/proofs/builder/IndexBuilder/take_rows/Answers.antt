@@ -27,9 +27,7 @@ returns-else-last-clause-walks g c = λ sel earlier w.
     let before = progress sel earlier in
     let j = c.in_ok-kept.ensures.checked sel earlier w.checker in
     let there = open-rows-event sel earlier p c.args.kind c.requires.kind (j.0, w.passed) in
-    let keeps = as-open before there.0 _ there.1 (keeps-grown before c.args.self.now c.take_rows.new.self (inl (ap tables_known c.in_ok-kept.ensures.layouts)) w.keeps) in (
-      j.0,
-      walks-rows c.keep.new.self sel earlier p (j.0, w.passed) c.args.kind there.0 c.requires.kind there.1 (j.2 ∙ c.if-last.false)
-          (subst (HasChecked sel (p ∷ since earlier) (p ∷ earlier)) (sym c.in_ok-keep.ensures.checker) j.1)
-          (c.in_ok-keep.ensures.kept before.done there.0 (kept_rows sel (reverse (since earlier)) p) j.3 keeps),
-    )
+    let keeps = as-open before there.0 _ there.1 (keeps-grown before c.args.self.now c.take_rows.new.self (inl (ap tables_known c.in_ok-kept.ensures.layouts)) w.keeps) in
+    let knows = subst (HasChecked sel (p ∷ since earlier) (p ∷ earlier)) (sym c.in_ok-keep.ensures.checker) j.1 in
+    let kept = c.in_ok-keep.ensures.kept before.done there.0 (kept_rows sel (reverse (since earlier)) p) j.3 keeps in
+    (j.0, walks-rows c.keep.new.self sel earlier p (j.0, w.passed) c.args.kind there.0 c.requires.kind there.1 (j.2 ∙ c.if-last.false) knows kept)

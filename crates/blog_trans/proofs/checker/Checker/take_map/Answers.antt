@@ -6,16 +6,13 @@ use Rattle.indexmap.proofs.CallerLemmas.{insert_entry-new}
 use Rattle.blog_event.specs.Event.{event_of}
 use Rattle.blog_event.specs.File.{Placed}
 use Rattle.blog_row.specs.TableMap.{HasNames, Names, names_of, map_names, map_seen}
-use Rattle.blog_trans.specs.Acceptance.{event_fault}
 use Rattle.blog_trans.specs.Places.{is_inside, is_map_of, place, since}
 use Rattle.blog_trans.specs.Selection.{Selection, selection_of}
-use Rattle.blog_trans.specs.CheckerView.{IsPassed}
 use Rattle.blog_trans.specs.TablesView.{tables_known}
 use Rattle.blog_trans.proofs.TableNumbers.{new-numbered}
 use Rattle.blog_trans.specs.declared.checker.MapSeen.{MapSeen}
 use Rattle.blog_row.specs.RowsEvent.{table_id}
-use Rattle.blog_trans.proofs.CheckingMaps.{map-id}
-use Rattle.blog_trans.proofs.Checking.{or-bad-some, new-facts, knows-map-seen, knows-map-new, map-fault-named}
+use Rattle.blog_trans.proofs.Checking.{or-bad-some, map-passed, new-facts, knows-map-seen, knows-map-new}
 use Rattle.blog_trans.proofs.checker.Checker.take_map.Goals as goal
 
 pub returns-in_ok-insert-clause-checked : goal.returns-in_ok-insert-clause-checked
@@ -25,20 +22,17 @@ returns-in_ok-insert-clause-checked g c = λ earlier h.
     let p : Placed = record { pos = c.args.event.now.pos; event = e } in
     let n : Names = map_names c.in_ok-map.map in
     let names : names_of e.body ≡ Some n = or-bad-some (names_of e.body) n (sym c.read.ensures.exact ∙ ap map_seen c.in_ok-map.ensures) in
-    let id = map-id e.body n c.are_bytes.ensures (subst (λ r. IfOk r (λ map. HasNames e.body (map_names map))) c.in_ok-map.ensures c.read.ensures.found) in
+    let has : HasNames e.body n = subst (λ r. IfOk r (λ map. HasNames e.body (map_names map))) c.in_ok-map.ensures c.read.ensures.found in
     let now : is_inside c.args.self.now.place ≡ true = search rules in
-    let inside : is_inside (place earlier) ≡ true = ap is_inside (sym h.place_is) ∙ now in
-    let compared = c.in_ok-first.ensures.compared sel (since earlier) earlier h in
     let columns = c.in_ok-table.ensures.columns e earlier c.requires.kind names h.layouts_agree in
-    let passed : IsPassed sel p = record { id_len = id.0.len; id_bytes = id.0.bytes; layout = columns.1 } in
-    let fault : event_fault sel earlier p ≡ None = map-fault-named sel p earlier n false c.requires.kind inside names compared.0 ∙ columns.2 in
+    let m = map-passed sel p earlier n _ c.requires.kind c.are_bytes.ensures has names (ap is_inside (sym h.place_is) ∙ now) (c.in_ok-first.ensures.compared sel (since earlier) earlier h) columns.1 columns.2 in
     let none : get nat_eq c.args.self.now.maps c.id.result ≡ None = ap (λ (k : ℕ). get nat_eq c.args.self.now.maps k) c.id.ensures ∙ c.in_ok-first.ensures.absent c.if-first.true in
-    let new : list_any (is_map_of (table_id e.body)) (since earlier) ≡ false = compared.1 ∙ ap not c.if-first.true in
+    let new : list_any (is_map_of (table_id e.body)) (since earlier) ≡ false = m.unseen ∙ ap not c.if-first.true in
     let v : MapSeen = record { at = c.args.event.now.pos; body = c.args.event.now.body; table = c.in_ok-table.table; used = false } in
     let layouts = c.take_table.new.layouts in
-    let last = new-facts sel p (since earlier) c.id.result v c.requires.kind h.passed new (c.id.ensures ∙ id.1) refl refl columns.0 refl in (
-      fault,
-      knows-map-new sel p earlier c.args.self.now _ c.requires.kind passed compared.0 refl refl columns.3 c.in_ok-table.ensures.grown h c.id.result v new
+    let last = new-facts sel p (since earlier) c.id.result v c.requires.kind h.passed new (c.id.ensures ∙ m.number) refl refl columns.0 refl in (
+      m.fault,
+      knows-map-new sel p earlier c.args.self.now _ c.requires.kind m.passed m.apart refl refl columns.3 c.in_ok-table.ensures.grown h c.id.result v new
           (c.in_ok-insert.ensures.entries ∙ insert_entry-new nat_eq c.args.self.now.maps c.id.result v none) (new-numbered (tables_known layouts) v n names c.in_ok-table.ensures.number refl) last,
     )
 
@@ -49,14 +43,11 @@ returns-else-first-clause-checked g c = λ earlier h.
     let p : Placed = record { pos = c.args.event.now.pos; event = e } in
     let n : Names = map_names c.in_ok-map.map in
     let names : names_of e.body ≡ Some n = or-bad-some (names_of e.body) n (sym c.read.ensures.exact ∙ ap map_seen c.in_ok-map.ensures) in
-    let id = map-id e.body n c.are_bytes.ensures (subst (λ r. IfOk r (λ map. HasNames e.body (map_names map))) c.in_ok-map.ensures c.read.ensures.found) in
+    let has : HasNames e.body n = subst (λ r. IfOk r (λ map. HasNames e.body (map_names map))) c.in_ok-map.ensures c.read.ensures.found in
     let now : is_inside c.args.self.now.place ≡ true = search rules in
-    let inside : is_inside (place earlier) ≡ true = ap is_inside (sym h.place_is) ∙ now in
-    let compared = c.in_ok-first.ensures.compared sel (since earlier) earlier h in
     let columns = c.in_ok-table.ensures.columns e earlier c.requires.kind names h.layouts_agree in
-    let passed : IsPassed sel p = record { id_len = id.0.len; id_bytes = id.0.bytes; layout = columns.1 } in
-    let fault : event_fault sel earlier p ≡ None = map-fault-named sel p earlier n false c.requires.kind inside names compared.0 ∙ columns.2 in
-    let there : list_any (is_map_of (table_id e.body)) (since earlier) ≡ true = compared.1 ∙ ap not c.if-first.false in (
-      fault,
-      knows-map-seen sel p earlier c.args.self.now _ c.requires.kind passed compared.0 refl refl columns.3 c.in_ok-table.ensures.grown h there refl,
+    let m = map-passed sel p earlier n _ c.requires.kind c.are_bytes.ensures has names (ap is_inside (sym h.place_is) ∙ now) (c.in_ok-first.ensures.compared sel (since earlier) earlier h) columns.1 columns.2 in
+    let there : list_any (is_map_of (table_id e.body)) (since earlier) ≡ true = m.unseen ∙ ap not c.if-first.false in (
+      m.fault,
+      knows-map-seen sel p earlier c.args.self.now _ c.requires.kind m.passed m.apart refl refl columns.3 c.in_ok-table.ensures.grown h there refl,
     )

@@ -1,5 +1,4 @@
 use Rattle.std.proofs.Common.{◌-◌, Some, option_map, sym, ap, ◌∙◌, arith}
-use Rattle.blog_trans.specs.IndexView.{index_groups}
 use Rattle.blog_trans.proofs.EntriesFound.{next_transaction}
 use Rattle.blog_trans.proofs.IndexFacts.{found, many_transactions, end_read}
 use Rattle.blog_trans.proofs.groups.Index.end.Goals as goal

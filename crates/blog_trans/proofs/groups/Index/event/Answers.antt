@@ -1,7 +1,5 @@
-use Rattle.std.proofs.Common.{ap, ◌∙◌, arith}
+use Rattle.std.proofs.Common.{arith}
 use Rattle.std.proofs.lemmas.Option.{slice_get_within}
-use Rattle.blog_trans.specs.declared.lists.Entry.{Entry}
-use Rattle.blog_trans.specs.IndexView.{index_bytes}
 use Rattle.blog_trans.proofs.EntriesFound.{own_item}
 use Rattle.blog_trans.proofs.IndexFacts.{some_at, placed_is}
 use Rattle.blog_trans.proofs.groups.Index.event.Goals as goal

@@ -1,5 +1,4 @@
 use Rattle.std.proofs.Common.{arith}
-use Rattle.blog_trans.specs.IndexView.{index_groups, statement_at}
 use Rattle.blog_trans.proofs.EntriesFound.{many}
 use Rattle.blog_trans.proofs.IndexFacts.{end_found}
 use Rattle.blog_trans.proofs.groups.Index.rows.Goals as goal

@@ -8,8 +8,8 @@ use Rattle.blog_trans.proofs.groups.Index.statement.Goals as goal
 pub transaction-requires : goal.transaction-requires
 transaction-requires g c = omega (arith, below c.args.self.now c.args.t c.args.s c.requires)
 
-pub overflow_add-n : goal.overflow_add-n
-overflow_add-n g c =
+pub overflow_add-transaction : goal.overflow_add-transaction
+overflow_add-transaction g c =
     omega (arith, slice_get_within c.args.self.now.statements.items (c.transaction.result.1 + c.args.s) _ (statement_read c.args.self.now c.args.t c.args.s (c.transaction.result.1 + c.args.s) c.requires (ap (λ n. n + c.args.s) c.transaction.ensures.statement)))
 
 pub index-requires : goal.index-requires

@@ -1,6 +1,5 @@
-use Rattle.std.proofs.Common.{◌≡◌, ◌+◌, length, option_map, sym, ap, ◌∙◌, arith}
+use Rattle.std.proofs.Common.{arith}
 use Rattle.std.proofs.lemmas.Option.{same_Some}
-use Rattle.blog_trans.specs.IndexView.{index_groups}
 use Rattle.blog_trans.proofs.EntriesFound.{last_statement}
 use Rattle.blog_trans.proofs.IndexFacts.{below, found, many_transactions}
 use Rattle.blog_trans.proofs.groups.Index.statement_end.Goals as goal

@@ -1,8 +1,6 @@
-use Rattle.std.proofs.Common.{length, sym, ap, ◌∙◌, arith}
+use Rattle.std.proofs.Common.{ap, arith}
 use Rattle.std.proofs.lemmas.List.{take_all}
 use Rattle.blog_trans.specs.declared.lists.TransactionStart.{TransactionStart}
-use Rattle.blog_trans.specs.Entries.{entries_of, statements_in}
-use Rattle.blog_trans.specs.IndexView.{index_groups}
 use Rattle.blog_trans.proofs.EntriesFound.{own_item}
 use Rattle.blog_trans.proofs.IndexFacts.{many_transactions, many_statements, transaction_read}
 use Rattle.blog_trans.proofs.groups.Index.transaction.Goals as goal
