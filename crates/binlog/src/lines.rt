@@ -88,7 +88,8 @@ const CUT_TOO_LONG: &str =
 
 const READ_FAILED: &str = "read failed: see the log's disk, and try again";
 
-const WRITE_FAILED: &str = "write failed: see whether the disk is full, and try again";
+const WRITE_FAILED: &str =
+    "write failed: see whether the disk is full, or the program that reads the output has ended";
 
 fn what_to_do(fault: &Fault) -> &'static str {
     match fault {
