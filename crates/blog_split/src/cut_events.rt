@@ -3,16 +3,17 @@
 ghost use Rattle.std.specs.Prelude.{◌≡◌, ◌+◌, ◌<◌, ◌≤◌, ℕ, true, false, length, All, Some, IsSome, IfOk, IfErr, slice_get, vec_len, vec_capacity};
 ghost use Rattle.std.proofs.Props.{props};
 ghost use Rattle.blog_trans.specs.Groups.{PlacedStatement, PlacedTransaction};
-ghost use Rattle.blog_trans.specs.IndexView.{index_groups, statement_at};
+ghost use Rattle.std.specs.Option.{ForSome};
+ghost use Rattle.blog_trans.specs.IndexView.{Stands, index_bytes, index_groups, placed, statement_at};
 ghost use Rattle.blog_split.specs.Marks.{IsTable};
 
 use crate::fault::SplitFault;
 use crate::most::most_of;
-use crate::piece_ends::piece_end;
-use crate::used_maps::{MapId, list_maps, mark_used};
+use crate::piece::take_piece;
+use crate::used_maps::{MapId, list_maps};
 use blog_event::{Event, Fault};
 use blog_row::RowsEvent;
-use blog_trans::Index;
+use blog_trans::{Index, MapRead};
 use std::alloc::Allocator;
 
 /// A rows event of the cut log.
@@ -55,6 +56,8 @@ pub(crate) struct CutEvents<'i, 'a, 's, A: Allocator, B: Allocator> {
     given: usize,
     row: usize,
     piece_end: usize,
+    // The map of the rows event that was given last.
+    read: Option<MapRead<'a>>,
     ghost opened: { is_open ≡ true → transaction < length (index_groups index.now) },
     ghost counted: { is_open ≡ true → (x : PlacedTransaction) → slice_get (index_groups index.now) transaction ≡ Some x → length x.statements ≡ statements },
     ghost within: { piece_end ≤ rows },
@@ -65,6 +68,7 @@ pub(crate) struct CutEvents<'i, 'a, 's, A: Allocator, B: Allocator> {
     ghost used_within: { (y : PlacedStatement) → statement_at (index_groups index.now) transaction statement ≡ Some y → All (λ n. n < length y.maps) used.items },
     ghost room_maps: { (t s : ℕ) (y : PlacedStatement) → statement_at (index_groups index.now) t s ≡ Some y → length y.maps ≤ vec_capacity ids },
     ghost room_rows: { (t s : ℕ) (y : PlacedStatement) → statement_at (index_groups index.now) t s ≡ Some y → length y.rows ≤ vec_capacity used },
+    ghost read_stands: { ForSome read (λ map. Stands (index_bytes index.now) (placed map.event)) },
 }
 
 impl<'a> CutEvent<'a> {
@@ -85,7 +89,7 @@ impl<'a> CutEvent<'a> {
 impl<'i, 'a, 's, A: Allocator, B: Allocator> CutEvents<'i, 'a, 's, A, B> {
     ghost use Rattle.blog_event.specs.declared.fault.Fault.TheVariants.{OutOfMemory};
     ghost use Rattle.blog_trans.specs.Groups.{groups};
-    ghost use Rattle.blog_trans.specs.IndexView.{index_bytes, index_selection};
+    ghost use Rattle.blog_trans.specs.IndexView.{index_selection};
     ghost use Rattle.blog_flash.specs.Texts.{group_events};
     ghost use Rattle.blog_split.specs.declared.fault.SplitFault.TheVariants as SplitFault;
     ghost use Rattle.blog_split.specs.CutView.{GivesCut, events_left};
@@ -126,6 +130,7 @@ impl<'i, 'a, 's, A: Allocator, B: Allocator> CutEvents<'i, 'a, 's, A, B> {
             given: 0,
             row: 0,
             piece_end: 0,
+            read: None,
         })
     }
 
@@ -187,8 +192,15 @@ impl<'i, 'a, 's, A: Allocator, B: Allocator> CutEvents<'i, 'a, 's, A, B> {
         ensures some { self.new.row < self.new.piece_end }
     {
         let (t, s, from) = (self.transaction, self.statement, self.piece_end);
-        let to = piece_end(self.index, t, s, from, self.limit);
-        mark_used(&mut self.used, &self.ids, self.index, t, s, from, to);
+        let to = take_piece(
+            &mut self.used,
+            &self.ids,
+            self.index,
+            t,
+            s,
+            from,
+            self.limit,
+        );
         self.given = 0;
         self.row = from;
         self.piece_end = to;
@@ -215,7 +227,10 @@ impl<'i, 'a, 's, A: Allocator, B: Allocator> CutEvents<'i, 'a, 's, A, B> {
     {
         let r = self.row;
         self.row = r + 1;
-        let (event, _, rows) = self.index.rows_event(self.transaction, self.statement, r);
+        let (event, map, rows) = self
+            .index
+            .rows_by(self.transaction, self.statement, r, self.read);
+        self.read = Some(map);
         CutEvent::Rows(CutRows {
             event,
             rows,

@@ -6,7 +6,7 @@ mod cut_log;
 mod fault;
 mod laws;
 mod most;
-mod piece_ends;
+mod piece;
 mod sizes;
 mod used_maps;
 mod written_cut;

@@ -1,4 +1,4 @@
-//! The maps that rows events of a statement use, found by their table ids.
+//! The maps of a statement by their table ids, and the marks of those that its rows events use.
 
 ghost use Rattle.std.specs.Prelude.{◌≡◌, ◌+◌, ◌-◌, ◌<◌, ◌≤◌, ◌++◌, [], Some, IsSome, length, option_to_list, slice_get, vec_len, vec_capacity};
 ghost use Rattle.std.specs.List.Sorted.{IsNonDecreasingBy};
@@ -21,7 +21,7 @@ pub(crate) struct MapId {
 }
 
 /// The table id with which the body of a table map or a rows event begins.
-fn id_of(body: &[u8]) -> u64
+pub(crate) fn id_of(body: &[u8]) -> u64
     requires { 6 ≤ length body.now }
     ensures number { result ≡ id_number (table_id body.now) }
     ensures bytes { AreBytes (table_id body.now) }
@@ -70,7 +70,7 @@ pub(crate) fn list_maps<A: Allocator, B: Allocator>(
 }
 
 /// The number of the map with a table id, if there is one.
-fn number_of(ids: &[MapId], id: u64) -> Option<usize>
+pub(crate) fn number_of(ids: &[MapId], id: u64) -> Option<usize>
     requires { IsNonDecreasingBy (λ (e : MapId). e.id) ids.now }
     ensures { IsFound ids.now id result }
 {
@@ -85,24 +85,8 @@ fn number_of(ids: &[MapId], id: u64) -> Option<usize>
     Some(map.number)
 }
 
-/// The number of the map that rows event `r` of statement `s` of transaction `t` goes by.
-fn map_number<B: Allocator>(
-    ids: &[MapId],
-    index: &Index<'_, '_, B>,
-    t: usize,
-    s: usize,
-    r: usize,
-) -> Option<usize>
-    requires some { IsSome (rows_at (index_groups index.now) t s r) }
-    requires table { (y : PlacedStatement) → statement_at (index_groups index.now) t s ≡ Some y → IsTable y.maps ids.now }
-    ensures { (y : PlacedStatement) (x : PlacedRows) → statement_at (index_groups index.now) t s ≡ Some y → slice_get y.rows r ≡ Some x → IsMapNumber y.maps (rows_value x) result }
-{
-    let (event, _, _) = index.rows_event(t, s, r);
-    number_of(ids, id_of(event.body))
-}
-
 /// Marks the map of a number, if there is one.
-fn mark<A: Allocator>(used: &mut Vec<usize, A>, number: Option<usize>)
+pub(crate) fn mark<A: Allocator>(used: &mut Vec<usize, A>, number: Option<usize>)
     requires { vec_len used.old < vec_capacity used.old }
     ensures items { used.new.items ≡ used.old.items ++ option_to_list number }
     ensures len { vec_len used.new ≤ vec_len used.old + 1 }
@@ -111,55 +95,4 @@ fn mark<A: Allocator>(used: &mut Vec<usize, A>, number: Option<usize>)
     if let Some(number) = number {
         used.push(number).unwrap();
     }
-}
-
-/// Marks the map of each of some rows events, in their order.
-fn mark_each<A: Allocator, B: Allocator>(
-    used: &mut Vec<usize, A>,
-    ids: &[MapId],
-    index: &Index<'_, '_, B>,
-    t: usize,
-    s: usize,
-    from: usize,
-    to: usize,
-)
-    requires none { used.old.items ≡ [] }
-    requires some { IsSome (statement_at (index_groups index.now) t s) }
-    requires within { (y : PlacedStatement) → statement_at (index_groups index.now) t s ≡ Some y → to ≤ length y.rows }
-    requires table { (y : PlacedStatement) → statement_at (index_groups index.now) t s ≡ Some y → IsTable y.maps ids.now }
-    requires order { from ≤ to }
-    requires room { to - from ≤ vec_capacity used.old }
-    ensures marks { (y : PlacedStatement) → statement_at (index_groups index.now) t s ≡ Some y → AreMarks y.maps (rows_between from to y.rows) used.new.items }
-    ensures capacity { vec_capacity used.old ≤ vec_capacity used.new }
-{
-    let mut r = from;
-    'events: while r < to {
-        mark(used, map_number(ids, index, t, s, r));
-        r += 1;
-    }
-}
-
-/// Marks the maps that the rows events from `from` up to `to` of statement `s` of transaction `t` use, each once and in the
-/// order of the statement. `ids` are its maps by their table ids.
-pub(crate) fn mark_used<A: Allocator, B: Allocator>(
-    used: &mut Vec<usize, A>,
-    ids: &[MapId],
-    index: &Index<'_, '_, B>,
-    t: usize,
-    s: usize,
-    from: usize,
-    to: usize,
-)
-    requires some { IsSome (statement_at (index_groups index.now) t s) }
-    requires within { (y : PlacedStatement) → statement_at (index_groups index.now) t s ≡ Some y → to ≤ length y.rows }
-    requires table { (y : PlacedStatement) → statement_at (index_groups index.now) t s ≡ Some y → IsTable y.maps ids.now }
-    requires order { from ≤ to }
-    requires room { to - from ≤ vec_capacity used.old }
-    ensures used { (y : PlacedStatement) → statement_at (index_groups index.now) t s ≡ Some y → AreUsed y.maps (rows_between from to y.rows) used.new.items }
-    ensures capacity { vec_capacity used.old ≤ vec_capacity used.new }
-{
-    used.clear();
-    mark_each(used, ids, index, t, s, from, to);
-    used.sort_unstable();
-    used.dedup();
 }
