@@ -6,7 +6,7 @@ use Rattle.indexmap.proofs.CallerLemmas.{insert_entry-new}
 use Rattle.blog_event.specs.Event.{event_of}
 use Rattle.blog_event.specs.File.{Placed}
 use Rattle.blog_row.specs.TableMap.{HasNames, Names, names_of, map_names, map_seen}
-use Rattle.blog_trans.specs.Places.{is_inside, is_map_of, place, since}
+use Rattle.blog_trans.specs.Places.{is_inside, is_map_of, since}
 use Rattle.blog_trans.specs.Selection.{Selection, selection_of}
 use Rattle.blog_trans.specs.TablesView.{tables_known}
 use Rattle.blog_trans.proofs.TableNumbers.{new-numbered}
