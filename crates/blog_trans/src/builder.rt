@@ -66,11 +66,10 @@ impl<'a, A: Allocator + Copy> IndexBuilder<'a, A> {
         ensures images { OnOk result (self.new.counts.images ≡ self.old.counts.images + images_of kept) }
         ensures refused { IfErr result (λ fault. fault ≡ OutOfMemory) }
     {
-        let Some(kept) = kept else {
-            return Ok(());
-        };
-        self.lists.rows(at, kept.map)?;
-        self.counts.count(&kept)?;
+        if let Some(kept) = kept {
+            self.lists.rows(at, kept.map)?;
+            self.counts.count(&kept)?;
+        }
         Ok(())
     }
 

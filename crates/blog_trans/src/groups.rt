@@ -53,6 +53,9 @@ pub struct MapRead<'a> {
     pub ghost laid_out: { layout_of event.body.now ≡ Ok (layout_columns layout) },
 }
 
+/// A rows event of a log, the map that it goes by, and the rows.
+pub type RowsRead<'a> = (Event<'a>, MapRead<'a>, RowsEvent<'a>);
+
 /// A table, and how many of its rows the groups insert, update and delete.
 #[derive(Clone, Copy, Debug, PartialEq, Eq)]
 pub struct TableCount<'a> {
@@ -248,11 +251,7 @@ impl<'a, 's, A: Allocator> Index<'a, 's, A> {
     /// The rows event of an entry, the map that it goes by, and the rows. The map isn't read again where it is the one that
     /// was `read` before.
     #[inline(always)]
-    pub(crate) fn group_rows(
-        &self,
-        n: usize,
-        read: Option<MapRead<'a>>,
-    ) -> (Event<'a>, MapRead<'a>, RowsEvent<'a>)
+    pub(crate) fn group_rows(&self, n: usize, read: Option<MapRead<'a>>) -> RowsRead<'a>
         requires rows { (r : PlacedRows) × IsRowsOfEntry self.now n r }
         requires read { ForSome read (λ map. event_at (drop map.event.pos (index_bytes self.now)) ≡ Some (event_of map.event)) }
         ensures rows { (r : PlacedRows) → IsRowsOfEntry self.now n r
@@ -273,13 +272,7 @@ impl<'a, 's, A: Allocator> Index<'a, 's, A> {
     /// The rows event `r` of statement `s` of transaction `t`, the map that it goes by, and the rows. The map isn't read
     /// again where it is the one that was `read` before. No row is read.
     #[inline(always)]
-    pub fn rows_by(
-        &self,
-        t: usize,
-        s: usize,
-        r: usize,
-        read: Option<MapRead<'a>>,
-    ) -> (Event<'a>, MapRead<'a>, RowsEvent<'a>)
+    pub fn rows_by(&self, t: usize, s: usize, r: usize, read: Option<MapRead<'a>>) -> RowsRead<'a>
         requires some { IsSome (rows_at (index_groups self.now) t s r) }
         requires read { ForSome read (λ map. Stands (index_bytes self.now) (placed map.event)) }
         ensures event { option_map (λ x. x.event) (rows_at (index_groups self.now) t s r) ≡ Some (placed result.0) }

@@ -110,8 +110,7 @@ impl<A: Allocator + Copy> IndexLists<A> {
         ensures capacity { vec_capacity self.old.entries ≤ vec_capacity self.new.entries }
         ensures statements { self.new.statements ≡ self.old.statements }
     {
-        self.entries.push(Entry { at, map })?;
-        Ok(())
+        Ok(self.entries.push(Entry { at, map })?)
     }
 
     /// The open statement ends: the maps that its rows events use come in front of these.
