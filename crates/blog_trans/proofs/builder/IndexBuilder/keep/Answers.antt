@@ -9,8 +9,8 @@ use Rattle.blog_trans.proofs.BuilderCode.{changes-rows}
 use Rattle.blog_trans.proofs.BuilderSteps.{kept-some}
 use Rattle.blog_trans.proofs.builder.IndexBuilder.keep.Goals as goal
 
-pub returns-clause-kept : goal.returns-clause-kept
-returns-clause-kept g c = λ done o r is keeps.
+pub returns-in_ok-count-clause-kept : goal.returns-in_ok-count-clause-kept
+returns-in_ok-count-clause-kept g c = λ done o r is keeps.
     let known = tables_known c.args.self.now.checker.layouts in
     let before = open_behind done o in
     kept-some known c.args.at c.in-Some.kept r done o _ (λ x (at, map, number, kind, images). record {
