@@ -15,7 +15,7 @@ ghost use Rattle.blog_flash.specs.Texts.{normal_text, flashback_text};
 ghost use Rattle.blog_flash.specs.Printed.{sql_text, summary_text};
 ghost use Rattle.blog_flash.specs.Worked.Logs.{no_changes, one_insert, two_inserts, no_rows, two_updates, two_columns, nine_columns, backtick_in_name, two_tables, extra_bytes, map_twice, two_statements, two_transactions};
 ghost use Rattle.blog_flash.specs.Worked.Surroundings.{map_alone, savepoint_inside, newer_server, longer_format, ignorable_after, drop_after};
-ghost use Rattle.blog_flash.specs.Worked.Refused.{no_begin, announced_twice, rotate_announced, commit_announced, short_xid, rollback_inside, one_map_for_two};
+ghost use Rattle.blog_flash.specs.Worked.Refused.{no_begin, gtid_twice, rotate_after_gtid, commit_after_gtid, short_xid, rollback_inside, one_map_for_two};
 ghost use Rattle.blog_flash.specs.Worked.Versions.{insert_of_version_1, updates_of_version_1, updates_of_version_1_undone, old_log, lengths_24, lengths_25, old_server};
 ghost use Rattle.blog_flash.specs.Worked.Written.{two_updates_undone, nine_columns_undone, two_tables_undone, second_table_undone, two_statements_undone, two_transactions_undone, first_transaction_undone, second_transaction_undone, newer_server_undone};
 ghost use Rattle.blog_flash.specs.Worked.Lines.{two_updates_lines, two_updates_undone_lines, two_columns_undone_lines, nine_columns_lines, backtick_lines, two_transactions_lines, two_tables_undone_lines, no_rows_lines, no_changes_summary, two_inserts_undone_summary, two_updates_summary, two_transactions_summary, two_tables_summary, no_rows_summary};
@@ -78,8 +78,8 @@ pub fn worked_outputs()
 pub fn worked_selections()
     ensures one_table_accepted { fault two_tables (record all { table = Some (codes "t2") }) ≡ None }
     ensures one_table_undone { flashback_text two_tables (record all { table = Some (codes "t2") }) ≡ second_table_undone }
-    ensures from_announcement_accepted { fault two_transactions (record all { start = 316 }) ≡ None }
-    ensures from_announcement_undone { flashback_text two_transactions (record all { start = 316 }) ≡ second_transaction_undone }
+    ensures from_gtid_accepted { fault two_transactions (record all { start = 316 }) ≡ None }
+    ensures from_gtid_undone { flashback_text two_transactions (record all { start = 316 }) ≡ second_transaction_undone }
     ensures from_begin_accepted { fault two_transactions (record all { start = 360 }) ≡ None }
     ensures from_begin_undone { flashback_text two_transactions (record all { start = 360 }) ≡ second_transaction_undone }
     ensures up_to_stop_accepted { fault two_transactions (record all { stop = Some 316 }) ≡ None }
@@ -219,7 +219,7 @@ pub fn worked_file_faults()
     ensures from_second_map { fault two_transactions (record all { start = 203 }) ≡ Some (OutOfPlace 203) }
     ensures from_past_end { fault one_insert (record all { start = 300 }) ≡ Some (NoEventAt 300) }
     ensures up_to_end_event { fault one_insert (record all { stop = Some 232 }) ≡ Some (Unended 232) }
-    ensures up_to_announced { fault two_transactions (record all { stop = Some 360 }) ≡ Some (Unended 360) }
+    ensures up_to_gtid { fault two_transactions (record all { stop = Some 360 }) ≡ Some (Unended 360) }
 {}
 
 /// By the definitions these small logs are refused too, for one of their events, with these faults at its position.
@@ -239,9 +239,9 @@ pub fn worked_event_faults()
     ensures rows_outside { fault (no_changes ++ drop 196 one_insert) all ≡ Some (OutOfPlace 120) }
     ensures savepoint_outside { fault (no_changes ++ take 47 (drop 232 savepoint_inside)) all ≡ Some (OutOfPlace 120) }
     ensures second_begin { fault (take 159 one_insert ++ drop 120 one_insert) all ≡ Some (OutOfPlace 159) }
-    ensures second_announcement { fault announced_twice all ≡ Some (OutOfPlace 164) }
-    ensures rotate_behind_announcement { fault rotate_announced all ≡ Some (OutOfPlace 164) }
-    ensures commit_behind_announcement { fault commit_announced all ≡ Some (OutOfPlace 164) }
+    ensures second_gtid { fault gtid_twice all ≡ Some (OutOfPlace 164) }
+    ensures rotate_behind_gtid { fault rotate_after_gtid all ≡ Some (OutOfPlace 164) }
+    ensures commit_behind_gtid { fault commit_after_gtid all ≡ Some (OutOfPlace 164) }
     ensures second_format { fault (one_insert ++ take 116 (drop 4 one_insert)) all ≡ Some (OutOfPlace 259) }
 {}
 

@@ -47,8 +47,8 @@ unfoldable pub kind_of : Event → EventKind
 kind_of e =
     if e.kind == 2 then option_map_or query_kind (query_text e.body) kind.BadQuery else
     if e.kind == 16 then kind.Xid else
-    if is_one_of (33 ∷ 34 ∷ []) e.kind then kind.Announcement else
-    if is_one_of (3 ∷ 4 ∷ 35 ∷ []) e.kind then kind.Between else
+    if is_one_of (33 ∷ 34 ∷ []) e.kind then kind.Gtid else
+    if is_one_of (3 ∷ 4 ∷ 35 ∷ []) e.kind then kind.BetweenTransactions else
     if e.kind == 29 then kind.RowsQuery else
     if is_one_of (1 ∷ 5 ∷ 6 ∷ 7 ∷ 8 ∷ 9 ∷ 10 ∷ 11 ∷ 12 ∷ 13 ∷ 14 ∷ 17 ∷ 18 ∷ []) e.kind then kind.StatementChange else
     if e.kind == 15 then kind.SecondFormat else

@@ -35,9 +35,9 @@ pub enum EventKind {
     /// The end of a transaction of a transactional engine.
     Xid,
     /// A global transaction id, or an anonymous one.
-    Announcement,
+    Gtid,
     /// Stop, Rotate or Previous_gtids.
-    Between,
+    BetweenTransactions,
     /// The text of a statement, written beside its rows.
     RowsQuery,
     /// A change written as a statement.
@@ -142,8 +142,8 @@ pub fn event_kind(event: &Event<'_>) -> EventKind
             None => EventKind::BadQuery,
         },
         XID_EVENT => EventKind::Xid,
-        GTID_LOG_EVENT | ANONYMOUS_GTID_LOG_EVENT => EventKind::Announcement,
-        STOP_EVENT | ROTATE_EVENT | PREVIOUS_GTIDS_LOG_EVENT => EventKind::Between,
+        GTID_LOG_EVENT | ANONYMOUS_GTID_LOG_EVENT => EventKind::Gtid,
+        STOP_EVENT | ROTATE_EVENT | PREVIOUS_GTIDS_LOG_EVENT => EventKind::BetweenTransactions,
         ROWS_QUERY_LOG_EVENT => EventKind::RowsQuery,
         START_EVENT_V3
         | INTVAR_EVENT

@@ -65,7 +65,7 @@ kind_by_type e k is =
     by_number (rows_kind_of e.kind) (other_kind e.kind e.flags) k (neither _ kind.Skippable kind.Unknown refl refl)
     (past (e.kind == 39) kind.PartialRows _ k refl (past (e.kind == 19) kind.TableMap _ k refl (past (e.kind == 15) kind.SecondFormat _ k refl
     (past (is_one_of (1 ∷ 5 ∷ 6 ∷ 7 ∷ 8 ∷ 9 ∷ 10 ∷ 11 ∷ 12 ∷ 13 ∷ 14 ∷ 17 ∷ 18 ∷ []) e.kind) kind.StatementChange _ k refl (past (e.kind == 29) kind.RowsQuery _ k refl
-    (past (is_one_of (3 ∷ 4 ∷ 35 ∷ []) e.kind) kind.Between _ k refl (past (is_one_of (33 ∷ 34 ∷ []) e.kind) kind.Announcement _ k refl
+    (past (is_one_of (3 ∷ 4 ∷ 35 ∷ []) e.kind) kind.BetweenTransactions _ k refl (past (is_one_of (33 ∷ 34 ∷ []) e.kind) kind.Gtid _ k refl
     (past (e.kind == 16) kind.Xid _ k refl (past (e.kind == 2) (option_map_or query_kind (query_text e.body) kind.BadQuery) _ k (no_query (query_text e.body)) (ap rows_of_kind is))))))))))
 
 -- so the event of an entry has the kind of its rows event

@@ -95,8 +95,8 @@ checks sel earlier p kind.Savepoint = needs (is_inside (place earlier)) OutOfPla
 checks sel earlier p kind.OtherQuery = Some Statement ∷ []
 checks sel earlier p kind.BadQuery = Some BadBody ∷ []
 checks sel earlier p kind.Xid = needs (length p.event.body == 8) BadBody ∷ end_checks earlier
-checks sel earlier p kind.Announcement = needs (is_outside (place earlier)) OutOfPlace ∷ []
-checks sel earlier p kind.Between = needs (is_outside (place earlier)) OutOfPlace ∷ []
+checks sel earlier p kind.Gtid = needs (is_outside (place earlier)) OutOfPlace ∷ []
+checks sel earlier p kind.BetweenTransactions = needs (is_outside (place earlier)) OutOfPlace ∷ []
 checks sel earlier p kind.RowsQuery = []
 checks sel earlier p kind.StatementChange = Some Statement ∷ []
 checks sel earlier p kind.SecondFormat = Some OutOfPlace ∷ []

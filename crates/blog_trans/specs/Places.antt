@@ -11,7 +11,7 @@ use Rattle.blog_row.specs.declared.event_kinds.EventKind.{EventKind}
 use Rattle.blog_row.specs.declared.event_kinds.EventKind.TheVariants as kind
 use Rattle.blog_row.specs.Kinds.{kind_of, is_begin_kind, is_end_kind, is_map_kind, rows_of_kind}
 use Rattle.blog_trans.specs.declared.place.Place.{Place}
-use Rattle.blog_trans.specs.declared.place.Place.TheVariants.{Outside, Announced, Inside}
+use Rattle.blog_trans.specs.declared.place.Place.TheVariants.{Outside, AfterGtid, Inside}
 
 -- an event of the program with its place
 abbrev pub placed : told.Event → Placed
@@ -45,7 +45,7 @@ abbrev pub leads_to : EventKind → Option Place
 leads_to kind.Begin = Some Inside
 leads_to kind.Commit = Some Outside
 leads_to kind.Xid = Some Outside
-leads_to kind.Announcement = Some Announced
+leads_to kind.Gtid = Some AfterGtid
 leads_to _ = None
 
 -- where the last event that leads anywhere led

@@ -128,12 +128,12 @@ impl<'a, A: Allocator + Copy> IndexBuilder<'a, A> {
                 self.checker.end(pos)?;
                 self.lists.end(pos)?;
             }
-            EventKind::Announcement => self.checker.announce(pos)?,
+            EventKind::Gtid => self.checker.gtid(pos)?,
             EventKind::TableMap => self.checker.take_map(sel, event)?,
             EventKind::Rows(kind) => self.take_rows(kind, event)?,
             EventKind::Savepoint if place.is_inside() => {}
-            EventKind::Between if place.is_outside() => {}
-            EventKind::Savepoint | EventKind::Between | EventKind::SecondFormat => {
+            EventKind::BetweenTransactions if place.is_outside() => {}
+            EventKind::Savepoint | EventKind::BetweenTransactions | EventKind::SecondFormat => {
                 return Err(Fault::OutOfPlace { pos });
             }
             EventKind::RowsQuery | EventKind::Skippable => {}

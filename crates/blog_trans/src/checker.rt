@@ -144,15 +144,15 @@ impl<'a, A: Allocator + Copy> Checker<'a, A> {
     }
 
     /// The id of a transaction.
-    pub(crate) fn announce(&mut self, pos: u32) -> Result<(), Fault>
-        ensures checked { (sel : Sel) (e : Fields) → kind_of e ≡ told.Announcement → IsChecked sel (record { pos = pos; event = e }) self.old result self.new }
+    pub(crate) fn gtid(&mut self, pos: u32) -> Result<(), Fault>
+        ensures checked { (sel : Sel) (e : Fields) → kind_of e ≡ told.Gtid → IsChecked sel (record { pos = pos; event = e }) self.old result self.new }
         ensures maps { self.new.maps ≡ self.old.maps }
         ensures layouts { self.new.layouts ≡ self.old.layouts }
     {
         if !self.place.is_outside() {
             return Err(Fault::OutOfPlace { pos });
         }
-        self.place = Place::Announced;
+        self.place = Place::AfterGtid;
         Ok(())
     }
 

@@ -6,7 +6,7 @@ pub enum Place {
     /// In no transaction.
     Outside,
     /// After a transaction's id, before its `BEGIN`.
-    Announced,
+    AfterGtid,
     /// After `BEGIN`.
     Inside,
 }
@@ -22,7 +22,7 @@ impl Place {
         matches!(self, Place::Inside)
     }
 
-    /// Whether it is outside, and no transaction is announced.
+    /// Whether it is outside, and not after a transaction's id.
     pub fn is_outside(self) -> bool
         ensures { result ≡ is_outside self }
     {

@@ -18,9 +18,9 @@ use Rattle.blog_units.specs.declared.part.Part.TheVariants.{Gtid, Transaction, S
 
 -- what a unit has that begins with an event of this kind; None where it begins none: it may stand between units
 abbrev pub opened_by : EventKind → Option Part
-opened_by kind.Announcement = Some Gtid
+opened_by kind.Gtid = Some Gtid
 opened_by kind.Begin = Some Transaction
-opened_by kind.Between = None
+opened_by kind.BetweenTransactions = None
 opened_by kind.RowsQuery = None
 opened_by kind.Skippable = None
 opened_by _ = Some Statement
@@ -35,7 +35,7 @@ is_of_rows kind.Skippable = true
 is_of_rows _ = false
 
 abbrev pub is_gtid_kind : EventKind → Bool
-is_gtid_kind kind.Announcement = true
+is_gtid_kind kind.Gtid = true
 is_gtid_kind _ = false
 
 -- a unit that has this goes on with an event of this kind: none with a Gtid event, a transaction with no `BEGIN`, and a

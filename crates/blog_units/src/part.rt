@@ -25,9 +25,9 @@ pub(crate) fn opened_by(kind: EventKind) -> Option<Part>
     ensures { result ≡ opened_by kind }
 {
     match kind {
-        EventKind::Announcement => Some(Part::Gtid),
+        EventKind::Gtid => Some(Part::Gtid),
         EventKind::Begin => Some(Part::Transaction),
-        EventKind::Between | EventKind::RowsQuery | EventKind::Skippable => None,
+        EventKind::BetweenTransactions | EventKind::RowsQuery | EventKind::Skippable => None,
         _ => Some(Part::Statement),
     }
 }
@@ -74,8 +74,8 @@ impl Part {
         ensures { result ≡ goes_on self kind }
     {
         match self {
-            Part::Gtid => kind != EventKind::Announcement,
-            Part::Transaction => kind != EventKind::Announcement && kind != EventKind::Begin,
+            Part::Gtid => kind != EventKind::Gtid,
+            Part::Transaction => kind != EventKind::Gtid && kind != EventKind::Begin,
             Part::Statement => is_of_rows(kind),
         }
     }

@@ -229,7 +229,7 @@ two_statements =
     ++ 0 ∷ 0 ∷ 0 ∷ 0 ∷ 16 ∷ 1 ∷ 0 ∷ 0 ∷ 0 ∷ 27 ∷ 0 ∷ 0 ∷ 0 ∷ 76 ∷ 1 ∷ 0 ∷ 0 ∷ 0 ∷ 0
     ∷ 7 ∷ 0 ∷ 0 ∷ 0 ∷ 0 ∷ 0 ∷ 0 ∷ 0 ∷ []
 
--- two transactions, each announced; 499 bytes
+-- two transactions, each behind a Gtid event; 499 bytes
 abbrev pub two_transactions : List ℕ
 two_transactions =
     no_changes

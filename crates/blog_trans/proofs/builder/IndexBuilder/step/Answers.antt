@@ -47,10 +47,10 @@ returns-in_ok-end-in-Commit-2-clause-walks g c = λ earlier w.
     let kept = keeps-as _ _ _ (sym (e.progress_is ∙ ap (ended_if p) same)) (record { lists = lists; counts = counts }) in
     (e.checks_are ∙ fits, record { passed = (e.checks_are ∙ fits, w.passed); checker = knows; keeps = kept })
 
-pub returns-in_ok-announce-in-Announcement-clause-walks : goal.returns-in_ok-announce-in-Announcement-clause-walks
-returns-in_ok-announce-in-Announcement-clause-walks g c = λ earlier w.
-    let is : kind_at (placed c.args.event.now) ≡ kind.Announcement = sym c.event_kind.ensures ∙ c.in-Announcement.is in
-    let call = c.in_ok-announce-in-Announcement.ensures in
+pub returns-in_ok-gtid-in-Gtid-clause-walks : goal.returns-in_ok-gtid-in-Gtid-clause-walks
+returns-in_ok-gtid-in-Gtid-clause-walks g c = λ earlier w.
+    let is : kind_at (placed c.args.event.now) ≡ kind.Gtid = sym c.event_kind.ensures ∙ c.in-Gtid.is in
+    let call = c.in_ok-gtid-in-Gtid.ensures in
     walks-other c.args.self.now _ (selection_of c.args.sel.now) earlier _ (inl (ap tables_known call.layouts)) (λ k. rw is refl) (call.checked _ _ is earlier w.checker) w
 
 pub returns-in_ok-take_map-in-TableMap-clause-walks : goal.returns-in_ok-take_map-in-TableMap-clause-walks
@@ -64,10 +64,10 @@ returns-in-Savepoint-clause-walks g c = λ earlier w.
     let now : is_inside c.args.self.now.checker.place ≡ true = search rules in
     walks-quiet _ (selection_of c.args.sel.now) earlier _ kind.Savepoint (sym c.event_kind.ensures ∙ c.in-Savepoint.is) (rw (ap is_inside (sym w.checker.place_is) ∙ now) refl) refl refl refl refl (λ k. refl) w
 
-pub returns-in-Between-clause-walks : goal.returns-in-Between-clause-walks
-returns-in-Between-clause-walks g c = λ earlier w.
+pub returns-in-BetweenTransactions-clause-walks : goal.returns-in-BetweenTransactions-clause-walks
+returns-in-BetweenTransactions-clause-walks g c = λ earlier w.
     let now : is_outside c.args.self.now.checker.place ≡ true = search rules in
-    walks-quiet _ (selection_of c.args.sel.now) earlier _ kind.Between (sym c.event_kind.ensures ∙ c.in-Between.is) (rw (ap is_outside (sym w.checker.place_is) ∙ now) refl) refl refl refl refl (λ k. refl) w
+    walks-quiet _ (selection_of c.args.sel.now) earlier _ kind.BetweenTransactions (sym c.event_kind.ensures ∙ c.in-BetweenTransactions.is) (rw (ap is_outside (sym w.checker.place_is) ∙ now) refl) refl refl refl refl (λ k. refl) w
 
 pub returns-in-RowsQuery-clause-walks : goal.returns-in-RowsQuery-clause-walks
 returns-in-RowsQuery-clause-walks g c = λ earlier w.
