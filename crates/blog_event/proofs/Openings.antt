@@ -83,6 +83,15 @@ pub front-format : (bytes : List ℕ) (e : Event) → length bytes < 2 ^ 32 → 
 unfolding front_fault
 front-format bytes e few mark found = opening-checked description_fault bytes e few mark found
 
+-- so what a check of that event finds is what opening finds
+pub opening-found : (bytes : List ℕ) (e : Event) (found : Option Fault) → length bytes < 2 ^ 32 → bytes_eq (take 4 bytes) magic ≡ true → event_at (drop 4 bytes) ≡ Some e
+    → found ≡ fault_at 4 (format_fault e) → found ≡ opening_fault bytes
+opening-found bytes e found few mark stands checked = checked ∙ sym (opening-format bytes e few mark stands)
+
+pub front-found : (bytes : List ℕ) (e : Event) (found : Option Fault) → length bytes < 2 ^ 32 → bytes_eq (take 4 bytes) magic ≡ true → event_at (drop 4 bytes) ≡ Some e
+    → found ≡ fault_at 4 (description_fault e) → found ≡ front_fault bytes
+front-found bytes e found few mark stands checked = checked ∙ sym (front-format bytes e few mark stands)
+
 -- the fault that a refusal names
 pub err-said : {A : Type 0} (r : Result A Fault) (fault : Fault) → IsErrAnd r (λ said. said ≡ fault) → result_err r ≡ Some fault
 err-said (Ok x) fault h = absurd h

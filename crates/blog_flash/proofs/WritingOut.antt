@@ -1,11 +1,14 @@
 -- A text that is written by chunks: what was written, what the chunk holds and what is left are the text.
-use Rattle.std.proofs.Common.{◌≡◌, ℕ, List, [], ◌++◌, Option, Result, Ok, Err, OnOk, OnErr, IfErr, sym, ap, subst, ◌∙◌, append-nil, append_assoc}
+use Rattle.std.proofs.Common.{◌≡◌, ℕ, ◌+◌, List, [], ◌∷◌, ◌++◌, Option, Result, Ok, Err, OnOk, OnErr, IfErr, sym, ap, ap₂, subst, ◌∙◌, append-nil, append_assoc}
 use Rattle.std.specs.Io.KnownBytes.{Appends}
 use Rattle.std.proofs.KnownBytes.{Appends-nil, Appends-trans}
+use Rattle.blog_event.specs.Event.{Event, event_size}
 use Rattle.blog_device.specs.Devices.{AppendsBeginning}
 use Rattle.blog_device.specs.declared.fault.RunFault.{RunFault}
 use Rattle.blog_device.specs.declared.fault.RunFault.TheVariants.{Write}
+use Rattle.blog_flash.specs.LaidOut.{text_from}
 use Rattle.blog_flash.specs.Runs.{IsWritten}
+use Rattle.blog_flash.proofs.Placing.{event-put}
 
 -- `more` is what the chunk holds and what is left
 pub record IsOnTheWay (had has : Option (List ℕ)) (text more : List ℕ) : Type 0 where
@@ -26,6 +29,14 @@ way-written had has now text held rest left part way appended split = record {
   all = append_assoc way.done part (rest ++ left)
       ∙ ap (λ (bytes : List ℕ). way.done ++ bytes) (sym (append_assoc part rest left) ∙ ap (λ (bytes : List ℕ). bytes ++ left) split) ∙ way.all;
 }
+
+-- and then the next event is put behind the rest
+pub way-event : (had has now : Option (List ℕ)) (text held chunk more part : List ℕ) (was at next : ℕ) (left rest : List Event) (e : Event)
+    → IsOnTheWay had has text (held ++ text_from was left) → Appends has now part → part ++ chunk ≡ held → at ≡ was → left ≡ e ∷ rest
+    → more ≡ chunk ++ text_from at (e ∷ []) → next ≡ at + event_size e → IsOnTheWay had now text (more ++ text_from next rest)
+way-event had has now text held chunk more part was at next left rest e way appended split here first put long =
+    subst (IsOnTheWay had now text) (sym (event-put chunk more at next e rest put long ∙ ap₂ (λ (n : ℕ) es. chunk ++ text_from n es) here (sym first)))
+    (way-written had has now text held chunk (text_from was left) part way appended split)
 
 -- where a write fails, a beginning of the text is written
 pub way-broken : (had has now : Option (List ℕ)) (text held left : List ℕ) → IsOnTheWay had has text (held ++ left) → AppendsBeginning has now held → AppendsBeginning had now text

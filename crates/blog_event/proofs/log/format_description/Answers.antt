@@ -1,7 +1,6 @@
 -- Each way out is the first check that fails, or none.
 use Rattle.std.proofs.Common.{◌∙◌, sym}
-use Rattle.blog_event.specs.Event.{event_of}
-use Rattle.blog_event.proofs.Openings.{front-unread, front-format, err-said}
+use Rattle.blog_event.proofs.Openings.{front-unread, front-found, err-said}
 use Rattle.blog_event.proofs.log.format_description.Goals as goal
 
 pub returns-in_err-event-clause-exact : goal.returns-in_err-event-clause-exact
@@ -11,11 +10,7 @@ returns-in_err-event-clause-exact c =
 pub returns-in_err-algorithm-clause-exact : goal.returns-in_err-algorithm-clause-exact
 returns-in_err-algorithm-clause-exact c =
     let there = c.in_ok-event.ensures in
-    let fault = front-format c.args.bytes.now (event_of c.in_ok-event.event) there.short there.mark there.event in
-    err-said _ _ c.from_residual-in_err-algorithm.ensures.1 ∙ c.in_err-algorithm.ensures.exact ∙ sym fault
+    err-said _ _ c.from_residual-in_err-algorithm.ensures.1 ∙ front-found c.args.bytes.now _ _ there.short there.mark there.event c.in_err-algorithm.ensures.exact
 
 pub returns-clause-exact : goal.returns-clause-exact
-returns-clause-exact c =
-    let there = c.in_ok-event.ensures in
-    let fault = front-format c.args.bytes.now (event_of c.in_ok-event.event) there.short there.mark there.event in
-    c.in_ok-algorithm.ensures.exact ∙ sym fault
+returns-clause-exact c = let there = c.in_ok-event.ensures in front-found c.args.bytes.now _ _ there.short there.mark there.event c.in_ok-algorithm.ensures.exact

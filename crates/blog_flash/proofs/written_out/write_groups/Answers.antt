@@ -4,14 +4,13 @@ use Rattle.std.specs.List.{AllByRecursion}
 use Rattle.std.proofs.Math.Bool.{or-false}
 use Rattle.std.proofs.lemmas.Result.{err_from_is_err_and, on_ok_weaker, on_err_weaker}
 use Rattle.blog_event.specs.Event.{event_size}
-use Rattle.blog_trans.specs.GroupEventsView.{event_seen, events_left}
+use Rattle.blog_trans.specs.GroupEventsView.{events_left}
 use Rattle.blog_trans.specs.IndexView.{index_groups}
 use Rattle.blog_flash.specs.LaidOut.{text_from, transactions_of, written_event}
 use Rattle.blog_flash.specs.Texts.{group_events}
 use Rattle.blog_flash.proofs.InTurn.{written-in-turn}
-use Rattle.blog_flash.proofs.Placing.{event-put}
 use Rattle.blog_flash.proofs.Sizes.{total, end-total}
-use Rattle.blog_flash.proofs.WritingOut.{IsOnTheWay, way-none, way-written, way-broken, way-end}
+use Rattle.blog_flash.proofs.WritingOut.{way-none, way-event, way-broken, way-end}
 use Rattle.blog_flash.proofs.written_out.write_groups.Goals as goal
 
 pub loop-event-init : goal.loop-event-init
@@ -53,16 +52,12 @@ put_group_event-requires-clause-short g c =
 pub loop-event-preserved : goal.loop-event-preserved
 loop-event-preserved g c =
     let next = ap (map (written_event c.args.order)) c.in-Some.ensures.steps.first in
-    let at = c.in_ok-from.from + vec_len c.make_room.new.chunk in
     let (part, appended, split) = c.in_ok-from.ensures.written in
-    let way = way-written _ _ _ _ _ _ _ part c.loop-event.invariant.way appended split in
-    let put = event-put _ _ at _ (written_event c.args.order (event_seen c.in-Some.event)) _ c.put_group_event.ensures.items (omega (arith, c.put_group_event.ensures.len))
-    ∙ ap₂ (λ (n : ℕ) es. c.make_room.new.chunk.items ++ text_from n es) c.in_ok-from.ensures.from (sym next) in
     let room = subst (AllByRecursion (λ e. event_size e ≤ vec_capacity c.args.chunk.now)) next c.loop-event.invariant.room in
     record {
       next = tt;
       finite = tt;
-      way = subst (IsOnTheWay _ _ _) (sym put) way;
+      way = way-event _ _ _ _ _ _ _ part _ _ _ _ _ _ c.loop-event.invariant.way appended split c.in_ok-from.ensures.from next c.put_group_event.ensures.items (omega (arith, c.put_group_event.ensures.len));
       room = room.1;
       short = omega (arith, ap total next, c.loop-event.invariant.short, c.in_ok-from.ensures.from, c.put_group_event.ensures.len);
       capacity = omega (arith, c.loop-event.invariant.capacity, c.in_ok-from.ensures.capacity, c.put_group_event.ensures.capacity);

@@ -5,10 +5,9 @@ use Rattle.std.proofs.Math.Bool.{or-false}
 use Rattle.std.proofs.lemmas.Result.{err_from_is_err_and, on_ok_weaker, on_err_weaker}
 use Rattle.blog_event.specs.Event.{event_size}
 use Rattle.blog_flash.specs.LaidOut.{text_from}
-use Rattle.blog_flash.proofs.Placing.{event-put}
 use Rattle.blog_flash.proofs.Sizes.{total, end-total}
-use Rattle.blog_flash.proofs.WritingOut.{IsOnTheWay, way-none, way-written, way-broken, way-end}
-use Rattle.blog_split.specs.CutView.{event_cut, events_left}
+use Rattle.blog_flash.proofs.WritingOut.{way-none, way-event, way-broken, way-end}
+use Rattle.blog_split.specs.CutView.{events_left}
 use Rattle.blog_split.proofs.written_cut.write_events.Goals as goal
 
 pub loop-event-init : goal.loop-event-init
@@ -34,16 +33,12 @@ returns-in_err-from-clause-beginning g c =
 pub loop-event-preserved : goal.loop-event-preserved
 loop-event-preserved g c =
     let next = c.in-Some.ensures.steps.first in
-    let at = c.in_ok-from.from + vec_len c.make_room.new.chunk in
     let (part, appended, split) = c.in_ok-from.ensures.written in
-    let way = way-written _ _ _ _ _ _ _ part c.loop-event.invariant.way appended split in
-    let put = event-put _ _ at _ (event_cut c.in-Some.event) _ c.put_cut_event.ensures.items (omega (arith, c.put_cut_event.ensures.len))
-    ∙ ap₂ (λ (n : ℕ) es. c.make_room.new.chunk.items ++ text_from n es) c.in_ok-from.ensures.from (sym next) in
     let room = subst (AllByRecursion (λ e. event_size e ≤ vec_capacity c.args.chunk.now)) next c.loop-event.invariant.room in
     record {
       next = tt;
       finite = tt;
-      way = subst (IsOnTheWay _ _ _) (sym put) way;
+      way = way-event _ _ _ _ _ _ _ part _ _ _ _ _ _ c.loop-event.invariant.way appended split c.in_ok-from.ensures.from next c.put_cut_event.ensures.items (omega (arith, c.put_cut_event.ensures.len));
       room = room.1;
       short = omega (arith, ap total next, c.loop-event.invariant.short, c.in_ok-from.ensures.from, c.put_cut_event.ensures.len);
       capacity = omega (arith, c.loop-event.invariant.capacity, c.in_ok-from.ensures.capacity, c.put_cut_event.ensures.capacity);

@@ -1,7 +1,6 @@
 -- Each way out is the first check that fails, or none.
 use Rattle.std.proofs.Common.{◌∙◌, sym}
-use Rattle.blog_event.specs.Event.{event_of}
-use Rattle.blog_event.proofs.Openings.{opening-unread, opening-format, err-said}
+use Rattle.blog_event.proofs.Openings.{opening-unread, opening-found, err-said}
 use Rattle.blog_event.proofs.log.Log.open.Goals as goal
 
 pub returns-in_err-format-clause-exact : goal.returns-in_err-format-clause-exact
@@ -11,11 +10,7 @@ returns-in_err-format-clause-exact c =
 pub returns-in_err-check_format-clause-exact : goal.returns-in_err-check_format-clause-exact
 returns-in_err-check_format-clause-exact c =
     let there = c.in_ok-format.ensures in
-    let fault = opening-format c.args.bytes.now (event_of c.in_ok-format.format) there.short there.mark there.event in
-    err-said _ _ c.from_residual-in_err-check_format.ensures.1 ∙ c.in_err-check_format.ensures.exact ∙ sym fault
+    err-said _ _ c.from_residual-in_err-check_format.ensures.1 ∙ opening-found c.args.bytes.now _ _ there.short there.mark there.event c.in_err-check_format.ensures.exact
 
 pub returns-clause-exact : goal.returns-clause-exact
-returns-clause-exact c =
-    let there = c.in_ok-format.ensures in
-    let fault = opening-format c.args.bytes.now (event_of c.in_ok-format.format) there.short there.mark there.event in
-    c.in_ok-check_format.ensures.exact ∙ sym fault
+returns-clause-exact c = let there = c.in_ok-format.ensures in opening-found c.args.bytes.now _ _ there.short there.mark there.event c.in_ok-check_format.ensures.exact
