@@ -4,6 +4,7 @@ use blog_event::Fault;
 use blog_flash::{Selection, flashback, forward, sql, summary};
 use blog_split::{SplitFault, split};
 use spelled_logs::samples::{ALTER_BETWEEN, INSERT, MULTI_TABLE, SAVEPOINT_KEPT, UPDATE};
+use spelled_logs::summed::CLOSED_PLAIN;
 use std::alloc::AllocError;
 use std::process::Abort;
 use std::test::Fail;
@@ -96,6 +97,7 @@ fn logs_of_a_server_keep_their_changes(rt: HostRuntime) {
     check_bytes(&rt, &UPDATE);
     check_bytes(&rt, &MULTI_TABLE);
     check_bytes(&rt, &SAVEPOINT_KEPT);
+    check_bytes(&rt, &CLOSED_PLAIN);
 }
 
 /// The log isn't split, for what refuses its normal form.

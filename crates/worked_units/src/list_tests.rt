@@ -5,7 +5,7 @@ use blog_device::Watched;
 use blog_event::Fault;
 use blog_list::{Form, Wanted, list, seconds_of};
 use spelled_logs::samples::{ALTER_BETWEEN, INSERT, MULTI_TABLE, SAVEPOINT_KEPT, UPDATE};
-use spelled_logs::summed::IN_USE_PLAIN;
+use spelled_logs::summed::{CLOSED_PLAIN, IN_USE_PLAIN};
 use std::process::Abort;
 use std::test::Fail;
 use worked_logs::builder::{
@@ -115,7 +115,15 @@ units 1, not undoable 0, rows 2
        682        947  2026-11-22 07:26:55  `d`.`k` inserts 1
 units 3, not undoable 1, rows 2
 ";
-    check_all(&rt, &ALTER_BETWEEN, lines)
+    check_all(&rt, &ALTER_BETWEEN, lines)?;
+    let lines =
+        "       194        488  2026-11-21 02:00:00  283c105d-e730-11f1-97ff-02fc00000001:4  `shop`.`orders` inserts 3
+       488        767  2026-11-21 02:01:00  283c105d-e730-11f1-97ff-02fc00000001:5  `shop`.`items` inserts 2
+       767       1143  2026-11-21 02:02:00  283c105d-e730-11f1-97ff-02fc00000001:6  `shop`.`orders` deletes 2; `shop`.`items` deletes 1
+      1143       1436  2026-11-21 02:03:00  283c105d-e730-11f1-97ff-02fc00000001:7  `shop`.`orders` updates 1
+units 4, not undoable 0, rows 9
+";
+    check_all(&rt, &CLOSED_PLAIN, lines)
 }
 
 /// The lines of `IN_USE_PLAIN`.

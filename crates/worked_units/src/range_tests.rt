@@ -5,7 +5,7 @@ use blog_event::Log;
 use blog_flash::{Mode, Selection, answer};
 use blog_units::Units;
 use spelled_logs::samples::{ALTER_BETWEEN, INSERT, MULTI_TABLE, SAVEPOINT_KEPT, UPDATE};
-use spelled_logs::summed::IN_USE_PLAIN;
+use spelled_logs::summed::{CLOSED_PLAIN, IN_USE_PLAIN};
 use std::process::Abort;
 use std::test::Fail;
 use worked_logs::builder::{BEGIN, DROP_TABLE, GTID, Part, XID, build};
@@ -50,6 +50,7 @@ fn units_of_a_server_are_undone_or_refused(rt: HostRuntime) -> Result<(), Fail> 
     check_each(&rt, &MULTI_TABLE, 1, 0)?;
     check_each(&rt, &SAVEPOINT_KEPT, 1, 0)?;
     check_each(&rt, &ALTER_BETWEEN, 2, 1)?;
+    check_each(&rt, &CLOSED_PLAIN, 4, 0)?;
     check_each(&rt, &IN_USE_PLAIN, 4, 3)
 }
 
