@@ -6,9 +6,15 @@ use blog_flash::{Mode, Selection, answer};
 use blog_units::Units;
 use spelled_logs::samples::{ALTER_BETWEEN, INSERT, MULTI_TABLE, SAVEPOINT_KEPT, UPDATE};
 use spelled_logs::summed::{CLOSED_PLAIN, IN_USE_PLAIN};
+use std::alloc::AllocError;
 use std::process::Abort;
 use std::test::Fail;
 use worked_logs::builder::{BEGIN, DROP_TABLE, GTID, Part, XID, build};
+use worked_logs::logs::{
+    extra_bytes, longer_format, map_alone, map_twice, newer_server, nine_columns, no_changes,
+    one_delete, one_insert, query_inside, two_inserts, two_statements, two_tables,
+    two_transactions, two_updates,
+};
 
 /// Undoes the range of each unit of a log. Answers how many can be undone and how many can't.
 fn undo_each(rt: &(impl AllocGlobal + Abort), bytes: &[u8]) -> Result<(usize, usize), Fail> {
@@ -66,4 +72,34 @@ fn small_units_are_undone_or_refused(rt: HostRuntime) -> Result<(), Fail> {
     check_each(&rt, &bytes, 3, 6)?;
     let cut = bytes.get(..bytes.len().wrapping_sub(1)).ok_or("a log")?;
     check_each(&rt, cut, 3, 6)
+}
+
+/// Checks the units of a log that was built.
+fn check_built(
+    rt: &(impl AllocGlobal + Abort),
+    log: Result<Vec<u8>, AllocError>,
+    undone: usize,
+    refused: usize,
+) -> Result<(), Fail> {
+    check_each(rt, &log?, undone, refused)
+}
+
+#[test]
+fn units_of_worked_logs_are_undone_or_refused(rt: HostRuntime) -> Result<(), Fail> {
+    check_built(&rt, no_changes(&rt), 0, 0)?;
+    check_built(&rt, map_alone(&rt), 1, 0)?;
+    check_built(&rt, one_insert(&rt), 1, 0)?;
+    check_built(&rt, one_delete(&rt), 1, 0)?;
+    check_built(&rt, two_inserts(&rt), 1, 0)?;
+    check_built(&rt, two_updates(&rt), 1, 0)?;
+    check_built(&rt, two_tables(&rt), 1, 0)?;
+    check_built(&rt, two_statements(&rt), 1, 0)?;
+    check_built(&rt, two_transactions(&rt), 2, 0)?;
+    check_built(&rt, map_twice(&rt), 1, 0)?;
+    check_built(&rt, nine_columns(&rt), 1, 0)?;
+    check_built(&rt, extra_bytes(&rt), 1, 0)?;
+    check_built(&rt, newer_server(&rt), 1, 0)?;
+    check_built(&rt, longer_format(&rt), 1, 0)?;
+    check_built(&rt, query_inside(&rt, b"DROP TABLE t"), 0, 1)?;
+    check_built(&rt, query_inside(&rt, b"ROLLBACK TO `s`"), 0, 1)
 }
