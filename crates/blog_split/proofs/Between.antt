@@ -153,13 +153,3 @@ so-far-over limit rows from to left len x h here size over =
       within = h.within;
       cut = h.cut ∙ ap (pieces_on limit piece) rest ∙ cond-false (nat_le (rows_bytes (piece ++ rows_value x ∷ [])) limit) _ _ test ∙ ap (λ rs. piece ∷ pieces_of limit rs) (sym rest);
     }
-
--- there is none, so it does too
-pub so-far-end : (limit : ℕ) (rows : List PlacedRows) (from to left : ℕ) → IsSoFar limit rows from to left → length rows ≤ to → IsPieceEnd limit rows from to
-so-far-end limit rows from to left h end =
-    let none : map rows_value (drop to rows) ≡ [] = ap (map rows_value) (drop_all to rows end) in
-    record {
-      behind = h.behind;
-      within = h.within;
-      cut = h.cut ∙ ap (pieces_on limit (rows_between from to rows)) none ∙ ap (λ rs. rows_between from to rows ∷ pieces_of limit rs) (sym none);
-    }

@@ -19,12 +19,6 @@ use Rattle.blog_split.proofs.Between.{between-none}
 use Rattle.blog_split.proofs.Marks.{numbered-first, piece-events}
 use Rattle.blog_split.proofs.Steps.{row-first}
 
--- a map comes first
-pub map-left : (maps : List Placed) (rows : List PlacedRows) (ns : List ℕ) (i n row to : ℕ) (p : Placed) (others : List Event) → slice_get ns i ≡ Some n → slice_get maps n ≡ Some p
-    → piece_left maps rows (drop i ns) row to ++ others ≡ event_value p ∷ (piece_left maps rows (drop (i + 1) ns) row to ++ others)
-map-left maps rows ns i n row to p others at here =
-    ap (λ (ps : List Placed). (map event_value ps ++ rows_events (rows_between row to rows)) ++ others) (numbered-first maps ns i n p at here)
-
 -- no map is left, and a rows event comes first
 pub row-left : (maps : List Placed) (rows : List PlacedRows) (used : List ℕ) (row to : ℕ) (x : PlacedRows) (last : Bool) (others : List Event) → used ≡ [] → row < to → to ≤ length rows
     → slice_get rows row ≡ Some x → (to - row == 1) ≡ last → piece_left maps rows used row to ++ others ≡ rows_event last (rows_value x) ∷ (piece_left maps rows used (row + 1) to ++ others)
@@ -73,10 +67,6 @@ statement-opened limit ss s n y used others here all none =
     ∙ sym (append_assoc (flat_map statement_events own) (flat_map statement_events behind) others)
     ∙ ap (λ (es : List Event). es ++ others) (sym (flat_map-append statement_events own behind))
     ∙ ap (λ (ys : List PlacedStatement). statements_behind limit ys ++ others) (sym (drop-at ss s y here))
-
--- no statement is left
-pub statements-over : (limit : ℕ) (ss : List PlacedStatement) (s : ℕ) → length ss ≤ s → statements_behind limit (drop s ss) ≡ []
-statements-over limit ss s over = ap (statements_behind limit) (drop_all s ss over)
 
 -- a transaction is begun
 pub transaction-begun : (limit : ℕ) (ts : List PlacedTransaction) (n : ℕ) (x : PlacedTransaction) (maps : List Placed) (rows : List PlacedRows) (used : List ℕ) (e : Event) → slice_get ts n ≡ Some x → used ≡ []

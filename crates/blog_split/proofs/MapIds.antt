@@ -83,9 +83,6 @@ is-apart (m ∷ maps) (suc k) (suc n) p q distinct at here same =
 
 -- ---- listing them
 
-pub listed-none : (maps : List Placed) → AreListed maps 0 []
-listed-none maps = record { each = λ k d below. absurd (omega (arith, below)); every = λ k below. absurd (omega (arith, below)) }
-
 or-left : (a b : Bool) → a ≡ true → (a || b) ≡ true
 or-left a b is = ap (λ (t : Bool). t || b) is
 
