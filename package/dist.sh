@@ -1,5 +1,5 @@
 #!/bin/sh
-# Makes an archive of the programs, man pages, completion, README and examples: package/dist.sh VERSION FOLDER
+# Makes an archive of the programs, man pages, completion, README, licences and examples: package/dist.sh VERSION FOLDER
 # SOURCE_DATE_EPOCH is the time of all its files. The same files give the same bytes.
 set -eu
 umask 022
@@ -8,7 +8,8 @@ result=$2
 stage=$(mktemp -d)
 trap 'rm -rf "$stage"' EXIT
 ${MAKE:-make} -s install DESTDIR="$stage" PREFIX="/$name"
-cp -R README.md CHANGELOG.md examples "$stage/$name"
+cp -R README.md CHANGELOG.md LICENSE-MIT LICENSE-APACHE examples "$stage/$name"
+cp package/copyright "$stage/$name/COPYRIGHT"
 (
     cd "$stage/$name"
     find . -type f ! -name SHA256SUMS -exec sha256sum {} + | LC_ALL=C sort -k 2 > "$stage/sums"
