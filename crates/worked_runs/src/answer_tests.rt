@@ -7,7 +7,7 @@ use spelled_logs::small::INSERT_ONE_ROW;
 use std::alloc::AllocError;
 use std::process::Abort;
 use std::test::Fail;
-use test_devices::{ALL, Failure, SlowWriter};
+use testkit::devices::{ALL, Failure, SlowWriter};
 use worked_logs::builder::{Part, with_bytes};
 use worked_logs::logs::{no_changes, one_delete, one_insert, three_inserts, with_last};
 use worked_logs::selections::{from, of_table, up_to};

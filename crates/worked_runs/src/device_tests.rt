@@ -3,7 +3,7 @@
 use blog_flash::{Fault, Mode, RunFault, Selection, Watched, prepare, run, run_by_chunks};
 use std::process::Abort;
 use std::test::Fail;
-use test_devices::{ALL, Failure, KINDS, SlowReader, SlowWriter};
+use testkit::devices::{ALL, Failure, KINDS, SlowReader, SlowWriter};
 use worked_logs::{logs, undone};
 
 // How many bytes a reader gives a call, and its calls for the log of 499 bytes: the last finds the end.

@@ -1,4 +1,4 @@
-//! Tests of the answers to small logs, of what is printed of them, and of runs over devices that fail.
+//! Tests of reading and writing, of the answers to small logs, of what is printed of them, and of runs over devices that fail.
 #![tactic(auto)]
 
 #[cfg(test)]
@@ -7,3 +7,5 @@ mod answer_tests;
 mod device_tests;
 #[cfg(test)]
 mod printing_tests;
+#[cfg(test)]
+mod reading_and_writing_tests;

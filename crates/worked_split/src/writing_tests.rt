@@ -7,7 +7,7 @@ use blog_split::{SplitFault, SplitRunFault, split, split_by_chunks, split_to};
 use std::alloc::AllocError;
 use std::io;
 use std::test::Fail;
-use test_devices::{ALL, Failure, SlowWriter};
+use testkit::devices::{ALL, Failure, SlowWriter};
 use worked_logs::builder::{BEGIN, XID, build, insert, map_of};
 use worked_logs::logs::two_tables;
 

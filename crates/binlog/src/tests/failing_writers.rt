@@ -7,7 +7,7 @@ use blog_device::Watched;
 use std::fs;
 use std::process::ExitCode;
 use std::test::Fail;
-use test_devices::{ALL, Failure, KINDS, SlowWriter};
+use testkit::devices::{ALL, Failure, KINDS, SlowWriter};
 
 /// The most bytes that standard output takes a call.
 const STEP: usize = 7;

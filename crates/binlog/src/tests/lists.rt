@@ -4,7 +4,7 @@ use super::logs::{PLAIN, SUMMED, UNITS};
 use super::{path_of, run_log, run_words};
 use std::process::{Abort, ExitCode};
 use std::test::Fail;
-use test_runs::Outcome;
+use testkit::runs::Outcome;
 
 const HEADER: &str = "     start       stop  time (UTC)           rows\n";
 

@@ -8,7 +8,7 @@ use linked_list_allocator::LocalHeap;
 use refusing::Refusing;
 use std::fs;
 use std::test::Fail;
-use test_runs::Outcome;
+use testkit::runs::Outcome;
 
 /// More requests than each of these runs makes.
 const REQUESTS: usize = 200;

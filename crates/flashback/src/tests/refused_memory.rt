@@ -13,7 +13,7 @@ use std::alloc::Allocator;
 use std::fs;
 use std::process::ExitCode;
 use std::test::Fail;
-use test_runs::{Outcome, push_words};
+use testkit::runs::{Outcome, push_words};
 
 /// More requests than each of these runs makes.
 const REQUESTS: usize = 200;

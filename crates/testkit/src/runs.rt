@@ -1,5 +1,4 @@
 //! Runs of a program in tests: its arguments, paths for its files, and what it wrote to writers in memory.
-#![tactic(auto)]
 
 use blog_device::Watched;
 use std::alloc::AllocError;

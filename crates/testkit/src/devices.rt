@@ -1,5 +1,4 @@
 //! Devices for tests, which move a few bytes a call, or fail at a chosen one.
-#![tactic(auto)]
 
 ghost use Rattle.std.specs.Prelude.{Some};
 

@@ -1,11 +1,10 @@
 //! Loops over devices that move 1, 7 or all bytes a call, and that fail at each of their calls.
 
-use crate::reading::read_up_to;
-use crate::{RunFault, Watched, make_room, put, read_log};
+use blog_device::{RunFault, Watched, make_room, put, read_log, read_up_to};
 use blog_event::Fault;
 use std::process::Abort;
 use std::test::Fail;
-use test_devices::{ALL, Failure, KINDS, SlowReader, SlowWriter};
+use testkit::devices::{ALL, Failure, KINDS, SlowReader, SlowWriter};
 
 // Some bytes, 16 of them.
 const TEXT: &[u8] = b"sixteen bytes...";
