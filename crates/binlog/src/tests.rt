@@ -2,14 +2,13 @@
 
 mod failing_writers;
 mod lists;
-mod logs;
 mod refused_memory;
 mod result_files;
 mod splits;
 
 use crate::commands::command;
 use blog_device::Watched;
-use logs::{PLAIN, SUMMED};
+use sample_logs::small::{PLAIN, SUMMED};
 use std::alloc::AllocError;
 use std::path::PathBuf;
 use std::process::{Abort, ExitCode};

@@ -13,7 +13,7 @@ mod wrong_words;
 use crate::commands::command;
 use blog_flash::Watched;
 use logs::with_byte;
-use spelled_logs::small::INSERT_ONE_ROW;
+use sample_logs::small::INSERT_ONE_ROW;
 use std::alloc::AllocError;
 use std::path::PathBuf;
 use std::process::{Abort, ExitCode};

@@ -3,17 +3,17 @@
 use blog_row::RowsAction;
 use blog_row::RowsAction::{Delete, Update, Write};
 use blog_trans::Selection;
-use std::alloc::AllocError;
-use std::process::Abort;
-use std::test::Fail;
-use worked_logs::builder::{BEGIN, Part, T, XID, build, delete, insert, map_of, with_bytes};
-use worked_logs::index_view::Shown::{Begin, End, Map, Rows, Statement};
-use worked_logs::index_view::{Shown, entries_of, groups_of, tables_of};
-use worked_logs::logs::{
+use log_calls::index_view::Shown::{Begin, End, Map, Rows, Statement};
+use log_calls::index_view::{Shown, entries_of, groups_of, tables_of};
+use sample_logs::builder::{BEGIN, Part, T, XID, build, delete, insert, map_of, with_bytes};
+use sample_logs::logs::{
     extra_bytes, longer_format, map_alone, map_twice, newer_server, nine_columns, no_changes,
     one_insert, query_inside, two_inserts, two_statements, two_tables, two_transactions,
     two_updates, with_last,
 };
+use std::alloc::AllocError;
+use std::process::Abort;
+use std::test::Fail;
 
 type Built = Result<Vec<u8>, AllocError>;
 

@@ -2,19 +2,19 @@
 
 use blog_event::Fault;
 use blog_trans::Selection;
-use spelled_logs::samples::{ALTER_BETWEEN, INSERT, MULTI_TABLE, SAVEPOINT_KEPT, UPDATE};
-use std::alloc::AllocError;
-use std::process::Abort;
-use std::test::Fail;
-use worked_logs::builder::with_bytes;
-use worked_logs::calls::{flashback, forward};
-use worked_logs::logs::{
+use log_calls::calls::{flashback, forward};
+use log_calls::selections::{BEFORE, BEHIND};
+use sample_logs::builder::with_bytes;
+use sample_logs::logs::{
     extra_bytes, longer_format, map_alone, map_twice, newer_server, nine_columns, no_changes,
     one_insert, query_inside, two_inserts, two_statements, two_tables, two_transactions,
     two_updates,
 };
-use worked_logs::selections::{BEFORE, BEHIND};
-use worked_logs::undone::{newer_server_copied, two_transactions_copied};
+use sample_logs::samples::{ALTER_BETWEEN, INSERT, MULTI_TABLE, SAVEPOINT_KEPT, UPDATE};
+use sample_logs::undone::{newer_server_copied, two_transactions_copied};
+use std::alloc::AllocError;
+use std::process::Abort;
+use std::test::Fail;
 
 type Built = Result<Vec<u8>, AllocError>;
 

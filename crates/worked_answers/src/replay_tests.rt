@@ -2,14 +2,14 @@
 
 use blog_event::{Fault, Log};
 use blog_trans::{Selection, index};
-use spelled_logs::samples::{ALTER_BETWEEN, INSERT, MULTI_TABLE, SAVEPOINT_KEPT, UPDATE};
+use log_calls::calls::{flashback, forward};
+use log_calls::replay::{Change, ReplayFault, Tables, changes_of};
+use log_calls::selections::{BEFORE, BEHIND};
+use sample_logs::logs::{two_statements, two_tables, two_transactions, two_updates};
+use sample_logs::samples::{ALTER_BETWEEN, INSERT, MULTI_TABLE, SAVEPOINT_KEPT, UPDATE};
 use std::alloc::{AllocError, Global};
 use std::process::Abort;
 use std::test::Fail;
-use worked_logs::calls::{flashback, forward};
-use worked_logs::logs::{two_statements, two_tables, two_transactions, two_updates};
-use worked_logs::replay::{Change, ReplayFault, Tables, changes_of};
-use worked_logs::selections::{BEFORE, BEHIND};
 
 type Built = Result<Vec<u8>, AllocError>;
 

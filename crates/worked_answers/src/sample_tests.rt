@@ -3,11 +3,11 @@
 use crate::group_tests::{Counted, check_tables};
 use blog_row::RowsAction::{Update, Write};
 use blog_trans::Selection;
-use spelled_logs::samples::{ALTER_BETWEEN, INSERT, MULTI_TABLE, SAVEPOINT_KEPT, UPDATE};
+use log_calls::index_view::Shown::{Begin, End, Map, Rows, Statement};
+use log_calls::index_view::{Shown, groups_of};
+use log_calls::selections::{BEFORE, BEHIND};
+use sample_logs::samples::{ALTER_BETWEEN, INSERT, MULTI_TABLE, SAVEPOINT_KEPT, UPDATE};
 use std::process::Abort;
-use worked_logs::index_view::Shown::{Begin, End, Map, Rows, Statement};
-use worked_logs::index_view::{Shown, groups_of};
-use worked_logs::selections::{BEFORE, BEHIND};
 
 /// The groups of a transaction of one statement, with one map and one rows event.
 fn one_statement(begin: u32, map: Shown, rows: Shown, end: u32) -> [Shown; 5] {

@@ -1,12 +1,12 @@
 //! What is written of the logs of a server: pieces of these logs, put together anew.
 
 use blog_trans::Selection;
-use spelled_logs::samples::{ALTER_BETWEEN, INSERT, MULTI_TABLE, SAVEPOINT_KEPT, UPDATE};
+use log_calls::calls::{flashback, forward};
+use log_calls::selections::{BEFORE, BEHIND};
+use sample_logs::samples::{ALTER_BETWEEN, INSERT, MULTI_TABLE, SAVEPOINT_KEPT, UPDATE};
 use std::alloc::AllocError;
 use std::process::Abort;
 use std::test::Fail;
-use worked_logs::calls::{flashback, forward};
-use worked_logs::selections::{BEFORE, BEHIND};
 
 /// Where the magic number and the format description end in each of these logs.
 const FRONT_LEN: usize = 127;

@@ -3,14 +3,14 @@
 use crate::group_tests::{FIRST, ONE_INSERT, SECOND, check_tables};
 use blog_row::RowsAction::Write;
 use blog_trans::Selection;
+use log_calls::index_view::Shown::{Begin, End, Map, Rows, Statement};
+use log_calls::index_view::{Shown, groups_of};
+use log_calls::selections::{from, of_schema, of_table, up_to};
+use sample_logs::builder::{DROP_TABLE, with_bytes};
+use sample_logs::logs::{one_insert, two_tables, two_transactions, with_last};
 use std::alloc::AllocError;
 use std::process::Abort;
 use std::test::Fail;
-use worked_logs::builder::{DROP_TABLE, with_bytes};
-use worked_logs::index_view::Shown::{Begin, End, Map, Rows, Statement};
-use worked_logs::index_view::{Shown, groups_of};
-use worked_logs::logs::{one_insert, two_tables, two_transactions, with_last};
-use worked_logs::selections::{from, of_schema, of_table, up_to};
 
 type Built = Result<Vec<u8>, AllocError>;
 

@@ -1,21 +1,21 @@
 //! The logs that undo small logs.
 
 use blog_trans::Selection;
-use std::alloc::AllocError;
-use std::process::Abort;
-use std::test::Fail;
-use worked_logs::builder::{
-    BEGIN, COMMIT, DROP_TABLE, FRONT, Part, T, Table, XID, build, delete, insert, map_of, update,
+use log_calls::calls::{flashback, forward};
+use log_calls::selections::{from, of_schema, of_table, up_to};
+use sample_logs::builder::{
+    BEGIN, COMMIT, DROP_TABLE, Part, T, Table, XID, build, delete, front, insert, map_of, update,
     with_bytes,
 };
-use worked_logs::calls::{flashback, forward};
-use worked_logs::logs::{
+use sample_logs::logs::{
     NINE_COLUMNS, NINE_COLUMNS_ROWS, extra_bytes, longer_format, map_alone, map_twice,
     newer_server, nine_columns, no_changes, one_delete, one_insert, query_inside, two_inserts,
     two_statements, two_tables, two_transactions, two_updates, with_last,
 };
-use worked_logs::selections::{from, of_schema, of_table, up_to};
-use worked_logs::undone::{newer_server_undone, two_tables_undone, two_transactions_undone};
+use sample_logs::undone::{newer_server_undone, two_tables_undone, two_transactions_undone};
+use std::alloc::AllocError;
+use std::process::Abort;
+use std::test::Fail;
 
 type Built = Result<Vec<u8>, AllocError>;
 
@@ -223,9 +223,9 @@ fn only_what_is_selected_is_copied(rt: HostRuntime) {
 fn check_unwritten<R: AllocGlobal + Abort>(rt: &R, log: Built, sel: &Selection<'_>) {
     let log = log.expect(rt, "memory for a log");
     let undone = flashback(rt.alloc(), &log, sel).expect(rt, "an accepted log");
-    assert_eq!(rt; undone.as_slice(), FRONT.as_slice(), "under {sel:?}");
+    assert_eq!(rt; undone.as_slice(), front(), "under {sel:?}");
     let normal = forward(rt.alloc(), &log, sel).expect(rt, "an accepted log");
-    assert_eq!(rt; normal.as_slice(), FRONT.as_slice(), "under {sel:?}");
+    assert_eq!(rt; normal.as_slice(), front(), "under {sel:?}");
 }
 
 #[test]

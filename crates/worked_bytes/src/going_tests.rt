@@ -2,7 +2,7 @@
 
 use crate::bytes::{part_of, with_bytes};
 use blog_event::{Events, Fault, Header, Log};
-use spelled_logs::small::INSERT_ONE_ROW;
+use sample_logs::small::INSERT_ONE_ROW;
 use std::process::Abort;
 
 /// Where events begin, their types, and where their bodies begin and end.

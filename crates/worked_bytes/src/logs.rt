@@ -1,20 +1,13 @@
 //! Logs of other format descriptions.
 
 use crate::bytes::{joined, part_of, repeated};
-use spelled_logs::small::INSERT_ONE_ROW;
+use sample_logs::builder::NEWER_FRONT;
+use sample_logs::small::INSERT_ONE_ROW;
 use std::process::Abort;
 
-/// The post-header lengths of a server of version `8.0.36`, from type 1 on; the first 35 are those of the log.
-#[rattlefmt::skip]
-static LENGTHS: [u8; 41] = [
-    0x38, 0x0D, 0x00, 0x08, 0x00, 0x12, 0x00, 0x04, 0x04, 0x04, 0x04, 0x12, 0x00, 0x00, 0x5C, 0x00,
-    0x04, 0x1A, 0x08, 0x00, 0x00, 0x00, 0x08, 0x08, 0x08, 0x02, 0x00, 0x00, 0x00, 0x0A, 0x0A, 0x0A,
-    0x19, 0x19, 0x00, 0x00, 0x00, 0x00, 0x00, 0x00, 0x00,
-];
-
-/// So many post-header lengths, from type 1 on.
+/// So many post-header lengths of a server of version `8.0.36`, from type 1 on; the first 35 are those of the log.
 pub fn lengths_of(rt: &impl Abort, count: usize) -> &'static [u8] {
-    part_of(rt, &LENGTHS, 0, count)
+    part_of(rt, &NEWER_FRONT, 80, count.saturating_add(80))
 }
 
 /// A version text in its field of 50 bytes.

@@ -3,7 +3,7 @@
 use crate::bytes::{part_of, with_bytes};
 use crate::logs::{lengths_of, log_of, log_with};
 use blog_event::{Fault, Log, format_description};
-use spelled_logs::small::INSERT_ONE_ROW;
+use sample_logs::small::INSERT_ONE_ROW;
 use std::process::Abort;
 
 const BAD_FORMAT: Fault = Fault::BadFormat { pos: 4 };

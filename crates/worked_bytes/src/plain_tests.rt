@@ -5,7 +5,7 @@ use blog_event::Fault;
 use blog_sum::{SumFault, crc32, plain};
 use linked_list_allocator::LocalHeap;
 use refusing::Refusing;
-use spelled_logs::summed::{CLOSED, CLOSED_PLAIN, IN_USE, IN_USE_PLAIN};
+use sample_logs::summed::{CLOSED, CLOSED_PLAIN, IN_USE, IN_USE_PLAIN};
 use std::process::Abort;
 use std::test::Fail;
 

@@ -3,11 +3,11 @@
 use crate::refusing_calls::{Edited, check_edited, check_fault};
 use blog_event::Fault;
 use blog_trans::Selection;
+use log_calls::calls::flashback;
+use sample_logs::builder::with_bytes;
+use sample_logs::logs::one_insert;
 use std::process::Abort;
 use std::test::Fail;
-use worked_logs::builder::with_bytes;
-use worked_logs::calls::flashback;
-use worked_logs::logs::one_insert;
 
 /// The fault of the log that inserts one row, where it ends behind so many bytes.
 fn fault_of_cut(len: usize) -> Option<Fault> {

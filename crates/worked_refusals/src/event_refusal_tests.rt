@@ -3,9 +3,9 @@
 use blog_event::{Fault, Header, open_event, put_event};
 use linked_list_allocator::LocalHeap;
 use refusing::Refusing;
+use sample_logs::builder::{Part, build, front};
 use std::process::Abort;
 use std::test::Fail;
-use worked_logs::builder::{FRONT, Part, build};
 
 /// A heap with room for a file and its growth, in bytes.
 const ROOM: usize = 4096;
@@ -38,7 +38,7 @@ fn is_refused<R: AllocGlobal + Abort>(
     alloc: &Refusing<&LocalHeap>,
     appending: Appending,
 ) -> Result<bool, Fail> {
-    let mut file = FRONT.as_slice().to_vec(alloc)?;
+    let mut file = front().to_vec(alloc)?;
     let capacity = file.capacity();
     let parts: [&[u8]; 2] = [b"ab", b"c"];
     let (fault, body) = match appending {
@@ -47,7 +47,7 @@ fn is_refused<R: AllocGlobal + Abort>(
     };
     if alloc.has_refused() {
         assert_eq!(rt; fault, Some(Fault::OutOfMemory));
-        assert_eq!(rt; file.as_slice(), FRONT.as_slice());
+        assert_eq!(rt; file.as_slice(), front());
         assert_eq!(rt; file.capacity(), capacity);
     } else {
         let event = Part::Other {

@@ -3,14 +3,14 @@
 use crate::refusing_calls::{Built, Edited, check_built, check_edited, check_fault};
 use blog_event::Fault;
 use blog_trans::Selection;
-use spelled_logs::samples::ALTER_BETWEEN;
+use log_calls::selections::{from, up_to};
+use sample_logs::builder::{
+    ANONYMOUS_GTID, BEGIN, COMMIT, GTID, Part, ROTATE, T, XID, build, delete, front, insert,
+};
+use sample_logs::logs::{map_twice, one_insert, query_inside, two_transactions, with_last};
+use sample_logs::samples::ALTER_BETWEEN;
 use std::process::Abort;
 use std::test::Fail;
-use worked_logs::builder::{
-    ANONYMOUS_GTID, BEGIN, COMMIT, FRONT, GTID, Part, ROTATE, T, XID, build, delete, insert,
-};
-use worked_logs::logs::{map_twice, one_insert, query_inside, two_transactions, with_last};
-use worked_logs::selections::{from, up_to};
 
 #[test]
 fn files_that_are_no_logs(rt: HostRuntime) -> Result<(), Fail> {
@@ -157,7 +157,7 @@ fn events_out_of_their_place(rt: HostRuntime) {
 #[test]
 fn a_second_format_description_is_out_of_place(rt: HostRuntime) -> Result<(), Fail> {
     let mut log = one_insert(&rt)?;
-    log.extend_from_slice(&FRONT[4..])?;
+    log.extend_from_slice(&front()[4..])?;
     let fault = Fault::OutOfPlace { pos: 259 };
     check_fault(&rt, &log, &Selection::all(), Some(fault));
     Ok(())

@@ -2,10 +2,10 @@
 
 use crate::short_reads::check_written;
 use blog_flash::Mode;
+use sample_logs::builder::{BEGIN, Part, XID, build, delete, insert, map_of, put};
 use std::alloc::AllocError;
 use std::process::Abort;
 use std::test::Fail;
-use worked_logs::builder::{BEGIN, Part, XID, build, delete, insert, map_of, put};
 
 /// How many transactions a log has. Each changes one row, whose value is the transaction's number.
 const TRANSACTIONS: u32 = 5_000;

@@ -3,12 +3,12 @@
 use blog_event::Log;
 use blog_flash::{Mode, Watched, run};
 use blog_trans::{Index, Selection, index};
+use log_calls::calls::{flashback, forward};
+use log_calls::index_view::entries_of;
+use sample_logs::builder::{BEGIN, Part, T, Table, XID, build, insert, map_of, put, set_bytes};
 use std::alloc::{AllocError, Global};
 use std::process::Abort;
 use std::test::Fail;
-use worked_logs::builder::{BEGIN, Part, T, Table, XID, build, insert, map_of, put, set_bytes};
-use worked_logs::calls::{flashback, forward};
-use worked_logs::index_view::entries_of;
 
 /// A log in normal form is its own normal form, and undone twice it is itself again.
 fn check_normal<R: AllocGlobal + Abort>(rt: &R, log: &[u8]) -> Result<(), Fail> {

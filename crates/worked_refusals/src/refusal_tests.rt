@@ -5,17 +5,17 @@ use blog_flash::{Mode, RunFault, Watched, answer, prepare, run};
 use blog_trans::{Selection, index};
 use linked_list_allocator::LocalHeap;
 use refusing::Refusing;
+use sample_logs::logs::{newer_server, two_tables, two_transactions};
+use sample_logs::printed_logs::{OF_NEWER_SERVER, OF_TWO_TABLES, OF_TWO_TRANSACTIONS, Printed};
+use sample_logs::undone::{
+    newer_server_copied, newer_server_undone, two_tables_undone, two_transactions_copied,
+    two_transactions_undone,
+};
 use std::alloc::AllocError;
 use std::io;
 use std::io::Write;
 use std::process::Abort;
 use std::test::Fail;
-use worked_logs::logs::{newer_server, two_tables, two_transactions};
-use worked_logs::printed_logs::{OF_NEWER_SERVER, OF_TWO_TABLES, OF_TWO_TRANSACTIONS, Printed};
-use worked_logs::undone::{
-    newer_server_copied, newer_server_undone, two_tables_undone, two_transactions_copied,
-    two_transactions_undone,
-};
 
 /// A heap with room for each call, in bytes.
 const ROOM: usize = 1 << 16;

@@ -3,14 +3,14 @@
 use blog_event::Fault;
 use blog_flash::{Mode, RunFault, Watched, run};
 use blog_trans::Selection;
+use log_calls::calls::{flashback, forward};
+use log_calls::index_view::fault_of;
+use sample_logs::builder::with_bytes;
 use std::alloc::AllocError;
 use std::io;
 use std::io::Write;
 use std::process::Abort;
 use std::test::Fail;
-use worked_logs::builder::with_bytes;
-use worked_logs::calls::{flashback, forward};
-use worked_logs::index_view::fault_of;
 
 /// The index of a log and both ways of writing it refuse it with this fault, and so does a run, without a call of the
 /// writer; all of them take it where there is none.

@@ -2,10 +2,10 @@
 
 use crate::short_reads::check_written;
 use blog_flash::Mode;
+use sample_logs::builder::front;
+use sample_logs::logs::{no_changes, one_delete, one_insert};
 use std::process::Abort;
 use std::test::Fail;
-use worked_logs::builder::FRONT;
-use worked_logs::logs::{no_changes, one_delete, one_insert};
 
 /// The most bytes that a call of the reader gives, in one run after the other.
 const MOST: [usize; 3] = [1, 7, 4_096];
@@ -38,8 +38,8 @@ fn a_run_writes_no_changes_of_a_log_cut_behind_its_format_description(
     let log = one_insert(&rt)?;
     let cut = log.get(..120).ok_or("too short")?;
     assert_eq!(rt; cut, no_changes(&rt)?.as_slice());
-    check_runs(&rt, cut, Mode::Flashback, &FRONT);
-    check_runs(&rt, cut, Mode::Forward, &FRONT);
+    check_runs(&rt, cut, Mode::Flashback, front());
+    check_runs(&rt, cut, Mode::Forward, front());
     check_runs(&rt, cut, Mode::FlashbackSql, b"");
     check_runs(&rt, cut, Mode::ForwardSql, b"");
     check_runs(&rt, cut, Mode::Summary, b"transactions 0\nstatements 0\n");

@@ -5,13 +5,13 @@ use crate::short_reads::check_written;
 use blog_event::Fault;
 use blog_flash::Mode;
 use blog_trans::Selection;
+use log_calls::calls::{flashback, forward};
+use sample_logs::builder::{
+    BEGIN, Part, T, XID, build, build_after, delete, insert, map_of, old_front, update, with_bytes,
+};
+use sample_logs::logs::one_insert;
 use std::process::Abort;
 use std::test::Fail;
-use worked_logs::builder::{
-    BEGIN, OLD_FRONT, Part, T, XID, build, build_after, delete, insert, map_of, update, with_bytes,
-};
-use worked_logs::calls::{flashback, forward};
-use worked_logs::logs::one_insert;
 
 /// A log of a transaction with one rows event.
 fn with_rows(rt: &impl AllocGlobal, rows: Part<'_>) -> Built {
@@ -20,7 +20,7 @@ fn with_rows(rt: &impl AllocGlobal, rows: Part<'_>) -> Built {
 
 /// The same of a server of version 5.5.62.
 fn old_with_rows(rt: &impl AllocGlobal, rows: Part<'_>) -> Built {
-    build_after(rt, &OLD_FRONT, &[BEGIN, Part::Map(T), rows, XID])
+    build_after(rt, old_front(), &[BEGIN, Part::Map(T), rows, XID])
 }
 
 /// A run of a log writes this text in this mode.
@@ -232,7 +232,7 @@ fn logs_of_other_versions_are_undone(rt: HostRuntime) -> Result<(), Fail> {
 
 /// A log of a server of version 5.5.62 with one rows event, whose format description has so many post-header lengths.
 fn with_lengths(rt: &impl AllocGlobal, count: u8, rows: Part<'_>) -> Result<Vec<u8>, Fail> {
-    let front = with_bytes(rt, &OLD_FRONT, &[(13, count.wrapping_add(76))])?;
+    let front = with_bytes(rt, old_front(), &[(13, count.wrapping_add(76))])?;
     let front = front
         .get(..usize::from(count).wrapping_add(80))
         .ok_or("a shorter front")?;

@@ -3,15 +3,15 @@
 use blog_flash::{
     Fault, Mode, RunFault, Selection, Watched, answer, flashback, forward, prepare, run,
 };
-use spelled_logs::small::INSERT_ONE_ROW;
+use log_calls::selections::{from, of_table, up_to};
+use sample_logs::builder::{Part, with_bytes};
+use sample_logs::logs::{no_changes, one_delete, one_insert, three_inserts, with_last};
+use sample_logs::small::INSERT_ONE_ROW;
+use sample_logs::undone::{three_inserts_copied, three_inserts_undone};
 use std::alloc::AllocError;
 use std::process::Abort;
 use std::test::Fail;
 use testkit::devices::{ALL, Failure, SlowWriter};
-use worked_logs::builder::{Part, with_bytes};
-use worked_logs::logs::{no_changes, one_delete, one_insert, three_inserts, with_last};
-use worked_logs::selections::{from, of_table, up_to};
-use worked_logs::undone::{three_inserts_copied, three_inserts_undone};
 
 type Built = Result<Vec<u8>, AllocError>;
 

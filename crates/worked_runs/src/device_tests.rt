@@ -1,10 +1,10 @@
 //! Runs over devices that move 1, 7 or all bytes a call, and that fail at each of their calls.
 
 use blog_flash::{Fault, Mode, RunFault, Selection, Watched, prepare, run, run_by_chunks};
+use sample_logs::{logs, undone};
 use std::process::Abort;
 use std::test::Fail;
 use testkit::devices::{ALL, Failure, KINDS, SlowReader, SlowWriter};
-use worked_logs::{logs, undone};
 
 // How many bytes a reader gives a call, and its calls for the log of 499 bytes: the last finds the end.
 const READERS: [(usize, u64); 3] = [(1, 500), (7, 73), (ALL, 2)];

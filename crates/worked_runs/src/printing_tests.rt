@@ -1,14 +1,14 @@
 //! What is printed of small logs.
 
 use blog_flash::{Mode, Selection, answer, flashback, sql, summary};
+use sample_logs::builder::{BEGIN, Part, T, Table, XID, build, delete, front, insert};
+use sample_logs::logs::{
+    map_alone, nine_columns, one_insert, two_inserts, two_tables, two_transactions, two_updates,
+};
+use sample_logs::printed_logs::{OF_TWO_TABLES, OF_TWO_TRANSACTIONS};
 use std::alloc::AllocError;
 use std::process::Abort;
 use std::test::Fail;
-use worked_logs::builder::{BEGIN, FRONT, Part, T, Table, XID, build, delete, insert};
-use worked_logs::logs::{
-    map_alone, nine_columns, one_insert, two_inserts, two_tables, two_transactions, two_updates,
-};
-use worked_logs::printed_logs::{OF_TWO_TABLES, OF_TWO_TRANSACTIONS};
 
 /// A log is answered with this text in this mode.
 fn check_answer<R: AllocGlobal + Abort>(rt: &R, log: &[u8], mode: Mode, text: &[u8]) {
@@ -37,7 +37,7 @@ fn check_unprinted<R: AllocGlobal + Abort>(rt: &R, log: &[u8]) {
 
 #[test]
 fn nothing_is_printed_of_no_changes(rt: HostRuntime) -> Result<(), Fail> {
-    check_unprinted(&rt, &FRONT);
+    check_unprinted(&rt, front());
     check_unprinted(&rt, &map_alone(&rt)?);
     Ok(())
 }
@@ -99,8 +99,8 @@ fn thousand(rt: &impl AllocGlobal, text: &[u8]) -> Result<Vec<u8>, AllocError> {
 /// A log of a thousand transactions, each of which inserts the row 5.
 fn thousand_inserts(rt: &impl AllocGlobal) -> Result<Vec<u8>, Fail> {
     let one = one_insert(rt)?;
-    let transaction = one.get(FRONT.len()..).ok_or("no transaction")?;
-    let mut log = FRONT.as_slice().to_vec(rt.alloc())?;
+    let transaction = one.get(front().len()..).ok_or("no transaction")?;
+    let mut log = front().to_vec(rt.alloc())?;
     put_copies(&mut log, transaction, 1000)?;
     Ok(log)
 }

@@ -1,10 +1,10 @@
 //! Statements cut at small sizes, spelled out.
 
 use blog_split::split;
+use sample_logs::builder::{BEGIN, Part, T, XID, build, delete, insert, map_of};
+use sample_logs::logs::{extra_bytes, two_tables};
 use std::process::Abort;
 use std::test::Fail;
-use worked_logs::builder::{BEGIN, Part, T, XID, build, delete, insert, map_of};
-use worked_logs::logs::{extra_bytes, two_tables};
 
 /// The log, cut, is this one.
 fn check_split<R: AllocGlobal + Abort>(

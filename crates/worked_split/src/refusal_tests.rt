@@ -5,8 +5,8 @@ use blog_event::Fault;
 use blog_split::{SplitFault, SplitRunFault, split, split_by_chunks};
 use linked_list_allocator::LocalHeap;
 use refusing::Refusing;
+use sample_logs::logs::two_tables;
 use std::test::Fail;
-use worked_logs::logs::two_tables;
 
 /// A heap with room for the call, in bytes.
 const ROOM: usize = 1 << 16;

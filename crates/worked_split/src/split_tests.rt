@@ -3,15 +3,15 @@
 use blog_event::Fault;
 use blog_flash::{Selection, flashback, forward, sql, summary};
 use blog_split::{SplitFault, split};
-use spelled_logs::samples::{ALTER_BETWEEN, INSERT, MULTI_TABLE, SAVEPOINT_KEPT, UPDATE};
-use spelled_logs::summed::CLOSED_PLAIN;
-use std::alloc::AllocError;
-use std::process::Abort;
-use std::test::Fail;
-use worked_logs::logs::{
+use sample_logs::logs::{
     extra_bytes, longer_format, map_alone, map_twice, newer_server, nine_columns, no_changes,
     one_delete, one_insert, two_inserts, two_statements, two_tables, two_transactions, two_updates,
 };
+use sample_logs::samples::{ALTER_BETWEEN, INSERT, MULTI_TABLE, SAVEPOINT_KEPT, UPDATE};
+use sample_logs::summed::CLOSED_PLAIN;
+use std::alloc::AllocError;
+use std::process::Abort;
+use std::test::Fail;
 
 type Built = Result<Vec<u8>, AllocError>;
 

@@ -4,12 +4,12 @@ use blog_device::Watched;
 use blog_event::Fault;
 use blog_flash::{Selection, forward};
 use blog_split::{SplitFault, SplitRunFault, split, split_by_chunks, split_to};
+use sample_logs::builder::{BEGIN, XID, build, insert, map_of};
+use sample_logs::logs::two_tables;
 use std::alloc::AllocError;
 use std::io;
 use std::test::Fail;
 use testkit::devices::{ALL, Failure, SlowWriter};
-use worked_logs::builder::{BEGIN, XID, build, insert, map_of};
-use worked_logs::logs::two_tables;
 
 #[test]
 fn each_chunk_is_written(rt: HostRuntime) -> Result<(), Fail> {

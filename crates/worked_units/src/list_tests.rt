@@ -4,13 +4,13 @@ use crate::parts::{MAP, ONE, PAYLOAD, ROLLBACK};
 use blog_device::Watched;
 use blog_event::Fault;
 use blog_list::{Form, Wanted, list, seconds_of};
-use spelled_logs::samples::{ALTER_BETWEEN, INSERT, MULTI_TABLE, SAVEPOINT_KEPT, UPDATE};
-use spelled_logs::summed::{CLOSED_PLAIN, IN_USE_PLAIN};
-use std::process::Abort;
-use std::test::Fail;
-use worked_logs::builder::{
+use sample_logs::builder::{
     BEGIN, DROP_TABLE, GTID, PREVIOUS_GTIDS, Part, ROTATE, XID, build, map_of,
 };
+use sample_logs::samples::{ALTER_BETWEEN, INSERT, MULTI_TABLE, SAVEPOINT_KEPT, UPDATE};
+use sample_logs::summed::{CLOSED_PLAIN, IN_USE_PLAIN};
+use std::process::Abort;
+use std::test::Fail;
 
 const HEADER: &str = "     start       stop  time (UTC)           rows\n";
 

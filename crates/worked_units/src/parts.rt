@@ -1,6 +1,6 @@
 //! Events of the small logs of these tests.
 
-use worked_logs::builder::{Images, Part, Rows, T};
+use sample_logs::builder::{Images, Part, Rows, T};
 
 pub const MAP: Part<'static> = Part::Map(T);
 

@@ -4,17 +4,17 @@ use crate::parts::{MAP, ONE, PAYLOAD, ROLLBACK};
 use blog_event::Log;
 use blog_flash::{Mode, Selection, answer};
 use blog_units::Units;
-use spelled_logs::samples::{ALTER_BETWEEN, INSERT, MULTI_TABLE, SAVEPOINT_KEPT, UPDATE};
-use spelled_logs::summed::{CLOSED_PLAIN, IN_USE_PLAIN};
-use std::alloc::AllocError;
-use std::process::Abort;
-use std::test::Fail;
-use worked_logs::builder::{BEGIN, DROP_TABLE, GTID, Part, XID, build};
-use worked_logs::logs::{
+use sample_logs::builder::{BEGIN, DROP_TABLE, GTID, Part, XID, build};
+use sample_logs::logs::{
     extra_bytes, longer_format, map_alone, map_twice, newer_server, nine_columns, no_changes,
     one_delete, one_insert, query_inside, two_inserts, two_statements, two_tables,
     two_transactions, two_updates,
 };
+use sample_logs::samples::{ALTER_BETWEEN, INSERT, MULTI_TABLE, SAVEPOINT_KEPT, UPDATE};
+use sample_logs::summed::{CLOSED_PLAIN, IN_USE_PLAIN};
+use std::alloc::AllocError;
+use std::process::Abort;
+use std::test::Fail;
 
 /// Undoes the range of each unit of a log. Answers how many can be undone and how many can't.
 fn undo_each(rt: &(impl AllocGlobal + Abort), bytes: &[u8]) -> Result<(usize, usize), Fail> {

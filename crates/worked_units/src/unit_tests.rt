@@ -4,13 +4,13 @@ use crate::parts::{INSERTED_NONE, MAP, ONE, PAYLOAD, ROLLBACK, TWO};
 use blog_event::{Fault, Log};
 use blog_trans::{Index, Selection, index};
 use blog_units::{GlobalId, Unit, Units};
-use spelled_logs::samples::{ALTER_BETWEEN, INSERT, MULTI_TABLE, SAVEPOINT_KEPT, UPDATE};
-use std::process::Abort;
-use std::test::Fail;
-use worked_logs::builder::{
+use sample_logs::builder::{
     ANONYMOUS_GTID, BEGIN, COMMIT, DROP_TABLE, GTID, PREVIOUS_GTIDS, Part, ROTATE, ROWS_QUERY, XID,
     build,
 };
+use sample_logs::samples::{ALTER_BETWEEN, INSERT, MULTI_TABLE, SAVEPOINT_KEPT, UPDATE};
+use std::process::Abort;
+use std::test::Fail;
 
 /// What is told of a range.
 #[derive(Clone, Copy)]

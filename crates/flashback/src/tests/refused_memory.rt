@@ -8,7 +8,7 @@ use crate::commands::command;
 use blog_flash::Watched;
 use linked_list_allocator::LocalHeap;
 use refusing::Refusing;
-use spelled_logs::small::INSERT_ONE_ROW;
+use sample_logs::small::INSERT_ONE_ROW;
 use std::alloc::Allocator;
 use std::fs;
 use std::process::ExitCode;

@@ -1,8 +1,8 @@
 //! The logs that several tests speak of.
 
 use crate::builder::{
-    ANONYMOUS_GTID, BEGIN, COMMIT, GTID, NEWER_FRONT, PREVIOUS_GTIDS, Part, ROTATE, ROWS_QUERY, T,
-    Table, XID, build, build_after, delete, insert, map_of, update,
+    ANONYMOUS_GTID, BEGIN, COMMIT, DROP_TABLE, GTID, NEWER_FRONT, PREVIOUS_GTIDS, Part, ROTATE,
+    ROWS_QUERY, T, Table, XID, build, build_after, delete, insert, map_of, update,
 };
 use std::alloc::AllocError;
 
@@ -164,4 +164,9 @@ pub fn longer_format(rt: &impl AllocGlobal) -> Built {
 pub fn with_last(rt: &impl AllocGlobal, last: Part<'_>) -> Built {
     let rows = insert(1, &[5]);
     build(rt, &[BEGIN, Part::Map(T), rows, XID, last])
+}
+
+/// The insert of the row 5, and a query that drops the table behind it.
+pub fn insert_and_drop(rt: &impl AllocGlobal) -> Built {
+    with_last(rt, DROP_TABLE)
 }
