@@ -2,10 +2,10 @@
 #![tactic(auto)]
 
 #[cfg(test)]
+mod cut_log_tests;
+#[cfg(test)]
+mod memory_tests;
+#[cfg(test)]
 mod piece_tests;
-#[cfg(test)]
-mod refusal_tests;
-#[cfg(test)]
-mod split_tests;
 #[cfg(test)]
 mod writing_tests;

@@ -8,4 +8,4 @@ mod parts;
 #[cfg(test)]
 mod range_tests;
 #[cfg(test)]
-mod unit_tests;
+mod walk_tests;

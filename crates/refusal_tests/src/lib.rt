@@ -12,12 +12,12 @@ mod large_run_tests;
 #[cfg(test)]
 mod large_tests;
 #[cfg(test)]
-mod refusal_tests;
+mod memory_tests;
 #[cfg(test)]
 mod refusing_calls;
 #[cfg(test)]
-mod run_tests;
-#[cfg(test)]
 mod short_reads;
+#[cfg(test)]
+mod smallest_log_tests;
 #[cfg(test)]
 mod version_one_tests;
