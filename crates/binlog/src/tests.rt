@@ -2,27 +2,26 @@
 
 mod failing_writers;
 mod lists;
-mod logs;
 mod refused_memory;
 mod result_files;
 mod splits;
 
 use crate::commands::command;
 use blog_device::Watched;
-use logs::{PLAIN, SUMMED};
+use sample_logs::small::{PLAIN, SUMMED};
 use std::alloc::AllocError;
 use std::path::PathBuf;
 use std::process::{Abort, ExitCode};
 use std::test::Fail;
 use std::{env, fs, io};
-use test_runs::Outcome;
+use testkit::runs::Outcome;
 
 /// Where the Stop event of `SUMMED` begins.
 const STOP: usize = 120;
 
 /// The arguments of a run, of which the first is the program's name.
 fn words_of(rt: &HostRuntime, words: &[&str]) -> Result<Vec<String>, AllocError> {
-    test_runs::words_of(rt, "binlog", words)
+    testkit::runs::words_of(rt, "binlog", words)
 }
 
 fn run_given(rt: &HostRuntime, words: io::Result<Vec<String>>) -> Outcome {
@@ -42,7 +41,7 @@ fn run_words(rt: &HostRuntime, words: &[&str]) -> Result<Outcome, AllocError> {
 
 /// A path in the folder for temporary files that no other test has.
 fn path_of(rt: &HostRuntime, name: &str) -> io::Result<PathBuf> {
-    test_runs::path_of(rt, "binlog", name)
+    testkit::runs::path_of(rt, "binlog", name)
 }
 
 /// Runs the program with these words and a file of these bytes as the last word.

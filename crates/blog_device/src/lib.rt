@@ -8,11 +8,9 @@
 mod devices;
 mod fault;
 mod reading;
-#[cfg(test)]
-mod tests;
 mod writing;
 
 pub use devices::Watched;
 pub use fault::RunFault;
-pub use reading::read_log;
+pub use reading::{read_log, read_up_to};
 pub use writing::{make_room, put, put_part};

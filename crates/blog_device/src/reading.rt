@@ -34,9 +34,8 @@ pub fn read_log<A: Allocator, R: Read>(
     read_up_to(alloc, reader, GREATEST_LENGTH)
 }
 
-// The bytes up to the reader's end. `Log(TooLong)` at 0 where there are more than the limit, of
-// which one more is then read.
-pub(crate) fn read_up_to<A: Allocator, R: Read>(
+/// Reads the bytes up to the reader's end, as `read_log` does, but with another limit on their number. It is for tests.
+pub fn read_up_to<A: Allocator, R: Read>(
     alloc: A,
     reader: &mut Watched<R>,
     limit: usize,

@@ -13,13 +13,13 @@ mod wrong_words;
 use crate::commands::command;
 use blog_flash::Watched;
 use logs::with_byte;
-use spelled_logs::small::INSERT_ONE_ROW;
+use sample_logs::small::INSERT_ONE_ROW;
 use std::alloc::AllocError;
 use std::path::PathBuf;
 use std::process::{Abort, ExitCode};
 use std::test::Fail;
 use std::{env, fs, io};
-use test_runs::{Outcome, push_words};
+use testkit::runs::{Outcome, push_words};
 use writers::Broken;
 
 /// Where the rows event of `INSERT_ONE_ROW` has its type.
@@ -27,7 +27,7 @@ const ROWS_TYPE: usize = 200;
 
 /// The arguments of a run, of which the first is the program's name.
 pub fn words_of(rt: &HostRuntime, words: &[&str]) -> Result<Vec<String>, AllocError> {
-    test_runs::words_of(rt, "flashback", words)
+    testkit::runs::words_of(rt, "flashback", words)
 }
 
 fn run_given(rt: &HostRuntime, words: io::Result<Vec<String>>) -> Outcome {
@@ -47,7 +47,7 @@ fn run_words(rt: &HostRuntime, words: &[&str]) -> Result<Outcome, AllocError> {
 
 /// A path in the folder for temporary files that no other test has.
 fn path_of(rt: &HostRuntime, name: &str) -> io::Result<PathBuf> {
-    test_runs::path_of(rt, "flashback", name)
+    testkit::runs::path_of(rt, "flashback", name)
 }
 
 /// Fails where something doesn't hold of a run with these words.

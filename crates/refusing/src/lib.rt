@@ -1,4 +1,6 @@
-//! An allocator for tests, which refuses the request of one number.
+//! A test allocator, no part of the product: don't begin reading the repository here, begin with `blog_event`.
+//!
+//! It refuses the request of one number, and passes all others on.
 #![tactic(auto)]
 
 mod countdown;

@@ -1,13 +1,14 @@
 //! Runs whose writers fail.
 
-use super::logs::{PLAIN, SUMMED, UNITS};
 use super::{path_of, run_words, words_of};
 use crate::commands::command;
 use blog_device::Watched;
+use sample_logs::logs::insert_and_drop;
+use sample_logs::small::{INSERT_ONE_ROW, PLAIN, SUMMED};
 use std::fs;
 use std::process::ExitCode;
 use std::test::Fail;
-use test_devices::{ALL, Failure, KINDS, SlowWriter};
+use testkit::devices::{ALL, Failure, KINDS, SlowWriter};
 
 /// The most bytes that standard output takes a call.
 const STEP: usize = 7;
@@ -59,7 +60,7 @@ fn a_failed_write_is_told(rt: HostRuntime) -> Result<(), Fail> {
 #[test]
 fn a_failed_write_of_a_list_is_told(rt: HostRuntime) -> Result<(), Fail> {
     let log = path_of(&rt, "unwritten-list")?;
-    fs::write(&rt, log.as_path(), UNITS.as_slice())?;
+    fs::write(&rt, log.as_path(), insert_and_drop(&rt)?.as_slice())?;
     let text = b"{\"units\":0,\"not_undoable\":0,\"rows\":0}\n";
     let words = ["list", "--json", "-j", "260", log.as_str()];
     each_call_fails(&rt, words.as_slice(), text.as_slice(), 6)?;
@@ -70,9 +71,9 @@ fn a_failed_write_of_a_list_is_told(rt: HostRuntime) -> Result<(), Fail> {
 #[test]
 fn a_failed_write_of_a_cut_log_is_told(rt: HostRuntime) -> Result<(), Fail> {
     let log = path_of(&rt, "unwritten-cut")?;
-    fs::write(&rt, log.as_path(), &UNITS[..259])?;
+    fs::write(&rt, log.as_path(), INSERT_ONE_ROW.as_slice())?;
     let words = ["split", log.as_str()];
-    each_call_fails(&rt, words.as_slice(), &UNITS[..259], 37)?;
+    each_call_fails(&rt, words.as_slice(), INSERT_ONE_ROW.as_slice(), 37)?;
     fs::remove_file(&rt, log.as_path())?;
     Ok(())
 }

@@ -1,10 +1,11 @@
 //! Runs of `list`.
 
-use super::logs::{PLAIN, SUMMED, UNITS};
 use super::{path_of, run_log, run_words};
+use sample_logs::logs::insert_and_drop;
+use sample_logs::small::{INSERT_ONE_ROW, PLAIN, SUMMED};
 use std::process::{Abort, ExitCode};
 use std::test::Fail;
-use test_runs::Outcome;
+use testkit::runs::Outcome;
 
 const HEADER: &str = "     start       stop  time (UTC)           rows\n";
 
@@ -14,7 +15,7 @@ const DROP: &str = "       259        305  1970-01-01 00:00:00  Statement at 259
 
 /// Whether the run listed these lines and the last one below the header, and printed nothing.
 fn lists(rt: &HostRuntime, words: &[&str], lines: &[&str]) -> Result<(), Fail> {
-    let outcome = run_log(rt, "lists", UNITS.as_slice(), words)?;
+    let outcome = run_log(rt, "lists", insert_and_drop(rt)?.as_slice(), words)?;
     let mut text = String::from_str(rt.alloc(), HEADER)?;
     for line in lines {
         text.push_str(line)?;
@@ -57,7 +58,8 @@ fn units_are_listed_as_json(rt: HostRuntime) -> Result<(), Fail> {
 {\"units\":1,\"not_undoable\":1,\"rows\":0}
 ";
     let words = ["list", "--json", "-j", "121"];
-    let outcome = run_log(&rt, "json", UNITS.as_slice(), words.as_slice())?;
+    let log = insert_and_drop(&rt)?;
+    let outcome = run_log(&rt, "json", log.as_slice(), words.as_slice())?;
     assert!(rt; outcome.is_done(text.as_slice()));
     Ok(())
 }
@@ -73,14 +75,16 @@ fn has_listed(outcome: &Outcome, line: &str) -> bool {
 
 #[test]
 fn a_log_that_ends_early_is_listed_and_told(rt: HostRuntime) -> Result<(), Fail> {
-    let outcome = run_log(&rt, "cut", &UNITS[..304], &["list"])?;
+    let log = insert_and_drop(&rt)?;
+    let cut = log.get(..304).ok_or("a short log")?;
+    let outcome = run_log(&rt, "cut", cut, &["list"])?;
     assert!(rt;
         has_listed(
             &outcome,
             "binlog: CutEvent at 259: the log ends inside an event: "
         )
     );
-    let outcome = run_log(&rt, "unended", &UNITS[..232], &["list"])?;
+    let outcome = run_log(&rt, "unended", &INSERT_ONE_ROW[..232], &["list"])?;
     assert_eq!(rt; outcome.status, ExitCode::FAILURE);
     assert!(rt;
         outcome

@@ -1,14 +1,15 @@
 //! Runs in which one request for memory is refused, each in turn.
 
-use super::logs::{PLAIN, SUMMED, UNITS};
 use super::{path_of, words_of};
 use crate::commands::command;
 use blog_device::Watched;
 use linked_list_allocator::LocalHeap;
 use refusing::Refusing;
+use sample_logs::logs::insert_and_drop;
+use sample_logs::small::{INSERT_ONE_ROW, PLAIN, SUMMED};
 use std::fs;
 use std::test::Fail;
-use test_runs::Outcome;
+use testkit::runs::Outcome;
 
 /// More requests than each of these runs makes.
 const REQUESTS: usize = 200;
@@ -76,7 +77,7 @@ fn want_of_memory_leaves_nothing(rt: HostRuntime) -> Result<(), Fail> {
 #[test]
 fn want_of_memory_lists_nothing(rt: HostRuntime) -> Result<(), Fail> {
     let log = path_of(&rt, "unlisted-log")?;
-    fs::write(&rt, log.as_path(), UNITS.as_slice())?;
+    fs::write(&rt, log.as_path(), insert_and_drop(&rt)?.as_slice())?;
     let words = ["list", log.as_str()];
     let (outcome, refused) = refuse_in_turn(&rt, words.as_slice(), "")?;
     assert!(rt; outcome.errors().is_empty());
@@ -93,7 +94,7 @@ fn want_of_memory_lists_nothing(rt: HostRuntime) -> Result<(), Fail> {
 fn want_of_memory_cuts_nothing(rt: HostRuntime) -> Result<(), Fail> {
     let log = path_of(&rt, "uncut-log")?;
     let result = path_of(&rt, "uncut")?;
-    fs::write(&rt, log.as_path(), &UNITS[..259])?;
+    fs::write(&rt, log.as_path(), INSERT_ONE_ROW.as_slice())?;
     let words = ["split", "-r", result.as_str(), log.as_str()];
     let (outcome, refused) = refuse_in_turn(&rt, words.as_slice(), result.as_str())?;
     assert!(rt; outcome.is_done(b""));
@@ -101,6 +102,6 @@ fn want_of_memory_cuts_nothing(rt: HostRuntime) -> Result<(), Fail> {
     let written = fs::read(&rt, result.as_path())?;
     fs::remove_file(&rt, result.as_path())?;
     fs::remove_file(&rt, log.as_path())?;
-    assert_eq!(rt; written.as_slice(), &UNITS[..259]);
+    assert_eq!(rt; written.as_slice(), INSERT_ONE_ROW.as_slice());
     Ok(())
 }

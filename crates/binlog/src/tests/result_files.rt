@@ -1,7 +1,7 @@
 //! Runs whose output goes to a file.
 
-use super::logs::{PLAIN, SUMMED};
 use super::{STOP, path_of, run_log, run_words, with_byte};
+use sample_logs::small::{PLAIN, SUMMED};
 use std::test::Fail;
 use std::{env, fs};
 

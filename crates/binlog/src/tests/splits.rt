@@ -1,22 +1,37 @@
 //! Runs of `split`.
 
-use super::logs::Part::{Begin, Map, OpenRows, Rows, Xid};
-use super::logs::{Part, SUMMED, UNITS, log_of};
 use super::{path_of, run_log, run_words};
+use sample_logs::builder::{BEGIN, Part, T, XID, build, insert};
+use sample_logs::logs::insert_and_drop;
+use sample_logs::small::{INSERT_ONE_ROW, SUMMED};
+use std::alloc::AllocError;
 use std::fs;
 use std::test::Fail;
 
-/// Whether a run with these words writes this for the statement of two rows events, of 36 bytes each.
-fn writes(rt: &HostRuntime, words: &[&str], text: &[Part]) -> Result<bool, Fail> {
-    let log = log_of(rt, &[Begin, Map, OpenRows, Rows, Xid])?;
-    let text = log_of(rt, text)?;
-    Ok(run_log(rt, "uncut", log.as_slice(), words)?.is_done(text.as_slice()))
+const MAP: Part<'static> = Part::Map(T);
+
+/// A log of a statement of two rows events, of 36 bytes each.
+fn whole(rt: &impl AllocGlobal) -> Result<Vec<u8>, AllocError> {
+    let rows = insert(1, &[5]);
+    build(rt, &[BEGIN, MAP, rows.open(), rows, XID])
+}
+
+/// The same, with a statement for each rows event.
+fn cut(rt: &impl AllocGlobal) -> Result<Vec<u8>, AllocError> {
+    let rows = insert(1, &[5]);
+    build(rt, &[BEGIN, MAP, rows, MAP, rows, XID])
+}
+
+/// Whether a run with these words writes this log for the whole statement.
+fn writes(rt: &HostRuntime, words: &[&str], text: &[u8]) -> Result<bool, Fail> {
+    let log = whole(rt)?;
+    Ok(run_log(rt, "uncut", log.as_slice(), words)?.is_done(text))
 }
 
 #[test]
 fn statements_are_cut(rt: HostRuntime) -> Result<(), Fail> {
-    let whole = [Begin, Map, OpenRows, Rows, Xid];
-    let cut = [Begin, Map, Rows, Map, Rows, Xid];
+    let whole = whole(&rt)?;
+    let cut = cut(&rt)?;
     assert!(rt; writes(&rt, &["split"], &whole)?);
     assert!(rt; writes(&rt, &["split", "--size", "72"], &whole)?);
     assert!(rt; writes(&rt, &["split", "--size", "71"], &cut)?);
@@ -26,8 +41,8 @@ fn statements_are_cut(rt: HostRuntime) -> Result<(), Fail> {
 
 #[test]
 fn a_cut_log_is_written_to_a_file(rt: HostRuntime) -> Result<(), Fail> {
-    let log = log_of(&rt, &[Begin, Map, OpenRows, Rows, Xid])?;
-    let cut = log_of(&rt, &[Begin, Map, Rows, Map, Rows, Xid])?;
+    let log = whole(&rt)?;
+    let cut = cut(&rt)?;
     let result = path_of(&rt, "cut-file")?;
     let words = ["split", "--size", "40", "-r", result.as_str()];
     let outcome = run_log(&rt, "to-file", log.as_slice(), words.as_slice())?;
@@ -42,16 +57,17 @@ fn a_cut_log_is_written_to_a_file(rt: HostRuntime) -> Result<(), Fail> {
 
 #[test]
 fn logs_that_are_not_cut_are_told(rt: HostRuntime) -> Result<(), Fail> {
+    let dropped = insert_and_drop(&rt)?;
     let cases = [
         (
-            UNITS.as_slice(),
+            dropped.as_slice(),
             "binlog: Statement at 259: the log can't be undone as a whole: ",
         ),
         (
             SUMMED.as_slice(),
             "binlog: Checksums at 4: the log has checksums: ",
         ),
-        (&UNITS[..200], "binlog: CutEvent at 196: "),
+        (&INSERT_ONE_ROW[..200], "binlog: CutEvent at 196: "),
         (b"no log", "binlog: NotABinlog at 0: "),
     ];
     for (log, line) in cases {

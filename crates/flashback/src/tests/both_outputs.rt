@@ -3,7 +3,7 @@
 use super::file_names::has_bytes;
 use super::logs::with_byte;
 use super::{ROWS_TYPE, check, check_log_refused, path_of, run_log, run_log_to};
-use spelled_logs::small::INSERT_ONE_ROW;
+use sample_logs::small::INSERT_ONE_ROW;
 use std::path::PathBuf;
 use std::test::Fail;
 use std::{fs, io};

@@ -2,7 +2,7 @@
 
 use super::logs::with_byte;
 use super::{ROWS_TYPE, check, check_done, check_log_refused, check_refusal, path_of};
-use spelled_logs::small::INSERT_ONE_ROW;
+use sample_logs::small::INSERT_ONE_ROW;
 use std::path::PathBuf;
 use std::test::Fail;
 use std::{env, fs, io, process};

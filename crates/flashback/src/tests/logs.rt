@@ -1,6 +1,6 @@
 //! Copies of a small log.
 
-use spelled_logs::small::INSERT_ONE_ROW;
+use sample_logs::small::INSERT_ONE_ROW;
 use std::alloc::{AllocError, Global};
 
 /// That log with another byte at `at`.

@@ -8,12 +8,12 @@ use crate::commands::command;
 use blog_flash::Watched;
 use linked_list_allocator::LocalHeap;
 use refusing::Refusing;
-use spelled_logs::small::INSERT_ONE_ROW;
+use sample_logs::small::INSERT_ONE_ROW;
 use std::alloc::Allocator;
 use std::fs;
 use std::process::ExitCode;
 use std::test::Fail;
-use test_runs::{Outcome, push_words};
+use testkit::runs::{Outcome, push_words};
 
 /// More requests than each of these runs makes.
 const REQUESTS: usize = 200;

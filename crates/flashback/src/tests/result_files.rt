@@ -4,7 +4,7 @@ use super::both_outputs::{check_both_outputs, check_refused};
 use super::file_names::check_bytes;
 use super::logs::with_byte;
 use super::{ROWS_TYPE, check_done, check_log_refused, check_refusal, path_of};
-use spelled_logs::small::INSERT_ONE_ROW;
+use sample_logs::small::INSERT_ONE_ROW;
 use std::test::Fail;
 use std::{env, fs};
 

@@ -3,7 +3,8 @@
 use super::ROWS_TYPE;
 use super::both_outputs::{check_both_outputs, check_refused};
 use super::logs::with_byte;
-use spelled_logs::small::{DROP_TABLE, INSERT_ONE_ROW};
+use sample_logs::logs::insert_and_drop;
+use sample_logs::small::INSERT_ONE_ROW;
 use std::test::Fail;
 
 /// Where the events of the log begin.
@@ -94,9 +95,7 @@ fn check_stop(rt: &HostRuntime, log: &[u8]) -> Result<(), Fail> {
 
 #[test]
 fn a_stop_leaves_out_what_cannot_be_undone(rt: HostRuntime) -> Result<(), Fail> {
-    let mut log = INSERT_ONE_ROW.as_slice().to_vec(rt.alloc())?;
-    log.extend_from_slice(DROP_TABLE.as_slice())?;
-    check_stop(&rt, log.as_slice())
+    check_stop(&rt, insert_and_drop(&rt)?.as_slice())
 }
 
 /// A log whose table can't be undone has nothing of another schema.

@@ -1,7 +1,7 @@
 //! Logs with rows events of version 1, and of a server before 5.6.1.
 
 use super::both_outputs::{COUNTED, DONE, UNDONE, check_both_outputs, check_printed};
-use spelled_logs::small::{INSERT_ONE_ROW, OLD_SERVER};
+use sample_logs::small::{INSERT_ONE_ROW, OLD_SERVER};
 use std::test::Fail;
 
 /// The rows event at 196 as version 1 has it: without an extra length.

@@ -1,0 +1,23 @@
+//! Tests that cross the crates: runs from readers to writers, refused logs, memory that runs out, large logs, and rows events of version 1.
+#![tactic(auto)]
+
+#[cfg(test)]
+mod damage_tests;
+#[cfg(test)]
+mod event_refusal_tests;
+#[cfg(test)]
+mod fault_tests;
+#[cfg(test)]
+mod large_run_tests;
+#[cfg(test)]
+mod large_tests;
+#[cfg(test)]
+mod memory_tests;
+#[cfg(test)]
+mod refusing_calls;
+#[cfg(test)]
+mod short_reads;
+#[cfg(test)]
+mod smallest_log_tests;
+#[cfg(test)]
+mod version_one_tests;

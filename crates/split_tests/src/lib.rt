@@ -1,0 +1,11 @@
+//! Tests that cross the crates: logs whose statements are cut.
+#![tactic(auto)]
+
+#[cfg(test)]
+mod cut_log_tests;
+#[cfg(test)]
+mod memory_tests;
+#[cfg(test)]
+mod piece_tests;
+#[cfg(test)]
+mod writing_tests;

@@ -1,0 +1,104 @@
+//! Statements cut at small sizes, spelled out.
+
+use blog_split::split;
+use sample_logs::builder::{BEGIN, Part, T, XID, build, delete, insert, map_of};
+use sample_logs::logs::{extra_bytes, two_tables};
+use std::process::Abort;
+use std::test::Fail;
+
+/// The log, cut, is this one.
+fn check_split<R: AllocGlobal + Abort>(
+    rt: &R,
+    log: &[u8],
+    limit: usize,
+    cut: &[u8],
+) -> Result<(), Fail> {
+    let text = split(rt.alloc(), log, limit)
+        .ok()
+        .ok_or("the log is not split")?;
+    assert_eq!(rt; text.as_slice(), cut);
+    Ok(())
+}
+
+#[test]
+fn each_rows_event_is_a_statement_with_its_map(rt: HostRuntime) -> Result<(), Fail> {
+    // A rows event of one row has 36 bytes.
+    let parts = [
+        BEGIN,
+        map_of(1, b"t1"),
+        insert(1, &[1]),
+        map_of(2, b"t2"),
+        insert(2, &[2]),
+        map_of(1, b"t1"),
+        insert(1, &[3]),
+        XID,
+    ];
+    let cut = build(&rt, &parts)?;
+    for limit in [0, 1, 36, 71] {
+        check_split(&rt, &two_tables(&rt)?, limit, &cut)?;
+        check_split(&rt, &extra_bytes(&rt)?, limit, &cut)?;
+    }
+    Ok(())
+}
+
+#[test]
+fn pieces_have_the_maps_they_use(rt: HostRuntime) -> Result<(), Fail> {
+    let parts = [
+        BEGIN,
+        map_of(1, b"t1"),
+        map_of(2, b"t2"),
+        insert(1, &[1]).open(),
+        insert(2, &[2]),
+        map_of(1, b"t1"),
+        insert(1, &[3]),
+        XID,
+    ];
+    let cut = build(&rt, &parts)?;
+    for limit in [72, 107] {
+        check_split(&rt, &two_tables(&rt)?, limit, &cut)?;
+    }
+    check_split(&rt, &two_tables(&rt)?, 108, &two_tables(&rt)?)
+}
+
+#[test]
+fn rows_events_of_three_tables_alternate(rt: HostRuntime) -> Result<(), Fail> {
+    let parts = [
+        BEGIN,
+        map_of(1, b"a"),
+        map_of(2, b"b"),
+        map_of(3, b"c"),
+        insert(1, &[1]).open(),
+        delete(2, &[2]).open(),
+        insert(3, &[3]).open(),
+        insert(1, &[4]).open(),
+        delete(2, &[5]).open(),
+        insert(3, &[6]),
+        Part::Map(T),
+        insert(1, &[7, 8, 9]).open(),
+        insert(1, &[7]),
+        XID,
+    ];
+    let log = build(&rt, &parts)?;
+    let cut_in_twos = [
+        BEGIN,
+        map_of(1, b"a"),
+        map_of(2, b"b"),
+        insert(1, &[1]).open(),
+        delete(2, &[2]),
+        map_of(1, b"a"),
+        map_of(3, b"c"),
+        insert(3, &[3]).open(),
+        insert(1, &[4]),
+        map_of(2, b"b"),
+        map_of(3, b"c"),
+        delete(2, &[5]).open(),
+        insert(3, &[6]),
+        // The first of these has 46 bytes.
+        Part::Map(T),
+        insert(1, &[7, 8, 9]),
+        Part::Map(T),
+        insert(1, &[7]),
+        XID,
+    ];
+    check_split(&rt, &log, 75, &build(&rt, &cut_in_twos)?)
+}

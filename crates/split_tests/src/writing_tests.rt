@@ -1,0 +1,101 @@
+//! Logs that are split to a writer, and a statement with very many maps.
+
+use blog_device::Watched;
+use blog_event::Fault;
+use blog_flash::{Selection, forward};
+use blog_split::{SplitFault, SplitRunFault, split, split_by_chunks, split_to};
+use sample_logs::builder::{BEGIN, XID, build, insert, map_of};
+use sample_logs::logs::two_tables;
+use std::alloc::AllocError;
+use std::io;
+use std::test::Fail;
+use testkit::devices::{ALL, Failure, SlowWriter};
+
+#[test]
+fn each_chunk_is_written(rt: HostRuntime) -> Result<(), Fail> {
+    let log = two_tables(&rt)?;
+    let cut = split(rt.alloc(), &log, 1)
+        .ok()
+        .ok_or("the log is not split")?;
+    for chunk_len in [0, 1, 100, 1 << 18] {
+        let mut writer = Watched::new(SlowWriter::new(&rt, 7, Failure::Never));
+        let done = split_by_chunks(rt.alloc(), &mut writer, &log, 1, chunk_len);
+        assert_eq!(rt; done, Ok(()));
+        assert_eq!(rt; writer.device().taken.as_slice(), cut.as_slice());
+        assert!(rt; !writer.failed());
+    }
+    let mut writer = Watched::new(SlowWriter::new(&rt, ALL, Failure::Never));
+    assert_eq!(rt; split_to(rt.alloc(), &mut writer, &log, 1), Ok(()));
+    assert_eq!(rt; writer.device().taken.as_slice(), cut.as_slice());
+    Ok(())
+}
+
+#[test]
+fn a_failed_write_is_answered(rt: HostRuntime) -> Result<(), Fail> {
+    let log = two_tables(&rt)?;
+    let cut = split(rt.alloc(), &log, 1)
+        .ok()
+        .ok_or("the log is not split")?;
+    for call in 1..4 {
+        let failure = Failure::At(call, io::ErrorKind::Other);
+        let mut writer = Watched::new(SlowWriter::new(&rt, ALL, failure));
+        let done = split_by_chunks(rt.alloc(), &mut writer, &log, 1, 0);
+        assert_eq!(rt; done, Err(SplitRunFault::Write));
+        let taken = writer.device().taken.as_slice();
+        assert!(rt; cut.starts_with(taken));
+        assert!(rt; taken.len() < cut.len());
+        assert!(rt; writer.failed());
+    }
+    Ok(())
+}
+
+#[test]
+fn of_a_refused_log_nothing_is_written(rt: HostRuntime) -> Result<(), Fail> {
+    let mut writer = Watched::new(SlowWriter::new(&rt, ALL, Failure::Never));
+    let done = split_to(rt.alloc(), &mut writer, b"no log", 1);
+    let fault = SplitFault::Log(Fault::NotABinlog { pos: 0 });
+    assert_eq!(rt; done, Err(SplitRunFault::Split(fault)));
+    assert_eq!(rt; writer.device().calls, 0);
+    Ok(())
+}
+
+/// How many maps a statement has, and how many pieces.
+const MANY: u32 = 2000;
+
+/// A statement whose last map is used first.
+fn many_maps<R: AllocGlobal>(rt: &R) -> Result<Vec<u8>, AllocError> {
+    let mut parts = Vec::new(rt.alloc());
+    parts.push(BEGIN)?;
+    for id in 0..MANY {
+        parts.push(map_of(id, b"t"))?;
+    }
+    for number in 1..MANY {
+        parts.push(insert(MANY - number, &[1]).open())?;
+    }
+    parts.push(insert(0, &[1]))?;
+    parts.push(XID)?;
+    build(rt, &parts)
+}
+
+/// Each of its rows events as a statement.
+fn many_pieces<R: AllocGlobal>(rt: &R) -> Result<Vec<u8>, AllocError> {
+    let mut parts = Vec::new(rt.alloc());
+    parts.push(BEGIN)?;
+    for number in 0..MANY {
+        parts.push(map_of(MANY - 1 - number, b"t"))?;
+        parts.push(insert(MANY - 1 - number, &[1]))?;
+    }
+    parts.push(XID)?;
+    build(rt, &parts)
+}
+
+#[test]
+fn a_statement_of_many_maps_is_split(rt: HostRuntime) -> Result<(), Fail> {
+    let log = many_maps(&rt)?;
+    let cut = split(rt.alloc(), &log, 1).ok();
+    assert_eq!(rt; cut, Some(many_pieces(&rt)?));
+    let whole = split(rt.alloc(), &log, 1_000_000).ok();
+    let normal = forward(rt.alloc(), &log, &Selection::all())?;
+    assert_eq!(rt; whole, Some(normal));
+    Ok(())
+}

@@ -1,0 +1,11 @@
+//! Tests of the units of logs, of their lists, and of undoing their ranges.
+#![tactic(auto)]
+
+#[cfg(test)]
+mod list_tests;
+#[cfg(test)]
+mod parts;
+#[cfg(test)]
+mod range_tests;
+#[cfg(test)]
+mod walk_tests;

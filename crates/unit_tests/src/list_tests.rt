@@ -1,0 +1,285 @@
+//! Lists of the units of logs, as text and as JSON.
+
+use crate::parts::{MAP, ONE, PAYLOAD, ROLLBACK};
+use blog_device::Watched;
+use blog_event::Fault;
+use blog_list::{Form, Wanted, list, seconds_of};
+use sample_logs::builder::{
+    BEGIN, DROP_TABLE, GTID, PREVIOUS_GTIDS, Part, ROTATE, XID, build, map_of,
+};
+use sample_logs::samples::{ALTER_BETWEEN, INSERT, MULTI_TABLE, SAVEPOINT_KEPT, UPDATE};
+use sample_logs::summed::{CLOSED_PLAIN, IN_USE_PLAIN};
+use std::process::Abort;
+use std::test::Fail;
+
+const HEADER: &str = "     start       stop  time (UTC)           rows\n";
+
+/// Checks the list of a log, without its header, and what is answered of its end.
+fn check(
+    rt: &(impl AllocGlobal + Abort),
+    bytes: &[u8],
+    wanted: &Wanted<'_>,
+    lines: &str,
+    end: Option<Fault>,
+) -> Result<(), Fail> {
+    let mut output = Watched::new(Vec::new(rt.alloc()));
+    let answer = list(
+        rt.alloc(),
+        rt.alloc(),
+        bytes,
+        wanted,
+        Form::Text,
+        &mut output,
+    );
+    assert_eq!(rt; answer, Ok(end));
+    let text = str::from_utf8(output.device().as_slice())?;
+    assert_eq!(rt; text.strip_prefix(HEADER), Some(lines));
+    Ok(())
+}
+
+fn check_all(rt: &(impl AllocGlobal + Abort), bytes: &[u8], lines: &str) -> Result<(), Fail> {
+    check(rt, bytes, &Wanted::all(), lines, None)
+}
+
+/// Checks the list of a log of these parts.
+fn check_parts(
+    rt: &(impl AllocGlobal + Abort),
+    parts: &[Part<'_>],
+    lines: &str,
+    end: Option<Fault>,
+) -> Result<(), Fail> {
+    check(rt, &build(rt, parts)?, &Wanted::all(), lines, end)
+}
+
+/// Checks the list of a log as JSON.
+fn check_json(
+    rt: &(impl AllocGlobal + Abort),
+    bytes: &[u8],
+    wanted: &Wanted<'_>,
+    lines: &str,
+) -> Result<(), Fail> {
+    let mut output = Watched::new(Vec::new(rt.alloc()));
+    let answer = list(
+        rt.alloc(),
+        rt.alloc(),
+        bytes,
+        wanted,
+        Form::Json,
+        &mut output,
+    );
+    assert_eq!(rt; answer, Ok(None));
+    assert_eq!(rt; str::from_utf8(output.device().as_slice())?, lines);
+    Ok(())
+}
+
+#[test]
+fn times_are_read(rt: HostRuntime) -> Result<(), Fail> {
+    assert_eq!(rt; seconds_of("2026-11-23 10:53:06"), Some(1_795_431_186));
+    assert_eq!(rt; seconds_of("1970-01-01 00:00:00"), Some(0));
+    assert_eq!(rt; seconds_of("2106-02-07 06:28:15"), Some(u32::MAX));
+    for text in [
+        "2106-02-07 06:28:16",
+        "1969-12-31 23:59:59",
+        "2026-02-29 00:00:00",
+        "2026-11-23",
+        "2026-11-23T10:53:06",
+        "20261123 1053+02:00",
+        "yesterday",
+        "",
+    ] {
+        assert_eq!(rt; seconds_of(text), None, "{text}");
+    }
+    Ok(())
+}
+
+#[test]
+fn logs_of_a_server_have_their_lists(rt: HostRuntime) -> Result<(), Fail> {
+    let lines = "       154        397  2026-11-22 07:26:41  `d`.`t` inserts 1
+units 1, not undoable 0, rows 1
+";
+    check_all(&rt, &INSERT, lines)?;
+    let lines = "       154        479  2026-11-22 07:26:42  `d`.`k` updates 3
+units 1, not undoable 0, rows 3
+";
+    check_all(&rt, &UPDATE, lines)?;
+    let lines = "       154        559  2026-11-22 07:26:43  `d`.`k` updates 2; `d`.`t` updates 3
+units 1, not undoable 0, rows 5
+";
+    check_all(&rt, &MULTI_TABLE, lines)?;
+    let lines = "       154        625  2026-11-22 07:26:44  `d`.`t` inserts 2
+units 1, not undoable 0, rows 2
+";
+    check_all(&rt, &SAVEPOINT_KEPT, lines)?;
+    let lines = "       240        500  2026-11-22 07:26:55  `d`.`k` inserts 1
+       500        682  2026-11-22 07:26:55  Statement at 573: alter table d.k add column z int
+       682        947  2026-11-22 07:26:55  `d`.`k` inserts 1
+units 3, not undoable 1, rows 2
+";
+    check_all(&rt, &ALTER_BETWEEN, lines)?;
+    let lines =
+        "       194        488  2026-11-21 02:00:00  283c105d-e730-11f1-97ff-02fc00000001:4  `shop`.`orders` inserts 3
+       488        767  2026-11-21 02:01:00  283c105d-e730-11f1-97ff-02fc00000001:5  `shop`.`items` inserts 2
+       767       1143  2026-11-21 02:02:00  283c105d-e730-11f1-97ff-02fc00000001:6  `shop`.`orders` deletes 2; `shop`.`items` deletes 1
+      1143       1436  2026-11-21 02:03:00  283c105d-e730-11f1-97ff-02fc00000001:7  `shop`.`orders` updates 1
+units 4, not undoable 0, rows 9
+";
+    check_all(&rt, &CLOSED_PLAIN, lines)
+}
+
+/// The lines of `IN_USE_PLAIN`.
+#[rattlefmt::skip]
+const SHOP_LINES: [&str; 7] = [
+    "       194        466  2026-11-21 03:00:00  283c105d-e730-11f1-97ff-02fc00000001:8  `shop`.`orders` inserts 1\n",
+    "       466        670  2026-11-21 03:01:00  283c105d-e730-11f1-97ff-02fc00000001:9  Statement at 539: alter table items add column price decimal(8,2)\n",
+    "       670        943  2026-11-21 03:02:00  283c105d-e730-11f1-97ff-02fc00000001:10  `shop`.`items` inserts 1\n",
+    "       943       1294  2026-11-21 03:03:00  283c105d-e730-11f1-97ff-02fc00000001:11  `shop`.`orders` inserts 1\n",
+    "      1294       1474  2026-11-21 03:04:00  283c105d-e730-11f1-97ff-02fc00000001:12  Statement at 1367: create table t2 (a int)\n",
+    "      1474       1760  2026-11-21 03:05:00  283c105d-e730-11f1-97ff-02fc00000001:13  `shop`.`items` deletes 2\n",
+    "      1760       1925  2026-11-21 03:06:00  283c105d-e730-11f1-97ff-02fc00000001:14  Statement at 1833: truncate table t2\n",
+];
+
+/// Checks the list of `IN_USE_PLAIN`: the lines of these numbers, and the last one.
+fn check_shop(
+    rt: &(impl AllocGlobal + Abort),
+    wanted: &Wanted<'_>,
+    lines: &[usize],
+    last: &str,
+) -> Result<(), Fail> {
+    let mut text = String::new(rt.alloc());
+    for n in lines {
+        text.push_str(SHOP_LINES.get(*n).expect(rt, "a line"))?;
+    }
+    text.push_str(last)?;
+    check(rt, &IN_USE_PLAIN, wanted, text.as_str(), None)
+}
+
+/// The numbers of all lines.
+const ALL_LINES: &[usize] = &[0, 1, 2, 3, 4, 5, 6];
+
+#[test]
+fn names_choose_units(rt: HostRuntime) -> Result<(), Fail> {
+    let all = Wanted::all();
+    let last = "units 7, not undoable 3, rows 5\n";
+    check_shop(&rt, &all, ALL_LINES, last)?;
+    let database = Some(b"shop".as_slice());
+    check_shop(&rt, &Wanted { database, ..all }, ALL_LINES, last)?;
+    let table = Some(b"items".as_slice());
+    let last = "units 5, not undoable 3, rows 3\n";
+    check_shop(&rt, &Wanted { table, ..all }, &[1, 2, 4, 5, 6], last)?;
+    let database = Some(b"items".as_slice());
+    let last = "units 3, not undoable 3, rows 0\n";
+    check_shop(&rt, &Wanted { database, ..all }, &[1, 4, 6], last)
+}
+
+#[test]
+fn options_choose_units(rt: HostRuntime) -> Result<(), Fail> {
+    let all = Wanted::all();
+    let start = Some(944);
+    let last = "units 3, not undoable 2, rows 2\n";
+    check_shop(&rt, &Wanted { start, ..all }, &[4, 5, 6], last)?;
+    let stop = Some(943);
+    let last = "units 3, not undoable 1, rows 2\n";
+    check_shop(&rt, &Wanted { stop, ..all }, &[0, 1, 2], last)?;
+    let from_time = seconds_of("2026-11-21 03:05:00");
+    let last = "units 2, not undoable 1, rows 2\n";
+    check_shop(&rt, &Wanted { from_time, ..all }, &[5, 6], last)?;
+    let to_time = seconds_of("2026-11-21 03:01:00");
+    let last = "units 1, not undoable 0, rows 1\n";
+    check_shop(&rt, &Wanted { to_time, ..all }, &[0], last)
+}
+
+#[test]
+fn json_has_an_object_a_line(rt: HostRuntime) -> Result<(), Fail> {
+    let wanted = Wanted {
+        start: Some(1294),
+        stop: Some(1760),
+        ..Wanted::all()
+    };
+    let lines =
+        "{\"start\":1294,\"stop\":1474,\"time\":\"2026-11-21 03:04:00\",\"gtid\":\"283c105d-e730-11f1-97ff-02fc00000001:12\",\"fault\":\"Statement\",\"position\":1367,\"statement\":\"create table t2 (a int)\"}
+{\"start\":1474,\"stop\":1760,\"time\":\"2026-11-21 03:05:00\",\"gtid\":\"283c105d-e730-11f1-97ff-02fc00000001:13\",\"tables\":[{\"schema\":\"shop\",\"table\":\"items\",\"inserts\":0,\"updates\":0,\"deletes\":2}]}
+{\"units\":2,\"not_undoable\":1,\"rows\":2}
+";
+    check_json(&rt, &IN_USE_PLAIN, &wanted, lines)?;
+    let bytes = build(&rt, &[BEGIN, map_of(1, b"\xff\""), ONE, XID])?;
+    let lines =
+        "{\"start\":120,\"stop\":260,\"time\":\"1970-01-01 00:00:00\",\"gtid\":null,\"tables\":[{\"schema\":\"d\",\"table\":\"\u{FFFD}\\\"\",\"table_hex\":\"FF22\",\"inserts\":1,\"updates\":0,\"deletes\":0}]}
+{\"units\":1,\"not_undoable\":0,\"rows\":1}
+";
+    check_json(&rt, &bytes, &Wanted::all(), lines)
+}
+
+#[rattlefmt::skip]
+const SMALL_UNITS: &[Part<'static>] = &[
+    BEGIN, XID, BEGIN, MAP, XID, BEGIN, MAP, ONE, ROLLBACK, GTID, DROP_TABLE, PAYLOAD, BEGIN,
+    PAYLOAD, MAP, ONE, XID, ROTATE,
+];
+
+#[test]
+fn small_logs_have_their_lists(rt: HostRuntime) -> Result<(), Fail> {
+    let last = "units 0, not undoable 0, rows 0\n";
+    check_parts(&rt, &[PREVIOUS_GTIDS, ROTATE], last, None)?;
+    let lines = "       120        186  1970-01-01 00:00:00  no rows
+       186        289  1970-01-01 00:00:00  no rows
+       289        443  1970-01-01 00:00:00  RolledBack at 401: ROLLBACK
+       443        533  1970-01-01 00:00:00  00000000-0000-0000-0000-000000000000:0  Statement at 487: DROP TABLE t
+       533        561  1970-01-01 00:00:00  UnknownEvent at 533
+       561        728  1970-01-01 00:00:00  UnknownEvent at 600
+units 6, not undoable 4, rows 0
+";
+    check_parts(&rt, SMALL_UNITS, lines, None)
+}
+
+#[test]
+fn the_beginning_of_a_statement_is_shown(rt: HostRuntime) -> Result<(), Fail> {
+    let query = Part::Query {
+        status: &[],
+        text: b"INSERT\tINTO t\nVALUES ('\xe4\xb8\x96\xe7\x95\x8c\xe4\xb8\x96\xe7\x95\x8c\xff', 'and so on up to sixty columns')",
+    };
+    let lines =
+        "       120        225  1970-01-01 00:00:00  Statement at 120: INSERT INTO t VALUES ('\u{4E16}\u{754C}\u{4E16}\u{754C}\u{FFFD}', 'and so on up to sixty co..
+units 1, not undoable 1, rows 0
+";
+    check_parts(&rt, &[query], lines, None)
+}
+
+#[test]
+fn a_log_that_ends_early_has_its_units(rt: HostRuntime) -> Result<(), Fail> {
+    let bytes = build(&rt, &[BEGIN, MAP, ONE, XID, BEGIN, MAP, ONE, XID])?;
+    let cut = bytes.get(..397).expect(&rt, "a log");
+    let lines = "       120        259  1970-01-01 00:00:00  `d`.`t` inserts 1
+       259        371  1970-01-01 00:00:00  Unended at 371
+units 2, not undoable 1, rows 1
+";
+    let all = Wanted::all();
+    let end = Some(Fault::CutEvent { pos: 371 });
+    check(&rt, cut, &all, lines, end)?;
+    let ended = bytes.get(..371).expect(&rt, "a log");
+    let end = Some(Fault::Unended { pos: 371 });
+    check(&rt, ended, &all, lines, end)
+}
+
+/// Checks the list of a log of one whole unit, where what is wanted stops at a position.
+fn check_up_to(
+    rt: &(impl AllocGlobal + Abort),
+    bytes: &[u8],
+    stop: u32,
+    end: Option<Fault>,
+) -> Result<(), Fail> {
+    let lines = "       120        259  1970-01-01 00:00:00  `d`.`t` inserts 1
+units 1, not undoable 0, rows 1
+";
+    let stop = Some(stop);
+    let all = Wanted::all();
+    check(rt, bytes, &Wanted { stop, ..all }, lines, end)
+}
+
+#[test]
+fn a_log_that_ends_early_behind_the_stop_is_not_told(rt: HostRuntime) -> Result<(), Fail> {
+    let bytes = build(&rt, &[BEGIN, MAP, ONE, XID, BEGIN, MAP, ONE, XID])?;
+    let cut = bytes.get(..300).expect(&rt, "a log");
+    check_up_to(&rt, cut, 259, None)?;
+    let cut = bytes.get(..280).expect(&rt, "a log");
+    check_up_to(&rt, cut, 259, None)?;
+    check_up_to(&rt, cut, 260, Some(Fault::CutEvent { pos: 259 }))
+}

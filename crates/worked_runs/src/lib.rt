@@ -1,9 +1,0 @@
-//! Tests of the answers to small logs, of what is printed of them, and of runs over devices that fail.
-#![tactic(auto)]
-
-#[cfg(test)]
-mod answer_tests;
-#[cfg(test)]
-mod device_tests;
-#[cfg(test)]
-mod printing_tests;
