@@ -116,13 +116,6 @@ images_stop layout (b ∷ bytes) some e = nothing_then (and_images (length bytes
 abbrev pub counted : ℕ → Option (List (List ℕ)) → Option ℕ
 counted done o = option_map (λ more. done + length more) o
 
-none_counted : (o : Option (List (List ℕ))) → counted 0 o ≡ option_map length o
-none_counted None = refl
-none_counted (Some images) = ap Some (omega arith)
-
-pub count_begins : (layout : Layout) (bytes : List ℕ) → counted 0 (images_of layout bytes) ≡ option_map length (images_of layout bytes)
-count_begins layout bytes = none_counted (images_of layout bytes)
-
 one_counted : (done : ℕ) (image : List ℕ) (o : Option (List (List ℕ))) → counted (done + 1) o ≡ counted done (option_map (λ images. image ∷ images) o)
 one_counted done image None = refl
 one_counted done image (Some images) = ap Some (omega arith)
