@@ -164,50 +164,40 @@ cut_is n bytes a b e =
 
 -- its types are there
 pub known_types : {P : Type 0} (bytes : List ℕ) → is_ok (layout_behind bytes) ≡ true → types_front bytes ≡ None → P
-known_types bytes ok none = let bad : layout_behind bytes ≡ Err BadBody = no_types bytes none in let is : is_ok (layout_behind bytes) ≡ false = ap is_ok bad in absurd (cc)
+known_types bytes ok none = let bad = ap is_ok (no_types bytes none) in absurd (cc)
 
--- and so is its metadata, behind the number
+-- and so is its metadata
+known_metadata : {P : Type 0} (bytes types behind : List ℕ) → is_ok (layout_behind bytes) ≡ true → types_front bytes ≡ Some (types, behind)
+    → ((layout : Layout) (metadata : List ℕ × List ℕ) → layout_behind bytes ≡ Ok layout → metadata_front (metadata_total types) behind ≡ Some metadata → behind_metadata types metadata ≡ Ok layout → P) → P
+known_metadata bytes types behind ok e k =
+    ok_there (layout_behind bytes) ok (λ layout read.
+    check_found (are_known types) UnknownType _ layout (sym (layout_parts bytes ∙ rw e refl) ∙ read) (λ types_known e1.
+    step_found (metadata_front (metadata_total types) behind) _ layout e1 (λ metadata metadata_is e2. k layout metadata read metadata_is e2)))
+
+pub known_unnumbered : {P : Type 0} (bytes types behind : List ℕ) → is_ok (layout_behind bytes) ≡ true → types_front bytes ≡ Some (types, behind) → packed_front behind ≡ None → P
+unfolding metadata_front
+known_unnumbered bytes types behind ok e none = known_metadata bytes types behind ok e (λ layout metadata read is e1. let bad = rw none at is in absurd (cc))
+
+-- what is known of a layout, by the number in front of its metadata
 pub record KnownBehind (bytes types behind : List ℕ) (n : ℕ × List ℕ × List ℕ) : Type 0 where
-  pub number : packed_front behind ≡ Some n
   pub fits : n.0 ≤ length n.2
   pub whole : metadata_total types ≡ length (take n.0 n.2)
   pub known : list_all is_column (columns_of types (take n.0 n.2)) ≡ true
   pub read : layout_behind bytes ≡ Ok (columns_of types (take n.0 n.2))
 
-pub known_behind : (bytes types behind : List ℕ) → is_ok (layout_behind bytes) ≡ true → types_front bytes ≡ Some (types, behind) → (n : ℕ × List ℕ × List ℕ) × KnownBehind bytes types behind n
-unfolding metadata_front
-known_behind bytes types behind ok e =
-    ok_there (layout_behind bytes) ok (λ layout read.
-    check_found (are_known types) UnknownType _ layout (sym (layout_parts bytes ∙ rw e refl) ∙ read) (λ types_known e1.
-    step_found (metadata_front (metadata_total types) behind) _ layout e1 (λ metadata metadata_is e2.
-    check_found (list_all is_column (columns_of types metadata.0)) BadBody _ layout e2 (λ stored e3.
-    check_found (leb (bitmap_len (length types)) (length metadata.1)) BadBody _ layout e3 (λ fits e4.
-    let sized : (n : ℕ × List ℕ × List ℕ) × (packed_front behind ≡ Some n) × (cond (eqb n.0 (metadata_total types)) (cut n.0 n.2) None ≡ Some metadata) = and_then_found _ (packed_front behind) metadata metadata_is in
-    let n = sized.0 in
-    let test = test_found (eqb n.0 (metadata_total types)) (cut n.0 n.2) metadata sized.2 in
-    let own : (n.0 ≤ length n.2) × (take n.0 n.2 ≡ metadata.0) = cut_is n.0 n.2 metadata.0 metadata.1 test.1 in
-    let long : length metadata.0 ≡ metadata_total types = metadata_found (metadata_total types) behind metadata.0 metadata.1 metadata_is in
-    let same : columns_of types metadata.0 ≡ layout = same_ok (columns_of types metadata.0) layout e4 in
-    let last : columns_of types (take n.0 n.2) ≡ columns_of types metadata.0 = ap (columns_of types) own.1 in (
-      n,
-      record {
-        number = sized.1;
-        fits = own.0;
-        whole = sym long ∙ ap length (sym own.1);
-        known = ap (list_all is_column) last ∙ stored;
-        read = read ∙ ap Ok (sym same ∙ sym last);
-      },
-    ))))))
-
--- the number that was read is that one
 pub known_number : (bytes types behind : List ℕ) (n : ℕ × List ℕ × List ℕ) → is_ok (layout_behind bytes) ≡ true → types_front bytes ≡ Some (types, behind) → packed_front behind ≡ Some n
     → KnownBehind bytes types behind n
+unfolding metadata_front
 known_number bytes types behind n ok e number =
-    let known = known_behind bytes types behind ok e in
-    let same : known.0 ≡ n = let own : packed_front behind ≡ Some known.0 = known.1.number in cc in
-    subst (λ m. KnownBehind bytes types behind m) same known.1
-
-pub known_unnumbered : {P : Type 0} (bytes types behind : List ℕ) → is_ok (layout_behind bytes) ≡ true → types_front bytes ≡ Some (types, behind) → packed_front behind ≡ None → P
-known_unnumbered bytes types behind ok e none =
-    let known = known_behind bytes types behind ok e in
-    none_is_not known.0 (sym none ∙ known.1.number)
+    known_metadata bytes types behind ok e (λ layout metadata read metadata_is e1.
+    check_found (list_all is_column (columns_of types metadata.0)) BadBody _ layout e1 (λ stored e2.
+    check_found (leb (bitmap_len (length types)) (length metadata.1)) BadBody _ layout e2 (λ fits e3.
+    let test = test_found (eqb n.0 (metadata_total types)) (cut n.0 n.2) metadata (rw number at metadata_is) in
+    let own : (n.0 ≤ length n.2) × (take n.0 n.2 ≡ metadata.0) = cut_is n.0 n.2 metadata.0 metadata.1 test.1 in
+    let long : length metadata.0 ≡ metadata_total types = metadata_found (metadata_total types) behind metadata.0 metadata.1 metadata_is in
+    record {
+      fits = own.0;
+      whole = sym long ∙ ap length (sym own.1);
+      known = rw own.1 stored;
+      read = read ∙ sym e3 ∙ rw own.1 refl;
+    })))
