@@ -4,7 +4,7 @@ use crate::failure::Failure;
 use crate::stopwatch::{Best, Stopwatch};
 use blog_event::constants::TABLE_MAP_EVENT;
 use blog_event::{Event, Log};
-use blog_row::{Layout, RowsEvent, RowsHead, RowsKind, TableMap};
+use blog_row::{Layout, RowsAction, RowsEvent, RowsHead, RowsKind, TableMap};
 use std::alloc::{AllocError, Allocator};
 use std::rt::Runtime;
 use std::time::CpuClock;
@@ -84,7 +84,7 @@ fn read_all<'a, A: Allocator>(
 ) -> Result<(), AllocError> {
     read.clear();
     for event in unread {
-        if let Ok(rows) = RowsEvent::read_as(event.kind, event.body, &event.layout) {
+        if let Ok((rows, _)) = RowsEvent::read_counted(event.kind, event.body, &event.layout) {
             read.push(rows)?;
         }
     }
@@ -123,7 +123,10 @@ fn sizes_of(read: &[RowsEvent<'_>]) -> Sizes {
     };
     for event in read {
         let rows = event.rows().count() as u64;
-        let images = rows.saturating_mul(event.kind().action.images_a_row() as u64);
+        let images = match event.kind().action {
+            RowsAction::Update => rows.saturating_mul(2),
+            RowsAction::Write | RowsAction::Delete => rows,
+        };
         sizes.rows = sizes.rows.saturating_add(rows);
         let values = images.saturating_mul(event.layout().columns() as u64);
         sizes.values = sizes.values.saturating_add(values);

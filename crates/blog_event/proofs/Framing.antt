@@ -409,14 +409,3 @@ pub record IsWhole (bytes : List ℕ) (es : List Event) : Type 0 where
 -- the events that are read are events
 pub read-events : (bytes : List ℕ) (stop : Option ℕ) → AreBytes bytes → AllByRecursion IsEvent (read bytes stop)
 read-events bytes stop are = (read-front bytes stop are).events
-
--- events that are read of a file stand in it
-pub read-whole : (bytes : List ℕ) (stop : Option ℕ) (e : Event) (es : List Event) → AreBytes bytes → read bytes stop ≡ e ∷ es → IsWhole bytes (e ∷ es)
-read-whole bytes stop e es are is =
-    let P : List Event → Type 0 = λ read. IsFront bytes stop read in
-    let front = subst P is (read-front bytes stop are) in
-    let file = front.file (omega arith) in
-    let lengths : length bytes ≡ length (file_text (e ∷ es) ++ file.0) = ap length file.1 in
-    let parts = length-append (file_text (e ∷ es)) file.0 in
-    let texts = texts-length 4 (e ∷ es) in
-    record { events = front.events; file = file; within = omega arith }

@@ -1,9 +1,9 @@
 -- Opening a log: which of the checks of a file decides, from the first on.
-use Rattle.std.proofs.Common.{◌≡◌, ℕ, ◌^◌, ◌<◌, ◌≤◌, Bool, true, false, List, [], ◌∷◌, length, take, drop, bytes_eq, Option, Some, None, refl, sym, ap, ◌∙◌}
+use Rattle.std.proofs.Common.{◌≡◌, ℕ, ◌^◌, ◌<◌, Bool, true, false, List, [], ◌∷◌, length, take, drop, bytes_eq, Option, Some, None, refl, sym, ap, ◌∙◌}
 use Rattle.std.specs.Prelude.{nat_lt, is_some, Result, Ok, Err, IsErrAnd}
 use Rattle.std.specs.Result.{result_err}
 use Rattle.std.specs.Option.{option_map_or}
-use Rattle.std.proofs.lemmas.Bool.{lt-ltb, le-ltb, ltb-true}
+use Rattle.std.proofs.lemmas.Bool.{lt-ltb, ltb-true}
 use Rattle.std.proofs.lemmas.Option.{none-some}
 use Rattle.std.proofs.lemmas.Slice.Eq.{bytes_eq-Decides}
 use Rattle.blog_event.specs.declared.fault.Fault.{Fault}
@@ -15,20 +15,6 @@ use Rattle.blog_event.specs.Format.{description_fault, format_fault}
 use Rattle.blog_event.specs.Opening.{opening_by, unchecked, opening_fault, front_fault, IsLog, OpensLogs}
 
 -- ---- as far as the event behind the magic number, with any check of it
-
--- more bytes than a position reaches
-pub opening-long : (check : Event → Option Cause) (bytes : List ℕ) → 2 ^ 32 ≤ length bytes → opening_by check bytes ≡ Some (TooLong 0)
-opening-long check bytes long = let short : nat_lt (length bytes) (2 ^ 32) ≡ false = le-ltb (length bytes) (2 ^ 32) long in rw short refl
-
--- bytes that don't begin with the magic number
-pub opening-unmarked : (check : Event → Option Cause) (bytes : List ℕ) → length bytes < 2 ^ 32 → bytes_eq (take 4 bytes) magic ≡ false
-    → opening_by check bytes ≡ Some (NotABinlog 0)
-opening-unmarked check bytes few mark = let short : nat_lt (length bytes) (2 ^ 32) ≡ true = lt-ltb (length bytes) (2 ^ 32) few in rw (short, mark) refl
-
--- no event behind the magic number
-pub opening-cut : (check : Event → Option Cause) (bytes : List ℕ) → length bytes < 2 ^ 32 → bytes_eq (take 4 bytes) magic ≡ true → event_at (drop 4 bytes) ≡ None
-    → opening_by check bytes ≡ Some (CutEvent 4)
-opening-cut check bytes few mark none = let short : nat_lt (length bytes) (2 ^ 32) ≡ true = lt-ltb (length bytes) (2 ^ 32) few in rw (short, mark, none) refl
 
 -- a check that is the last of all decides
 last-decides : (check : Option Fault) → first_failing (check ∷ []) ≡ check

@@ -184,7 +184,7 @@ fn check_server(body: &[u8]) -> Result<u8, Fault>
 /// The checksum algorithm of a file's events by its first event: 0 none, 1 CRC-32; 0 for a server below 5.6.1. Or the
 /// first check of that event that fails, a fault at 4: it is a format description of this profile, of a server whose
 /// version can be read.
-pub fn check_description(event: &Event<'_>) -> Result<u8, Fault>
+pub(crate) fn check_description(event: &Event<'_>) -> Result<u8, Fault>
     ensures exact { result_err result ≡ fault_at 4 (description_fault (event_of event.now)) }
     ensures algorithm { IfOk result (λ found. found ≡ algorithm event.now.body.now) }
 {
@@ -196,7 +196,7 @@ pub fn check_description(event: &Event<'_>) -> Result<u8, Fault>
 
 /// The first check of a file's first event that fails, a fault at 4: it is a format description of this profile, of a
 /// server whose version can be read, without checksums.
-pub fn check_format(event: &Event<'_>) -> Result<(), Fault>
+pub(crate) fn check_format(event: &Event<'_>) -> Result<(), Fault>
     ensures exact { result_err result ≡ fault_at 4 (format_fault (event_of event.now)) }
 {
     if check_description(event)? != 0 {

@@ -14,7 +14,6 @@ mod writing;
 pub use event::{Event, Header};
 pub use events::Events;
 pub use fault::Fault;
-pub use format::{check_description, check_format};
 pub use laws::{
     events_left_are_determined, fronts_grow_to_the_read_list, items_are_the_events_left,
     opened_log_is_read_on, opened_logs_have_their_parts, read_list_is_longest,

@@ -30,19 +30,7 @@ pub struct Wanted<'w> {
     pub table: Option<&'w [u8]>,
 }
 
-impl<'w> Wanted<'w> {
-    /// All units.
-    pub fn all() -> Wanted<'w> {
-        Wanted {
-            start: None,
-            stop: None,
-            from_time: None,
-            to_time: None,
-            database: None,
-            table: None,
-        }
-    }
-
+impl Wanted<'_> {
     /// Whether a unit is wanted.
     pub(crate) fn has<A: Allocator>(&self, unit: &Unit<'_, A>) -> bool
         ensures { result ≡ is_wanted_unit self.now unit.now }

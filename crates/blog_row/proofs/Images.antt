@@ -161,12 +161,6 @@ taken_is bytes image rest e =
     let l : length image ≡ length bytes - length rest = omega (arith, ap length e, length-append image rest) in
     ap (take (length bytes - length rest)) e ∙ take_at image rest (length bytes - length rest) l
 
--- an image reads wherever it stands, whatever follows
-pub image_reads : (layout : Layout) (bytes : List ℕ) (row : Row) (rest : List ℕ) → image_front layout bytes ≡ Some (row, rest) → (more : List ℕ) → image_front layout (take (length bytes - length rest) bytes ++ more) ≡ Some (row, more)
-image_reads layout bytes row rest e more =
-    let f : (image : List ℕ) × IsImage layout row image × (bytes ≡ image ++ rest) = image_found layout bytes row rest e in
-    ap (λ (t : List ℕ). image_front layout (t ++ more)) (taken_is bytes f.0 rest f.2) ∙ image_again layout row f.0 more f.1
-
 -- ---- images, one after the other
 
 -- the image in front of what is left, and the images of that

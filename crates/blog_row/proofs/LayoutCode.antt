@@ -57,17 +57,17 @@ by_end n m bytes f h y e same = by_case (leb n (length bytes)) refl
 -- ---- the columns behind the names, part by part
 
 -- what follows the metadata
-pub behind_metadata : List ℕ → List ℕ × List ℕ → Result Layout RowFault
+abbrev pub behind_metadata : List ℕ → List ℕ × List ℕ → Result Layout RowFault
 behind_metadata types metadata =
     check (list_all is_column (columns_of types metadata.0)) BadBody
     (check (leb (bitmap_len (length types)) (length metadata.1)) BadBody (Ok (columns_of types metadata.0)))
 
 -- what follows the types
-pub behind_types : List ℕ × List ℕ → Result Layout RowFault
+abbrev pub behind_types : List ℕ × List ℕ → Result Layout RowFault
 behind_types types = check (are_known types.0) UnknownType (or_bad (metadata_front (metadata_total types.0) types.1) >>= behind_metadata types.0)
 
 pub layout_parts : (bytes : List ℕ) → layout_behind bytes ≡ (or_bad (types_front bytes) >>= behind_types)
-unfolding layout_behind layout_fields types_front metadata_front behind_metadata behind_types
+unfolding layout_behind layout_fields types_front metadata_front
 layout_parts bytes =
     by_step (packed_front bytes) _ _ _ _ (λ counted counted_is.
     by_test (leb 1 counted.0 && leb counted.0 4096) _ _ _ _ (λ few.
@@ -80,47 +80,8 @@ layout_parts bytes =
     let long : length types.0 ≡ counted.0 = (cut_found counted.0 counted.2 types.0 types.1 types_is).0 in
     by_end (bitmap_len counted.0) (bitmap_len (length types.0)) metadata.1 _ _ (columns_of types.0 metadata.0) (ap bitmap_len (sym long)) (λ x. refl)))))))))
 
--- ---- what each stop of the code gives
-
 pub no_types : (bytes : List ℕ) → types_front bytes ≡ None → layout_behind bytes ≡ Err BadBody
 no_types bytes e = layout_parts bytes ∙ ap (λ o. or_bad o >>= behind_types) e
-
--- the types are there
-types_there : (bytes types behind : List ℕ) → types_front bytes ≡ Some (types, behind) → layout_behind bytes ≡ behind_types (types, behind)
-types_there bytes types behind e = layout_parts bytes ∙ ap (λ o. or_bad o >>= behind_types) e
-
-pub unknown_type : (bytes types behind : List ℕ) → types_front bytes ≡ Some (types, behind) → are_known types ≡ false → layout_behind bytes ≡ Err UnknownType
-unfolding behind_types
-unknown_type bytes types behind e known = types_there bytes types behind e ∙ rw known
-
-pub no_metadata : (bytes types behind : List ℕ) → types_front bytes ≡ Some (types, behind) → are_known types ≡ true → metadata_front (metadata_total types) behind ≡ None → layout_behind bytes ≡ Err BadBody
-unfolding behind_types
-no_metadata bytes types behind e known none = types_there bytes types behind e ∙ rw (known, none)
-
--- what the reading has come to: its types and its metadata
-pub record ReadUpTo (bytes types behind metadata last : List ℕ) : Type 0 where
-  pub types_is : types_front bytes ≡ Some (types, behind)
-  pub known : are_known types ≡ true
-  pub metadata_is : metadata_front (metadata_total types) behind ≡ Some (metadata, last)
-
--- both are there
-metadata_there : (bytes types behind metadata last : List ℕ) → ReadUpTo bytes types behind metadata last → layout_behind bytes ≡ behind_metadata types (metadata, last)
-unfolding behind_types
-metadata_there bytes types behind metadata last r = types_there bytes types behind r.types_is ∙ rw (r.known, r.metadata_is)
-
-pub not_columns : (bytes types behind metadata last : List ℕ) → ReadUpTo bytes types behind metadata last → list_all is_column (columns_of types metadata) ≡ false → layout_behind bytes ≡ Err BadBody
-unfolding behind_metadata
-not_columns bytes types behind metadata last r e = metadata_there bytes types behind metadata last r ∙ rw e
-
-pub no_nullable : (bytes types behind metadata last : List ℕ) → ReadUpTo bytes types behind metadata last → list_all is_column (columns_of types metadata) ≡ true → leb (bitmap_len (length types)) (length last) ≡ false
-    → layout_behind bytes ≡ Err BadBody
-unfolding behind_metadata
-no_nullable bytes types behind metadata last r e short = metadata_there bytes types behind metadata last r ∙ rw (e, short)
-
-pub layout_there : (bytes types behind metadata last : List ℕ) → ReadUpTo bytes types behind metadata last → list_all is_column (columns_of types metadata) ≡ true → leb (bitmap_len (length types)) (length last) ≡ true
-    → layout_behind bytes ≡ Ok (columns_of types metadata)
-unfolding behind_metadata
-layout_there bytes types behind metadata last r e fits = metadata_there bytes types behind metadata last r ∙ rw (e, fits)
 
 -- ---- what the parts are
 
@@ -187,17 +148,6 @@ total_missing types e = by_case (are_known types) refl
     by_case true h = none_is_not (metadata_total types) (sym e ∙ rw h)
     by_case false h = h
 
--- what the calls before the last tests say
-pub read_up_to : (bytes types behind metadata last : List ℕ) (len : ℕ) → types_front bytes ≡ Some (types, behind) → total_of types ≡ Some len → metadata_front len behind ≡ Some (metadata, last)
-    → ReadUpTo bytes types behind metadata last
-read_up_to bytes types behind metadata last len e total f =
-    let there = total_there types len total in
-    record { types_is = e; known = there.0; metadata_is = ap (λ n. metadata_front n behind) there.1 ∙ f }
-
--- metadata that was read is that of the types
-pub whole_metadata : (bytes types behind metadata last : List ℕ) → ReadUpTo bytes types behind metadata last → metadata_total types ≡ length metadata
-whole_metadata bytes types behind metadata last r = sym (metadata_found (metadata_total types) behind metadata last r.metadata_is)
-
 -- ---- a layout that is known to be there
 
 -- a reading that gives a value gives some value
@@ -214,50 +164,40 @@ cut_is n bytes a b e =
 
 -- its types are there
 pub known_types : {P : Type 0} (bytes : List ℕ) → is_ok (layout_behind bytes) ≡ true → types_front bytes ≡ None → P
-known_types bytes ok none = let bad : layout_behind bytes ≡ Err BadBody = no_types bytes none in let is : is_ok (layout_behind bytes) ≡ false = ap is_ok bad in absurd (cc)
+known_types bytes ok none = let bad = ap is_ok (no_types bytes none) in absurd (cc)
 
--- and so is its metadata, behind the number
+-- and so is its metadata
+known_metadata : {P : Type 0} (bytes types behind : List ℕ) → is_ok (layout_behind bytes) ≡ true → types_front bytes ≡ Some (types, behind)
+    → ((layout : Layout) (metadata : List ℕ × List ℕ) → layout_behind bytes ≡ Ok layout → metadata_front (metadata_total types) behind ≡ Some metadata → behind_metadata types metadata ≡ Ok layout → P) → P
+known_metadata bytes types behind ok e k =
+    ok_there (layout_behind bytes) ok (λ layout read.
+    check_found (are_known types) UnknownType _ layout (sym (layout_parts bytes ∙ rw e refl) ∙ read) (λ types_known e1.
+    step_found (metadata_front (metadata_total types) behind) _ layout e1 (λ metadata metadata_is e2. k layout metadata read metadata_is e2)))
+
+pub known_unnumbered : {P : Type 0} (bytes types behind : List ℕ) → is_ok (layout_behind bytes) ≡ true → types_front bytes ≡ Some (types, behind) → packed_front behind ≡ None → P
+unfolding metadata_front
+known_unnumbered bytes types behind ok e none = known_metadata bytes types behind ok e (λ layout metadata read is e1. let bad = rw none at is in absurd (cc))
+
+-- what is known of a layout, by the number in front of its metadata
 pub record KnownBehind (bytes types behind : List ℕ) (n : ℕ × List ℕ × List ℕ) : Type 0 where
-  pub number : packed_front behind ≡ Some n
   pub fits : n.0 ≤ length n.2
   pub whole : metadata_total types ≡ length (take n.0 n.2)
   pub known : list_all is_column (columns_of types (take n.0 n.2)) ≡ true
   pub read : layout_behind bytes ≡ Ok (columns_of types (take n.0 n.2))
 
-pub known_behind : (bytes types behind : List ℕ) → is_ok (layout_behind bytes) ≡ true → types_front bytes ≡ Some (types, behind) → (n : ℕ × List ℕ × List ℕ) × KnownBehind bytes types behind n
-unfolding behind_types behind_metadata metadata_front
-known_behind bytes types behind ok e =
-    ok_there (layout_behind bytes) ok (λ layout read.
-    check_found (are_known types) UnknownType _ layout (sym (types_there bytes types behind e) ∙ read) (λ types_known e1.
-    step_found (metadata_front (metadata_total types) behind) _ layout e1 (λ metadata metadata_is e2.
-    check_found (list_all is_column (columns_of types metadata.0)) BadBody _ layout e2 (λ stored e3.
-    check_found (leb (bitmap_len (length types)) (length metadata.1)) BadBody _ layout e3 (λ fits e4.
-    let sized : (n : ℕ × List ℕ × List ℕ) × (packed_front behind ≡ Some n) × (cond (eqb n.0 (metadata_total types)) (cut n.0 n.2) None ≡ Some metadata) = and_then_found _ (packed_front behind) metadata metadata_is in
-    let n = sized.0 in
-    let test = test_found (eqb n.0 (metadata_total types)) (cut n.0 n.2) metadata sized.2 in
-    let own : (n.0 ≤ length n.2) × (take n.0 n.2 ≡ metadata.0) = cut_is n.0 n.2 metadata.0 metadata.1 test.1 in
-    let long : length metadata.0 ≡ metadata_total types = metadata_found (metadata_total types) behind metadata.0 metadata.1 metadata_is in
-    let same : columns_of types metadata.0 ≡ layout = same_ok (columns_of types metadata.0) layout e4 in
-    let last : columns_of types (take n.0 n.2) ≡ columns_of types metadata.0 = ap (columns_of types) own.1 in (
-      n,
-      record {
-        number = sized.1;
-        fits = own.0;
-        whole = sym long ∙ ap length (sym own.1);
-        known = ap (list_all is_column) last ∙ stored;
-        read = read ∙ ap Ok (sym same ∙ sym last);
-      },
-    ))))))
-
--- the number that was read is that one
 pub known_number : (bytes types behind : List ℕ) (n : ℕ × List ℕ × List ℕ) → is_ok (layout_behind bytes) ≡ true → types_front bytes ≡ Some (types, behind) → packed_front behind ≡ Some n
     → KnownBehind bytes types behind n
+unfolding metadata_front
 known_number bytes types behind n ok e number =
-    let known = known_behind bytes types behind ok e in
-    let same : known.0 ≡ n = let own : packed_front behind ≡ Some known.0 = known.1.number in cc in
-    subst (λ m. KnownBehind bytes types behind m) same known.1
-
-pub known_unnumbered : {P : Type 0} (bytes types behind : List ℕ) → is_ok (layout_behind bytes) ≡ true → types_front bytes ≡ Some (types, behind) → packed_front behind ≡ None → P
-known_unnumbered bytes types behind ok e none =
-    let known = known_behind bytes types behind ok e in
-    none_is_not known.0 (sym none ∙ known.1.number)
+    known_metadata bytes types behind ok e (λ layout metadata read metadata_is e1.
+    check_found (list_all is_column (columns_of types metadata.0)) BadBody _ layout e1 (λ stored e2.
+    check_found (leb (bitmap_len (length types)) (length metadata.1)) BadBody _ layout e2 (λ fits e3.
+    let test = test_found (eqb n.0 (metadata_total types)) (cut n.0 n.2) metadata (rw number at metadata_is) in
+    let own : (n.0 ≤ length n.2) × (take n.0 n.2 ≡ metadata.0) = cut_is n.0 n.2 metadata.0 metadata.1 test.1 in
+    let long : length metadata.0 ≡ metadata_total types = metadata_found (metadata_total types) behind metadata.0 metadata.1 metadata_is in
+    record {
+      fits = own.0;
+      whole = sym long ∙ ap length (sym own.1);
+      known = rw own.1 stored;
+      read = read ∙ sym e3 ∙ rw own.1 refl;
+    })))

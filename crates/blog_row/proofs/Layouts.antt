@@ -1,12 +1,12 @@
 -- Columns, and the type bytes and metadata bytes that spell them.
-use Rattle.std.proofs.Common.{◌≡◌, ◌≤◌, ℕ, zero, suc, true, eqb, List, [], ◌∷◌, ◌++◌, length, take, drop, Ok, is_some, leb, ◌<◌, refl, sym, ap, ◌∙◌, subst, arith}
+use Rattle.std.proofs.Common.{◌≡◌, ◌≤◌, ℕ, suc, true, eqb, List, [], ◌∷◌, ◌++◌, length, take, drop, Ok, is_some, leb, ◌<◌, refl, sym, ap, ◌∙◌, subst, arith}
 use Rattle.std.specs.List.{list_all}
 use Rattle.std.proofs.lemmas.Bool.{eqb-true, eq-eqb, leb-true, le-leb, and_parts, and_from}
-use Rattle.std.proofs.lemmas.List.{nil_from_length, take_at, drop_at, length-append, length-drop, take-append-drop, drop-drop}
+use Rattle.std.proofs.lemmas.List.{nil_from_length, take_at, drop_at, length-append, length-drop, take-append-drop}
 use Rattle.blog_row.specs.declared.fault.RowFault.TheVariants.{BadBody, UnknownType}
 use Rattle.blog_row.specs.Checks.{cut}
 use Rattle.blog_row.specs.Packed.{IsPacked, packed_front}
-use Rattle.blog_row.specs.Column.{Column, Layout, metadata_len_of, is_column, types_of, metadata_of, own_metadata_len, metadata_total, columns_of}
+use Rattle.blog_row.specs.Column.{Layout, metadata_len_of, is_column, types_of, metadata_of, own_metadata_len, metadata_total, columns_of}
 use Rattle.blog_row.specs.Image.{bitmap_len}
 use Rattle.blog_row.specs.TableMap.{names_of, LayoutFields, HasLayout, layout_fields, layout_of}
 use Rattle.blog_row.proofs.Results.{step_found, step_again, reading_found, check_found, check_again, same_ok}
@@ -25,24 +25,6 @@ types_of_columns (kind ∷ kinds) metadata = ap (λ (x : List ℕ). kind ∷ x) 
 pub length_of_columns : (kinds metadata : List ℕ) → length (columns_of kinds metadata) ≡ length kinds
 length_of_columns [] metadata = refl
 length_of_columns (kind ∷ kinds) metadata = ap suc (length_of_columns kinds (drop (own_metadata_len kind) metadata))
-
--- behind the first columns are the columns of the other types, and of the metadata behind theirs
-pub columns_behind : (n : ℕ) (kinds metadata : List ℕ) → drop n (columns_of kinds metadata) ≡ columns_of (drop n kinds) (drop (metadata_total (take n kinds)) metadata)
-columns_behind zero kinds metadata = refl
-columns_behind (suc n) [] metadata = refl
-columns_behind (suc n) (kind ∷ kinds) metadata =
-    let own = own_metadata_len kind in
-    columns_behind n kinds (drop own metadata) ∙ ap (columns_of (drop n kinds)) (drop-drop (metadata_total (take n kinds)) own metadata)
-
--- the first columns of the profile
-pub known_front : (n : ℕ) (kinds metadata : List ℕ) → list_all is_column (columns_of kinds metadata) ≡ true → list_all is_column (columns_of (take n kinds) metadata) ≡ true
-known_front zero kinds metadata e = refl
-known_front (suc n) [] metadata e = refl
-known_front (suc n) (kind ∷ kinds) metadata e =
-    let own = own_metadata_len kind in
-    let here : Column = record { kind = kind; metadata = take own metadata } in
-    let parts = and_parts (is_column here) (list_all is_column (columns_of kinds (drop own metadata))) e in
-    and_from (is_column here) (list_all is_column (columns_of (take n kinds) (drop own metadata))) parts.0 (known_front n kinds (drop own metadata) parts.1)
 
 -- metadata of the right length is the metadata of its columns
 pub metadata_of_columns : (kinds metadata : List ℕ) → metadata_total kinds ≡ length metadata → metadata_of (columns_of kinds metadata) ≡ metadata

@@ -1,5 +1,5 @@
 -- Slices are written over bytes, one after the other.
-use Rattle.std.proofs.Common.{◌≡◌, ℕ, ◌+◌, ◌-◌, ◌≤◌, List, [], ◌++◌, length, take, drop, sym, ap, ap₂, subst, ◌∙◌, arith, append-nil, append_assoc, length-append, length-drop, length-take-le, take-append-drop, take_at, drop_at, drop-drop}
+use Rattle.std.proofs.Common.{◌≡◌, ℕ, ◌+◌, ◌-◌, ◌≤◌, List, ◌++◌, length, take, drop, sym, ap, subst, ◌∙◌, arith, append_assoc, length-append, length-drop, length-take-le, take_at, drop_at, drop-drop}
 
 -- what is written and what is left to be written are all, and behind what is written stands what stood there
 pub record IsOver (all rest : List ℕ) (at : ℕ) (old to : List ℕ) : Type 0 where
@@ -42,9 +42,3 @@ over-part all part rest old to new at k within long over is =
     let number : (at + k) - at ≡ length part = omega (arith, long) in
     let behind : drop ((at + k) - at) (drop at to) ≡ drop (at + length part) to = ap (λ (n : ℕ). drop n (drop at to)) number ∙ drop-drop (length part) at to in
     subst (λ (t : List ℕ). IsOver all rest (at + k) old t) (ap (λ (t : List ℕ). take at to ++ (part ++ t)) behind ∙ sym is) (over-more all part rest old to at k within long over)
-
--- all of them
-pub over-all : (all old to : List ℕ) (at : ℕ) → IsOver all [] at old to → to ≡ all ++ drop (length all) old
-over-all all old to at over =
-    let end : at ≡ length all = let left = over.left in omega arith in
-    sym (take-append-drop at to) ∙ ap₂ ◌++◌ (sym (append-nil (take at to)) ∙ over.written) (over.behind ∙ ap (λ (n : ℕ). drop n old) end)

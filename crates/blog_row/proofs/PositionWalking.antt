@@ -1,15 +1,15 @@
 -- How the code walks over an image by positions, which may lie past the bytes.
-use Rattle.std.proofs.Common.{◌≡◌, ◌≢◌, ◌<◌, ◌≤◌, ℕ, ◌+◌, ◌-◌, ◌/◌, ◌%◌, ◌^◌, Bool, true, false, leb, eqb, List, [], ◌∷◌, length, take, drop, get_or, Option, Some, None, option_and_then, option_map, refl, sym, ap, ◌∙◌, subst, arith, le-leb, length-drop}
-use Rattle.std.specs.List.{slice_get}
+use Rattle.std.proofs.Common.{◌≡◌, ◌≢◌, ◌<◌, ◌≤◌, ℕ, ◌+◌, ◌-◌, ◌/◌, ◌%◌, ◌^◌, Bool, true, false, leb, eqb, List, [], ◌∷◌, length, take, drop, get_or, Option, Some, None, option_and_then, option_map, refl, sym, ap, ◌∙◌, subst, arith, le-leb, length-append, length-drop, take_at}
 use Rattle.std.specs.Prelude.{IfSome}
 use Rattle.std.proofs.lemmas.Bool.{cond-true, cond-false, lt-leb, eq-eqb}
 use Rattle.blog_row.specs.Checks.{cut}
 use Rattle.blog_row.specs.Column.{Column, Layout, Storage, storage_of, value_stored, value_front}
-use Rattle.blog_row.specs.Image.{Row, bitmap_len, is_marked, IsSomeImage, values_front, image_front, image_len_of}
-use Rattle.blog_row.specs.ImageView.{AreNull, at_column}
+use Rattle.blog_row.specs.Image.{Row, bitmap_len, is_marked, IsImage, IsSomeImage, values_front, image_front, image_len_of}
+use Rattle.blog_row.specs.ImageView.{AreNull}
 use Rattle.blog_row.specs.PositionView.{from_position, EndsAt, behind_from}
 use Rattle.blog_row.proofs.Cutting.{map_found}
-use Rattle.blog_row.proofs.Walking.{first_null, first_there, front_is, image_there, nulls_cut}
+use Rattle.blog_row.proofs.Images.{image_found}
+use Rattle.blog_row.proofs.Walking.{first_null, first_there, front_is, nulls_cut}
 
 -- ---- positions
 
@@ -155,8 +155,9 @@ image_none layout bytes e = len_by_rest bytes (image_front layout bytes) ∙ ap 
 pub image_of_len : (layout : Layout) (bytes : List ℕ) (m : ℕ) → image_len_of layout bytes ≡ Some m → (m ≤ length bytes) × IsSomeImage layout (take m bytes)
 image_of_len layout bytes m e =
     let r : (r : Row × List ℕ) × (image_front layout bytes ≡ Some r) × (length bytes - length r.1 ≡ m) = map_found (λ (r : Row × List ℕ). length bytes - length r.1) (image_front layout bytes) m e in
-    let there = image_there 0 layout bytes (slice_get r.0.0 0) r.0.1 (sym (ap (option_map (at_column 0)) r.1)) in
-    (omega (arith, r.2), subst (λ n. IsSomeImage layout (take n bytes)) r.2 there.image)
+    let found = image_found layout bytes r.0.0 r.0.1 r.1 in
+    let taken : take m bytes ≡ found.0 = ap (take m) found.2 ∙ take_at found.0 r.0.1 m (omega (arith, r.2, ap length found.2, length-append found.0 r.0.1)) in
+    (omega (arith, r.2), (r.0.0, subst (IsImage layout r.0.0) (sym taken) found.1))
 
 -- the same of what reading answers
 pub image_found_by : (layout : Layout) (bytes : List ℕ) (o : Option ℕ) → o ≡ image_len_of layout bytes → IfSome o (λ m. (m ≤ length bytes) × IsSomeImage layout (take m bytes))

@@ -116,13 +116,6 @@ images_stop layout (b ∷ bytes) some e = nothing_then (and_images (length bytes
 abbrev pub counted : ℕ → Option (List (List ℕ)) → Option ℕ
 counted done o = option_map (λ more. done + length more) o
 
-none_counted : (o : Option (List (List ℕ))) → counted 0 o ≡ option_map length o
-none_counted None = refl
-none_counted (Some images) = ap Some (omega arith)
-
-pub count_begins : (layout : Layout) (bytes : List ℕ) → counted 0 (images_of layout bytes) ≡ option_map length (images_of layout bytes)
-count_begins layout bytes = none_counted (images_of layout bytes)
-
 one_counted : (done : ℕ) (image : List ℕ) (o : Option (List (List ℕ))) → counted (done + 1) o ≡ counted done (option_map (λ images. image ∷ images) o)
 one_counted done image None = refl
 one_counted done image (Some images) = ap Some (omega arith)
@@ -194,65 +187,6 @@ body_parts kind layout body =
     by_next (cut 2 id.1) _ _ (after_front kind layout) (λ flags.
     by_last (extra_of kind.version flags.1) _ _ (after_front kind layout) (λ extra. refl)))
 
--- ---- what each stop of the code gives
-
-pub no_front : (kind : RowsKind) (layout : Layout) (body : List ℕ) → rows_front kind.version body ≡ None → rows_of kind layout body ≡ Err BadBody
-no_front kind layout body e = body_parts kind layout body ∙ rw e
-
--- the front is there
-pub front_there : (kind : RowsKind) (layout : Layout) (body : List ℕ) (front : FrontParts) → rows_front kind.version body ≡ Some front → rows_of kind layout body ≡ after_front kind layout front
-front_there kind layout body front e = body_parts kind layout body ∙ ap (λ (o : Option FrontParts). or_bad o >>= after_front kind layout) e
-
-pub no_count : (kind : RowsKind) (layout : Layout) (body : List ℕ) (front : FrontParts) → rows_front kind.version body ≡ Some front → packed_front front.4 ≡ None → rows_of kind layout body ≡ Err BadBody
-no_count kind layout body front e f = front_there kind layout body front e ∙ rw f
-
-pub other_count : (kind : RowsKind) (layout : Layout) (body : List ℕ) (front : FrontParts) (n : ℕ × List ℕ × List ℕ) → rows_front kind.version body ≡ Some front → packed_front front.4 ≡ Some n → eqb n.0 (length layout) ≡ false → rows_of kind layout body ≡ Err BadBody
-other_count kind layout body front n e f g = front_there kind layout body front e ∙ rw (f, g)
-
--- the count is there
-pub record Counted (kind : RowsKind) (layout : Layout) (body : List ℕ) (front : FrontParts) (n : ℕ × List ℕ × List ℕ) : Type 0 where
-  pub front_is : rows_front kind.version body ≡ Some front
-  pub count_is : packed_front front.4 ≡ Some n
-  pub own : eqb n.0 (length layout) ≡ true
-
-pub count_there : (kind : RowsKind) (layout : Layout) (body : List ℕ) (front : FrontParts) (n : ℕ × List ℕ × List ℕ) → Counted kind layout body front n
-    → rows_of kind layout body ≡ (pieces (images_a_row kind.action) (bitmap_len (length layout)) n.2 >>= after_bitmaps kind layout front n.1)
-count_there kind layout body front n c = front_there kind layout body front c.front_is ∙ rw (c.count_is, c.own) refl
-
-pub no_bitmaps : (kind : RowsKind) (layout : Layout) (body : List ℕ) (front : FrontParts) (n : ℕ × List ℕ × List ℕ) → Counted kind layout body front n
-    → pieces (images_a_row kind.action) (bitmap_len (length layout)) n.2 ≡ Err BadBody → rows_of kind layout body ≡ Err BadBody
-no_bitmaps kind layout body front n c e = count_there kind layout body front n c ∙ ap (λ (r : Result (List (List ℕ) × List ℕ) RowFault). r >>= after_bitmaps kind layout front n.1) e
-
-pub bitmaps_there : (kind : RowsKind) (layout : Layout) (body : List ℕ) (front : FrontParts) (n : ℕ × List ℕ × List ℕ) (b : List (List ℕ) × List ℕ) → Counted kind layout body front n
-    → pieces (images_a_row kind.action) (bitmap_len (length layout)) n.2 ≡ Ok b → rows_of kind layout body ≡ after_bitmaps kind layout front n.1 b
-bitmaps_there kind layout body front n b c e = count_there kind layout body front n c ∙ ap (λ (r : Result (List (List ℕ) × List ℕ) RowFault). r >>= after_bitmaps kind layout front n.1) e
-
-pub partial : (kind : RowsKind) (layout : Layout) (front : FrontParts) (count : List ℕ) (b : List (List ℕ) × List ℕ) → list_all (are_marked (length layout)) b.0 ≡ false → after_bitmaps kind layout front count b ≡ Err PartialImage
-partial kind layout front count b e = rw e
-
-pub not_images : (kind : RowsKind) (layout : Layout) (front : FrontParts) (count : List ℕ) (b : List (List ℕ) × List ℕ) → list_all (are_marked (length layout)) b.0 ≡ true → option_map length (images_of layout b.1) ≡ None
-    → after_bitmaps kind layout front count b ≡ Err BadBody
-not_images kind layout front count b e f = by_case (images_of layout b.1) refl
-  where
-    by_case : (o : Option (List (List ℕ))) → images_of layout b.1 ≡ o → after_bitmaps kind layout front count b ≡ Err BadBody
-    by_case None h = rw (e, h)
-    by_case (Some images) h = none_is_not (length images) (sym f ∙ ap (option_map length) h)
-
-pub odd_images : (kind : RowsKind) (layout : Layout) (front : FrontParts) (count : List ℕ) (b : List (List ℕ) × List ℕ) (len : ℕ) → list_all (are_marked (length layout)) b.0 ≡ true → option_map length (images_of layout b.1) ≡ Some len
-    → eqb (len % images_a_row kind.action) 0 ≡ false → after_bitmaps kind layout front count b ≡ Err BadBody
-odd_images kind layout front count b len e f g =
-    let i : (images : List (List ℕ)) × (images_of layout b.1 ≡ Some images) × (length images ≡ len) = map_found length (images_of layout b.1) len f in
-    let own : eqb (length i.0 % images_a_row kind.action) 0 ≡ false = ap (λ (k : ℕ). eqb (k % images_a_row kind.action) 0) i.2 ∙ g in
-    rw (e, i.1, own)
-
-pub all_there : (kind : RowsKind) (layout : Layout) (front : FrontParts) (count : List ℕ) (b : List (List ℕ) × List ℕ) (len : ℕ) → list_all (are_marked (length layout)) b.0 ≡ true → option_map length (images_of layout b.1) ≡ Some len
-    → eqb (len % images_a_row kind.action) 0 ≡ true
-    → after_bitmaps kind layout front count b ≡ Ok (record { id = front.0; flags = front.1; extra_len = front.2; extra = front.3; count = count; bitmaps = b.0; images = unwrap_or (images_of layout b.1) [] })
-all_there kind layout front count b len e f g =
-    let i : (images : List (List ℕ)) × (images_of layout b.1 ≡ Some images) × (length images ≡ len) = map_found length (images_of layout b.1) len f in
-    let own : eqb (length i.0 % images_a_row kind.action) 0 ≡ true = ap (λ (k : ℕ). eqb (k % images_a_row kind.action) 0) i.2 ∙ g in
-    rw (e, i.1, own)
-
 -- ---- what the reading says
 
 pub event_found : (kind : RowsKind) (layout : Layout) (body : List ℕ) (r : Result (told.RowsEvent × ℕ) RowFault) → 0 < length layout → counted_seen r ≡ rows_of kind layout body → IfOk r (λ read. IsRowsBody kind layout body (rows_body read.0))
@@ -323,6 +257,11 @@ images_are_joined layout bytes are = by_case (images_of layout bytes) refl are
     by_case : (o : Option (List (List ℕ))) → images_of layout bytes ≡ o → is_some o ≡ true → bytes ≡ concat (unwrap_or o [])
     by_case None e some = absurd (cc)
     by_case (Some images) e some = (images_found layout bytes images e).1
+
+-- images that couldn't be counted aren't there
+pub uncounted : (o : Option (List (List ℕ))) → option_map length o ≡ None → o ≡ None
+uncounted None e = refl
+uncounted (Some images) e = absurd (cc)
 
 -- images that were counted are there
 pub counted_are_there : (o : Option (List (List ℕ))) (len : ℕ) → option_map length o ≡ Some len → is_some o ≡ true

@@ -1,8 +1,9 @@
 -- How the code goes through the values of an image column by column, whether they are NULL or not.
 use Rattle.std.proofs.Common.{◌≡◌, ◌≤◌, ℕ, suc, ◌+◌, ◌-◌, true, false, Bool, is_some, List, [], ◌∷◌, length, Option, Some, None, option_and_then, option_map, unwrap_or, refl, sym, ap, ◌∙◌, arith}
+use Rattle.std.specs.List.{slice_get}
 use Rattle.blog_row.specs.Checks.{cut}
 use Rattle.blog_row.specs.Column.{Column, Layout, value_front}
-use Rattle.blog_row.specs.Image.{Row, bitmap_len, is_marked, values_front, image_front, image_len_of, row_of}
+use Rattle.blog_row.specs.Image.{Row, bitmap_len, is_marked, values_front, image_front, image_len_of, row_of, value_of}
 use Rattle.blog_row.proofs.Walking.{first_null, first_there}
 
 -- the values that were read
@@ -86,18 +87,19 @@ as_many_read (column ∷ columns) nulls i bytes whole = by_mark (is_marked nulls
 
 -- ---- an image
 
--- an image's length is known where it is read
-pub long_imaged : (layout : Layout) (bytes : List ℕ) → is_some (image_len_of layout bytes) ≡ true → is_some (image_front layout bytes) ≡ true
-long_imaged layout bytes h = by_read (image_front layout bytes) h
-  where
-    by_read : (o : Option (Row × List ℕ)) → is_some (option_map (λ r. length bytes - length r.1) o) ≡ true → is_some o ≡ true
-    by_read None h = h
-    by_read (Some r) h = refl
-
 -- the row of an image is what is read in front
 pub row_is : (layout : Layout) (bytes : List ℕ) → row_read (image_front layout bytes) ≡ row_of layout bytes
 unfolding row_of
 row_is layout bytes = refl
+
+-- a column's value is the one of its number in the row
+pub value_is : (layout : Layout) (bytes : List ℕ) (column : ℕ) → value_of layout bytes column ≡ slice_get (row_of layout bytes) column
+unfolding row_of
+value_is layout bytes column = by_read (image_front layout bytes)
+  where
+    by_read : (o : Option (Row × List ℕ)) → option_and_then (λ r. slice_get r.0 column) o ≡ slice_get (row_read o) column
+    by_read None = refl
+    by_read (Some r) = refl
 
 -- where an image has no length, nothing is read
 pub no_row : (layout : Layout) (bytes : List ℕ) → is_some (image_len_of layout bytes) ≡ false → row_of layout bytes ≡ []

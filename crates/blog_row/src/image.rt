@@ -1,27 +1,16 @@
-//! The image of a row at the front of bytes.
+//! Parts of an image: null bits, and the values behind them.
 
 ghost use Rattle.std.specs.Prelude.{◌≡◌, ◌<◌, ◌≤◌, ◌*◌, true, false, length, option_map, unwrap_or, IfSome};
-ghost use Rattle.std.specs.List.{list_all};
 ghost use Rattle.byteorder.specs.Endian.{little_number};
 ghost use Rattle.blog_row.specs.Checks.{cut, cut_seen};
-ghost use Rattle.blog_row.specs.Column.{value_stored, is_column, columns_of};
-ghost use Rattle.blog_row.specs.Image.{bitmap_len, is_marked, values_front, image_front};
+ghost use Rattle.blog_row.specs.Column.{value_stored};
+ghost use Rattle.blog_row.specs.Image.{is_marked};
 ghost use Rattle.blog_row.specs.PositionView.{EndsAt};
 ghost use Rattle.blog_row.specs.StorageView.{prefix_seen, storage_seen};
-ghost use Rattle.blog_row.specs.ImageView.{AreNull, front_seen, at_column};
+ghost use Rattle.blog_row.specs.ImageView.{AreNull};
 
 use crate::column::{Prefix, Storage};
-use crate::layout::{column_at, metadata_behind};
 use byteorder::{ByteOrder, LittleEndian};
-
-/// An image at the front of bytes.
-#[derive(Clone, Copy, Debug)]
-pub(crate) struct ImageFront<'a> {
-    /// The value of the column that was asked for, where the image has it; None in it where it is NULL.
-    pub(crate) value: Option<Option<&'a [u8]>>,
-    /// The bytes behind the image.
-    pub(crate) rest: &'a [u8],
-}
 
 /// The first bytes, so many of them, and those behind them.
 #[inline(always)]
@@ -105,57 +94,4 @@ pub(crate) fn next_value(nulls: &[u8], from: usize, columns: usize) -> Option<us
         i += if eight { 8 } else { 1 };
     }
     None
-}
-
-/// The values of columns at the front, by their null bits. The metadata of NULL columns is passed over only where a
-/// value comes after them.
-#[inline(always)]
-fn values_at<'a>(
-    kinds: &[u8],
-    metadata: &[u8],
-    nulls: &[u8],
-    bytes: &'a [u8],
-    column: usize,
-) -> Option<ImageFront<'a>>
-    requires known { list_all is_column (columns_of kinds.now metadata.now) ≡ true }
-    requires long { length nulls.now ≡ bitmap_len (length kinds.now) }
-    ensures { option_map front_seen result ≡ option_map (at_column column) (values_front (columns_of kinds.now metadata.now) nulls.now 0 bytes.now) }
-{
-    // A column is NULL until its value is met.
-    let mut value = if column < kinds.len() {
-        Some(None)
-    } else {
-        None
-    };
-    let mut rest = bytes;
-    let mut left = metadata;
-    let mut done = 0;
-    'columns: while let Some(i) = next_value(nulls, done, kinds.len()) {
-        let own = metadata_behind(&kinds[done..i], left);
-        let (storage, others) = column_at(kinds, i, own);
-        let (here, behind) = stored_at(storage, rest)?;
-        if i == column {
-            value = Some(Some(here));
-        }
-        rest = behind;
-        left = others;
-        done = i + 1;
-    }
-    Some(ImageFront { value, rest })
-}
-
-/// The image at the front, if one stands there, with the value of a column in it
-/// (MySQL Internals manual, "Rows_event").
-#[inline(always)]
-pub(crate) fn image_at<'a>(
-    kinds: &[u8],
-    metadata: &[u8],
-    bytes: &'a [u8],
-    column: usize,
-) -> Option<ImageFront<'a>>
-    requires { list_all is_column (columns_of kinds.now metadata.now) ≡ true }
-    ensures { option_map front_seen result ≡ option_map (at_column column) (image_front (columns_of kinds.now metadata.now) bytes.now) }
-{
-    let (nulls, values) = cut_at(kinds.len().div_ceil(8), bytes)?;
-    values_at(kinds, metadata, nulls, values, column)
 }

@@ -30,7 +30,7 @@ impl RowsAction {
     ghost use Rattle.blog_row.specs.RowsKind.{images_a_row, opposite};
 
     /// How many images a row has, and how many bitmaps an event: two in an update, else one.
-    pub fn images_a_row(self) -> usize
+    pub(crate) fn images_a_row(self) -> usize
         ensures images { result ≡ images_a_row self }
     {
         match self {
@@ -40,7 +40,7 @@ impl RowsAction {
     }
 
     /// What undoes it: inserting and deleting are exchanged.
-    pub fn opposite(self) -> RowsAction
+    pub(crate) fn opposite(self) -> RowsAction
         ensures { result ≡ opposite self }
     {
         match self {

@@ -9,7 +9,6 @@ ghost use Rattle.blog_row.specs.StorageView.{storage_seen};
 
 use crate::column::{Storage, metadata_len, stored_as};
 use crate::fault::RowFault;
-use crate::image::image_at;
 use crate::names::names_at;
 use crate::packed::packed_at;
 use crate::storages::{MOST_STORAGES, len_by, storages_of};
@@ -50,22 +49,6 @@ fn are_columns(kinds: &[u8], metadata: &[u8]) -> bool
         left = others;
     }
     true
-}
-
-/// The metadata behind that of the columns of these types, with which it begins.
-#[inline(always)]
-pub(crate) fn metadata_behind<'a>(kinds: &[u8], metadata: &'a [u8]) -> &'a [u8]
-    requires known { list_all is_column (columns_of kinds.now metadata.now) ≡ true }
-    ensures { result.now ≡ drop (metadata_total kinds.now) metadata.now }
-{
-    let mut left = metadata;
-    for kind in kinds {
-        let Some(len) = metadata_len(*kind) else {
-            unreachable!();
-        };
-        (_, left) = left.split_at(len);
-    }
-    left
 }
 
 /// How the values of a column are stored, with whose metadata `metadata` begins.
@@ -204,7 +187,7 @@ impl Layout<'_> {
     pub fn value<'b>(&self, image: &'b [u8], column: usize) -> Option<Option<&'b [u8]>>
         ensures value { value_seen result ≡ value_of (layout_columns self.now) image.now column }
     {
-        image_at(self.kinds, self.metadata, image, column)?.value
+        self.values(image).nth(column)
     }
 }
 

@@ -30,9 +30,7 @@ pub use laws::{
     written_rows_are_read,
 };
 pub use layout::Layout;
-pub use names::{Names, names_at};
 pub use order::Order;
-pub use packed::{Packed, packed_at};
 pub use rows::{RowChange, Rows};
 pub use rows_event::{RowsEvent, RowsHead};
 pub use table_map::TableMap;

@@ -6,17 +6,17 @@ ghost use Rattle.blog_row.specs.Checks.{cut_seen};
 
 /// The fields of a table map's body up to its names (MySQL Internals manual, "Table_map_event").
 #[derive(Clone, Copy, Debug)]
-pub struct Names<'a> {
+pub(crate) struct Names<'a> {
     /// The six bytes of the table id.
-    pub id: &'a [u8],
+    pub(crate) id: &'a [u8],
     /// The two bytes of the flags.
-    pub flags: &'a [u8],
+    pub(crate) flags: &'a [u8],
     /// The name of the table's schema.
-    pub schema: &'a [u8],
+    pub(crate) schema: &'a [u8],
     /// The name of the table.
-    pub table: &'a [u8],
+    pub(crate) table: &'a [u8],
     /// The bytes behind the names.
-    pub rest: &'a [u8],
+    pub(crate) rest: &'a [u8],
 }
 
 /// The name at the front, behind its length of one byte and before a zero byte; and the bytes behind that.
@@ -40,7 +40,7 @@ fn name_at(bytes: &[u8]) -> Option<(&[u8], &[u8])>
 }
 
 /// The fields up to the names, if the body has them: an id, flags, and two names.
-pub fn names_at(body: &[u8]) -> Option<Names<'_>>
+pub(crate) fn names_at(body: &[u8]) -> Option<Names<'_>>
     ensures { option_map names_seen result ≡ names_of body.now }
 {
     if body.len() < 8 {

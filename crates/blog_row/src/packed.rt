@@ -7,13 +7,13 @@ use byteorder::{ByteOrder, LittleEndian};
 
 /// A packed integer at the front of bytes (MySQL Internals manual, "Packed Integer").
 #[derive(Clone, Copy, Debug)]
-pub struct Packed<'a> {
+pub(crate) struct Packed<'a> {
     /// The number.
-    pub value: u64,
+    pub(crate) value: u64,
     /// Its bytes, from one to nine.
-    pub spelling: &'a [u8],
+    pub(crate) spelling: &'a [u8],
     /// The bytes behind it.
-    pub rest: &'a [u8],
+    pub(crate) rest: &'a [u8],
 }
 
 /// How many bytes of value the first byte announces.
@@ -43,7 +43,7 @@ fn value_of(first: u8, others: &[u8]) -> u64
 }
 
 /// The packed integer at the front, if one stands there.
-pub fn packed_at(bytes: &[u8]) -> Option<Packed<'_>>
+pub(crate) fn packed_at(bytes: &[u8]) -> Option<Packed<'_>>
     ensures { option_map packed_seen result ≡ packed_front bytes.now }
 {
     if bytes.is_empty() {

@@ -37,7 +37,7 @@ pub struct RowsHead {
 
 impl RowsHead {
     ghost use Rattle.std.specs.Prelude.{List, ℕ, Ok};
-    ghost use Rattle.blog_row.specs.RowsEvent.{has_end_flag, flags_of, table_id};
+    ghost use Rattle.blog_row.specs.RowsEvent.{has_end_flag, table_id};
     ghost use Rattle.byteorder.specs.Endian.{little_number};
     ghost use Rattle.blog_row.specs.RowsEventView.{head_of, head_table, head_flags};
 
@@ -62,14 +62,6 @@ impl RowsHead {
         ensures body { (version : RowsVersion) → (body : List ℕ) → head_of version body ≡ Ok self.now → result ≡ little_number 6 (table_id body) }
     {
         self.table
-    }
-
-    /// The flags.
-    pub fn flags(&self) -> u16
-        ensures own { result ≡ head_flags self.now }
-        ensures body { (version : RowsVersion) → (body : List ℕ) → head_of version body ≡ Ok self.now → result ≡ flags_of body }
-    {
-        self.bits
     }
 
     /// Whether the event is marked as the last rows event of its statement.
@@ -123,26 +115,12 @@ impl<'a> RowsEvent<'a> {
         let Some(kind) = RowsKind::of_type(kind) else {
             unreachable!();
         };
-        RowsEvent::read_as(kind, body, layout)
-    }
-
-    /// Reads a body as `read` does, by its kind in place of its event type.
-    pub fn read_as(
-        kind: RowsKind,
-        body: &'a [u8],
-        layout: &Layout<'a>,
-    ) -> Result<RowsEvent<'a>, RowFault>
-        ensures exact { rows_seen result ≡ rows_of kind (layout_columns layout.now) body.now }
-        ensures found { IfOk result (λ event. IsRowsBody kind (layout_columns layout.now) body.now (rows_body event)) }
-        ensures only { (fields : RowsBody) → IsRowsBody kind (layout_columns layout.now) body.now fields → rows_seen result ≡ Ok fields }
-        ensures of_kind { IfOk result (λ event. rows_kind event ≡ kind) }
-        ensures of_layout { IfOk result (λ event. rows_layout event ≡ layout.now) }
-    {
         let (event, _) = RowsEvent::read_counted(kind, body, layout)?;
         Ok(event)
     }
 
-    /// Reads a body as `read_as` does; beside the event it answers how many images that has.
+    /// Reads a body as `read` does, by its kind in place of its event type; beside the event it answers how many images
+    /// that has.
     pub fn read_counted(
         kind: RowsKind,
         body: &'a [u8],

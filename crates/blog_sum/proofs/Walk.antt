@@ -199,9 +199,6 @@ end-put bytes out at end past = ap (λ (es : List Event). out ++ plain_text end 
 pub algorithm-is : (bytes : List ℕ) (e : Event) (found : ℕ) → event_at (drop 4 bytes) ≡ Some e → found ≡ algorithm e.body → algorithm_of bytes ≡ found
 algorithm-is bytes e found stands is = rw stands (sym is)
 
-pub one-sums : (bytes : List ℕ) (e : Event) (found : ℕ) → event_at (drop 4 bytes) ≡ Some e → found ≡ algorithm e.body → found ≡ 1 → has_sums bytes ≡ true
-one-sums bytes e found stands is one = let known = algorithm-is bytes e found stands is in grind (arith, nat_tests)
-
 pub none-ends : (bytes : List ℕ) (e : Event) (found size : ℕ) → front_fault bytes ≡ None → event_at (drop 4 bytes) ≡ Some e → found ≡ algorithm e.body → found ≡ 0
     → size ≡ event_size e → sum_fault bytes ≡ end_check bytes (4 + size) (events_left bytes (4 + size))
 none-ends bytes e found size opened stands is none size_is =

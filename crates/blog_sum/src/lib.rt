@@ -10,7 +10,7 @@ mod register;
 mod sums;
 mod tables;
 
-pub use crc::{Crc, crc32};
+pub use crc::crc32;
 pub use fault::SumFault;
 pub use laws::check_value;
 pub use plain_laws::{

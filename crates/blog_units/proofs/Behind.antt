@@ -1,5 +1,5 @@
 -- The events behind a position, and positions at which events end.
-use Rattle.std.proofs.Common.{◌≡◌, ℕ, ◌+◌, ◌<◌, ◌≤◌, Bool, true, false, ◌&&◌, nat_lt, List, [], ◌∷◌, length, drop, Option, Some, None, refl, sym, subst, ap, ◌∙◌, inl, inr, arith}
+use Rattle.std.proofs.Common.{◌≡◌, ℕ, ◌+◌, ◌≤◌, Bool, true, false, ◌&&◌, nat_lt, List, [], ◌∷◌, length, drop, Option, Some, None, refl, sym, subst, ap, ◌∙◌, inl, inr, arith}
 use Rattle.std.proofs.lemmas.Bool.{le-ltb, lt-leb, lt-ltb}
 use Rattle.std.proofs.lemmas.List.{length-drop}
 use Rattle.std.proofs.lemmas.Option.{same_Some}
@@ -10,7 +10,6 @@ use Rattle.blog_event.specs.Going.{AreRead}
 use Rattle.blog_event.specs.Opening.{opening_fault}
 use Rattle.blog_event.proofs.Going.{are-read, are-read-only, event-within, left-more, left-none, opened-reads-on}
 use Rattle.blog_event.proofs.Opened.{LogReads}
-use Rattle.blog_trans.specs.Acceptance.{is_in_range, is_start_inside}
 use Rattle.blog_trans.specs.Places.{placed}
 use Rattle.blog_trans.specs.WalkView.{Lead, IsReached, IsPassedBy}
 use Rattle.blog_units.specs.Units.{between, units, units_in}

@@ -1,12 +1,12 @@
 -- Going through the events of a unit: what is left of it, and what follows it.
-use Rattle.std.proofs.Common.{◌≡◌, ℕ, ◌+◌, Bool, true, false, List, [], ◌∷◌, length, drop, Option, Some, None, refl, sym, subst, ap, ◌∙◌}
+use Rattle.std.proofs.Common.{◌≡◌, ℕ, ◌+◌, Bool, true, false, List, [], ◌∷◌, Option, Some, None, refl, sym, ap, ◌∙◌}
 use Rattle.std.specs.Prelude.{find, if◌then◌else◌, option_map}
-use Rattle.blog_event.specs.Event.{Event, event_at, event_size}
+use Rattle.blog_event.specs.Event.{event_size}
 use Rattle.blog_event.specs.File.{Placed}
 use Rattle.blog_trans.specs.Groups.{cons_if}
 use Rattle.blog_trans.specs.Places.{kind_at}
 use Rattle.blog_units.specs.declared.part.Part.{Part}
-use Rattle.blog_units.specs.Units.{Unit, begun, continued, end_behind, goes_on, is_query_or_rows, opened_by, part_behind, rest_of, units_in}
+use Rattle.blog_units.specs.Units.{begun, continued, end_behind, goes_on, is_query_or_rows, opened_by, part_behind, rest_of, units_in}
 use Rattle.blog_units.specs.UnitsView.{HasStopped, time_of, time_with}
 
 -- what is left of a unit of this part, whose events begin at a position, in front of others: where it stops, the time, and

@@ -1,28 +1,23 @@
 -- The units of events have these in their order, and each transaction is in one.
-use Rattle.std.proofs.Common.{◌≡◌, Bool, true, false, not, ◌&&◌, ◌||◌, List, [], ◌∷◌, ◌++◌, Option, Some, None, refl, sym, subst, ap, ◌∙◌, inl, inr, append_assoc}
+use Rattle.std.proofs.Common.{◌≡◌, Bool, true, false, not, ◌&&◌, ◌||◌, List, [], ◌∷◌, ◌++◌, Option, Some, None, refl, sym, subst, ap, ◌∙◌, inl, inr}
 use Rattle.std.specs.Prelude.{◌⊎◌, if◌then◌else◌, option_map}
 use Rattle.std.specs.List.{AllByRecursion}
 use Rattle.blog_event.specs.File.{Placed}
 use Rattle.blog_row.specs.declared.event_kinds.EventKind.{EventKind}
 use Rattle.blog_row.specs.declared.event_kinds.EventKind.TheVariants as kind
-use Rattle.blog_row.specs.Kinds.{is_begin_kind}
 use Rattle.blog_trans.specs.Groups.{cons_if}
 use Rattle.blog_trans.specs.Places.{kind_at, is_begin, is_end}
 use Rattle.blog_trans.proofs.ProgressSteps.{begin-kind}
 use Rattle.blog_units.specs.declared.part.Part.{Part}
 use Rattle.blog_units.specs.declared.part.Part.TheVariants.{Gtid, Transaction, Statement}
 use Rattle.blog_units.specs.Units.{Unit, after_gtid, begun, continued, goes_on, is_gtid_kind, is_rollback, opened_by, rest_of, units_in}
-use Rattle.blog_units.specs.Laws.{EndsWith, HasUnitEndingWith, HoldsTheEvents, IsOneOf, IsPartOf, IsTransaction, MayBeBetween, events_of, is_inside_one, unit_events}
+use Rattle.blog_units.specs.Laws.{HasUnitEndingWith, HoldsTheEvents, IsOneOf, IsPartOf, IsTransaction, MayBeBetween, events_of, is_inside_one}
 
 -- what is left of an open unit, and the units behind it
 abbrev left : Option Part → List Placed → List Placed
 left part ps = rest_of part ps ++ events_of (units_in part ps)
 
 -- ---- each event is in one, in its order
-
-one-behind : (xs ys : List Placed) (p : Placed) → IsOneOf ys p → IsOneOf (xs ++ ys) p
-one-behind [] ys p is = is
-one-behind (x ∷ xs) ys p is = inr (one-behind xs ys p is)
 
 abbrev AreHeld : List Placed → List Placed → Type 0
 AreHeld xs es = AllByRecursion (λ p. IsOneOf xs p ⊎ MayBeBetween p) es

@@ -1,5 +1,5 @@
 -- What is told of the next unit.
-use Rattle.std.proofs.Common.{◌≡◌, ◌∙◌, ℕ, ◌+◌, Bool, List, [], ◌∷◌, map, Option, Some, None, refl, sym, ap}
+use Rattle.std.proofs.Common.{◌≡◌, ◌∙◌, ℕ, ◌+◌, Bool, List, ◌∷◌, map, Option, Some, None, refl, sym, ap}
 use Rattle.std.specs.Prelude.{find, option_map, unwrap_or}
 use Rattle.std.specs.Option.{option_map_or}
 use Rattle.blog_event.specs.declared.event.Event as told
@@ -8,7 +8,7 @@ use Rattle.blog_event.specs.File.{Placed}
 use Rattle.blog_trans.specs.Places.{placed}
 use Rattle.blog_units.specs.declared.part.Part.{Part}
 use Rattle.blog_units.specs.Boundaries.{events_behind}
-use Rattle.blog_units.specs.Units.{Facts, Id, Unit, end_behind, facts_of, id_of, is_query_or_rows, is_whole, part_behind, rest_of, units_in}
+use Rattle.blog_units.specs.Units.{Id, Unit, end_behind, facts_of, id_of, is_query_or_rows, is_whole, part_behind, rest_of, units_in}
 use Rattle.blog_units.specs.UnitsView.{HasStopped, IsFirst, time_of, time_with}
 use Rattle.blog_units.proofs.Going.{time-with-more}
 

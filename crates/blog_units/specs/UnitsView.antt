@@ -1,5 +1,5 @@
 -- What a contract sees of a unit, and of an iterator over the units of a log.
-use Rattle.std.specs.Prelude.{◌≡◌, ℕ, ◌+◌, ◌≤◌, List, [], ◌∷◌, length, drop, map, find, Option, None, Some, IfSome, option_map, Result, MatchResult, if◌then◌else◌}
+use Rattle.std.specs.Prelude.{◌≡◌, ℕ, ◌+◌, ◌≤◌, List, ◌∷◌, length, map, find, Option, None, Some, IfSome, option_map, Result, MatchResult, if◌then◌else◌}
 use Rattle.std.specs.Iterator.{YieldsFirstBy}
 use Rattle.std.specs.declared.alloc.Allocator.{Ghosts}
 use Rattle.blog_event.specs.declared.event.Event as event

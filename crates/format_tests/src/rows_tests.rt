@@ -51,7 +51,7 @@ fn event_of<'a>(
     map: &'a [u8],
     body: &'a [u8],
 ) -> Result<RowsEvent<'a>, RowFault> {
-    RowsEvent::read_as(kind, body, &layout_in(rt, map))
+    read_by_type(kind, body, &layout_in(rt, map))
 }
 
 /// A table map, the body of a rows event, and what is read from it.
@@ -325,15 +325,15 @@ fn reads_by_event_types(rt: HostRuntime) {
 }
 
 /// Whether this is read from the fixed part of the body.
-fn is_head(read: Result<RowsHead, RowFault>, id: u64, flags: u16, ends: bool) -> bool {
-    read.is_ok_and(|head| { head.table_id() == id && head.flags() == flags && head.ends() == ends })
+fn is_head(read: Result<RowsHead, RowFault>, id: u64, ends: bool) -> bool {
+    read.is_ok_and(|head| { head.table_id() == id && head.ends() == ends })
 }
 
 #[test]
 fn reads_the_heads_of_rows_events(rt: HostRuntime) {
     for want in &WORKED {
         let read = RowsHead::read(want.kind.version, want.body);
-        assert!(rt; is_head(read, want.id, want.flags, want.ends), "{read:?}");
+        assert!(rt; is_head(read, want.id, want.ends), "{read:?}");
     }
 }
 
@@ -427,7 +427,7 @@ fn check_no_head(rt: &impl Abort, version: RowsVersion, bytes: &[u8]) {
 /// A head is read from a fixed part, and none from less.
 fn check_fixed_part(rt: &impl Abort, version: RowsVersion, body: &[u8]) {
     let head = RowsHead::read(version, body);
-    assert!(rt; is_head(head, 0x0605_0403_0201, 0x0807, true), "{head:?}");
+    assert!(rt; is_head(head, 0x0605_0403_0201, true), "{head:?}");
     let (_, cut) = body.split_last().expect(rt, "a byte");
     check_no_head(rt, version, cut);
     check_no_head(rt, version, b"");

@@ -1,7 +1,6 @@
 //! The sum against a loop over its bits, and values from outside.
 
-use crate::bytes::part_of;
-use blog_sum::{Crc, crc32};
+use blog_sum::crc32;
 use std::process::Abort;
 use std::test::Fail;
 
@@ -47,26 +46,6 @@ fn each_length(rt: HostRuntime) -> Result<(), Fail> {
     for n in 0..70u8 {
         check_sum(&rt, &bytes);
         bytes.push(n ^ (n << 5 & 0xff) ^ 0x95)?;
-    }
-    Ok(())
-}
-
-/// The sum of two pieces is that of the loop over both.
-fn check_pieces(rt: &impl Abort, bytes: &[u8], cut: usize) {
-    let mut crc = Crc::new();
-    crc.update(part_of(rt, bytes, 0, cut));
-    crc.update(part_of(rt, bytes, cut, bytes.len()));
-    assert!(rt; crc.value() == bit_by_bit(bytes), "cut at {cut}");
-}
-
-#[test]
-fn each_cut(rt: HostRuntime) -> Result<(), Fail> {
-    let mut bytes = Vec::new(rt.alloc());
-    for n in 0..70u8 {
-        bytes.push(n ^ 0x95)?;
-    }
-    for cut in 0..=70 {
-        check_pieces(&rt, &bytes, cut);
     }
     Ok(())
 }

@@ -12,6 +12,16 @@ use sample_logs::summed::{CLOSED_PLAIN, IN_USE_PLAIN};
 use std::process::Abort;
 use std::test::Fail;
 
+/// All units are wanted.
+const ALL: Wanted<'static> = Wanted {
+    start: None,
+    stop: None,
+    from_time: None,
+    to_time: None,
+    database: None,
+    table: None,
+};
+
 const HEADER: &str = "     start       stop  time (UTC)           rows\n";
 
 /// Checks the list of a log, without its header, and what is answered of its end.
@@ -38,7 +48,7 @@ fn check(
 }
 
 fn check_all(rt: &(impl AllocGlobal + Abort), bytes: &[u8], lines: &str) -> Result<(), Fail> {
-    check(rt, bytes, &Wanted::all(), lines, None)
+    check(rt, bytes, &ALL, lines, None)
 }
 
 /// Checks the list of a log of these parts.
@@ -48,7 +58,7 @@ fn check_parts(
     lines: &str,
     end: Option<Fault>,
 ) -> Result<(), Fail> {
-    check(rt, &build(rt, parts)?, &Wanted::all(), lines, end)
+    check(rt, &build(rt, parts)?, &ALL, lines, end)
 }
 
 /// Checks the list of a log as JSON.
@@ -158,7 +168,7 @@ const ALL_LINES: &[usize] = &[0, 1, 2, 3, 4, 5, 6];
 
 #[test]
 fn names_choose_units(rt: HostRuntime) -> Result<(), Fail> {
-    let all = Wanted::all();
+    let all = ALL;
     let last = "units 7, not undoable 3, rows 5\n";
     check_shop(&rt, &all, ALL_LINES, last)?;
     let database = Some(b"shop".as_slice());
@@ -173,7 +183,7 @@ fn names_choose_units(rt: HostRuntime) -> Result<(), Fail> {
 
 #[test]
 fn options_choose_units(rt: HostRuntime) -> Result<(), Fail> {
-    let all = Wanted::all();
+    let all = ALL;
     let start = Some(944);
     let last = "units 3, not undoable 2, rows 2\n";
     check_shop(&rt, &Wanted { start, ..all }, &[4, 5, 6], last)?;
@@ -193,7 +203,7 @@ fn json_has_an_object_a_line(rt: HostRuntime) -> Result<(), Fail> {
     let wanted = Wanted {
         start: Some(1294),
         stop: Some(1760),
-        ..Wanted::all()
+        ..ALL
     };
     let lines =
         "{\"start\":1294,\"stop\":1474,\"time\":\"2026-11-21 03:04:00\",\"gtid\":\"283c105d-e730-11f1-97ff-02fc00000001:12\",\"fault\":\"Statement\",\"position\":1367,\"statement\":\"create table t2 (a int)\"}
@@ -206,7 +216,7 @@ fn json_has_an_object_a_line(rt: HostRuntime) -> Result<(), Fail> {
         "{\"start\":120,\"stop\":260,\"time\":\"1970-01-01 00:00:00\",\"gtid\":null,\"tables\":[{\"schema\":\"d\",\"table\":\"\u{FFFD}\\\"\",\"table_hex\":\"FF22\",\"inserts\":1,\"updates\":0,\"deletes\":0}]}
 {\"units\":1,\"not_undoable\":0,\"rows\":1}
 ";
-    check_json(&rt, &bytes, &Wanted::all(), lines)
+    check_json(&rt, &bytes, &ALL, lines)
 }
 
 #[rattlefmt::skip]
@@ -251,7 +261,7 @@ fn a_log_that_ends_early_has_its_units(rt: HostRuntime) -> Result<(), Fail> {
        259        371  1970-01-01 00:00:00  Unended at 371
 units 2, not undoable 1, rows 1
 ";
-    let all = Wanted::all();
+    let all = ALL;
     let end = Some(Fault::CutEvent { pos: 371 });
     check(&rt, cut, &all, lines, end)?;
     let ended = bytes.get(..371).expect(&rt, "a log");
@@ -270,7 +280,7 @@ fn check_up_to(
 units 1, not undoable 0, rows 1
 ";
     let stop = Some(stop);
-    let all = Wanted::all();
+    let all = ALL;
     check(rt, bytes, &Wanted { stop, ..all }, lines, end)
 }
 
