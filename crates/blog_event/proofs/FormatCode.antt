@@ -1,6 +1,6 @@
 -- How the format description is read.
 use Rattle.std.proofs.Common.{◌≡◌, ℕ, ◌+◌, Bool, true, false, cond, List, [], ◌∷◌, length, take, Option, Some, None, refl, sym, subst, ap, ◌∙◌, inl, inr, arith}
-use Rattle.std.specs.Prelude.{◌&&◌, ◌==◌, not, nat_le, nat_lt}
+use Rattle.std.specs.Prelude.{◌==◌, not, nat_lt}
 use Rattle.std.specs.List.{position, position_or_len}
 use Rattle.std.specs.Option.{MatchOption}
 use Rattle.std.proofs.lemmas.Bool.{cases_lt}
@@ -8,11 +8,10 @@ use Rattle.std.proofs.lemmas.Bool.Decides.{nat_tests}
 use Rattle.std.proofs.lemmas.List.{take_all}
 use Rattle.std.proofs.Math.Numerals.{one-add}
 use Rattle.std.proofs.lemmas.Option.{none-some}
-use Rattle.blog_event.specs.declared.fault.Fault.{Fault}
-use Rattle.blog_event.specs.declared.fault.Fault.TheVariants.{BadFormat, Checksums}
+use Rattle.blog_event.specs.declared.fault.Fault.TheVariants.{Checksums}
 use Rattle.blog_event.specs.Fault.{Cause, needs, first_failing, fault_at}
 use Rattle.blog_event.specs.Event.{Event}
-use Rattle.blog_event.specs.Format.{Version, front_while, number_front, after_point, ◌>>=◌, version_of, version_text, binlog_version, header_length, algorithm, server_checks, description_fault, format_fault}
+use Rattle.blog_event.specs.Format.{Version, front_while, ◌>>=◌, algorithm, description_fault, format_fault}
 
 -- ---- the front of a list
 
@@ -59,96 +58,12 @@ joined number point text =
     number text >>= (λ major. point major.1 >>= (λ first. number first >>= (λ minor. point minor.1 >>= (λ second. number second >>= (λ patch.
     Some (record { major = major.0; minor = minor.0; patch = patch.0 }))))))
 
--- where the steps lead, by how far they come
-joined-one : (number : List ℕ → Option (ℕ × List ℕ)) (point : List ℕ → Option (List ℕ)) (text : List ℕ) → None ≡ number text → None ≡ joined number point text
-joined-one number point text one = rw (← one) refl
-
-joined-two : (number : List ℕ → Option (ℕ × List ℕ)) (point : List ℕ → Option (List ℕ)) (text : List ℕ) (major : ℕ) (rest : List ℕ)
-    → Some (major, rest) ≡ number text → None ≡ point rest → None ≡ joined number point text
-joined-two number point text major rest one two = rw (← one, ← two) refl
-
-joined-three : (number : List ℕ → Option (ℕ × List ℕ)) (point : List ℕ → Option (List ℕ)) (text : List ℕ) (major : ℕ) (rest first : List ℕ)
-    → Some (major, rest) ≡ number text → Some first ≡ point rest → None ≡ number first → None ≡ joined number point text
-joined-three number point text major rest first one two three = rw (← one, ← two, ← three) refl
-
-joined-four : (number : List ℕ → Option (ℕ × List ℕ)) (point : List ℕ → Option (List ℕ)) (text : List ℕ) (major minor : ℕ) (rest first left : List ℕ)
-    → Some (major, rest) ≡ number text → Some first ≡ point rest → Some (minor, left) ≡ number first → None ≡ point left → None ≡ joined number point text
-joined-four number point text major minor rest first left one two three four = rw (← one, ← two, ← three, ← four) refl
-
-joined-five : (number : List ℕ → Option (ℕ × List ℕ)) (point : List ℕ → Option (List ℕ)) (text : List ℕ) (major minor : ℕ) (rest first left second : List ℕ)
-    → Some (major, rest) ≡ number text → Some first ≡ point rest → Some (minor, left) ≡ number first → Some second ≡ point left → None ≡ number second
-    → None ≡ joined number point text
-joined-five number point text major minor rest first left second one two three four five = rw (← one, ← two, ← three, ← four, ← five) refl
-
-joined-all : (number : List ℕ → Option (ℕ × List ℕ)) (point : List ℕ → Option (List ℕ)) (text : List ℕ) (major minor patch : ℕ) (rest first left second end : List ℕ)
-    → Some (major, rest) ≡ number text → Some first ≡ point rest → Some (minor, left) ≡ number first → Some second ≡ point left → Some (patch, end) ≡ number second
-    → Some (record { major = major; minor = minor; patch = patch }) ≡ joined number point text
-joined-all number point text major minor patch rest first left second end one two three four five = rw (← one, ← two, ← three, ← four, ← five) refl
-
--- the same of the readers that a version has
-pub version-of-one : (text : List ℕ) → None ≡ number_front text → None ≡ version_of text
-unfolding version_of
-version-of-one text = joined-one number_front after_point text
-
-pub version-of-two : (text : List ℕ) (major : ℕ) (rest : List ℕ) → Some (major, rest) ≡ number_front text → None ≡ after_point rest → None ≡ version_of text
-unfolding version_of
-version-of-two text = joined-two number_front after_point text
-
-pub version-of-three : (text : List ℕ) (major : ℕ) (rest first : List ℕ) → Some (major, rest) ≡ number_front text → Some first ≡ after_point rest
-    → None ≡ number_front first → None ≡ version_of text
-unfolding version_of
-version-of-three text = joined-three number_front after_point text
-
-pub version-of-four : (text : List ℕ) (major minor : ℕ) (rest first left : List ℕ) → Some (major, rest) ≡ number_front text → Some first ≡ after_point rest
-    → Some (minor, left) ≡ number_front first → None ≡ after_point left → None ≡ version_of text
-unfolding version_of
-version-of-four text = joined-four number_front after_point text
-
-pub version-of-five : (text : List ℕ) (major minor : ℕ) (rest first left second : List ℕ) → Some (major, rest) ≡ number_front text → Some first ≡ after_point rest
-    → Some (minor, left) ≡ number_front first → Some second ≡ after_point left → None ≡ number_front second → None ≡ version_of text
-unfolding version_of
-version-of-five text = joined-five number_front after_point text
-
-pub version-of-all : (text : List ℕ) (major minor patch : ℕ) (rest first left second end : List ℕ) → Some (major, rest) ≡ number_front text
-    → Some first ≡ after_point rest → Some (minor, left) ≡ number_front first → Some second ≡ after_point left → Some (patch, end) ≡ number_front second
-    → Some (record { major = major; minor = minor; patch = patch }) ≡ version_of text
-unfolding version_of
-version-of-all text = joined-all number_front after_point text
-
 -- ---- the checks
-
--- three checks of one cause
-three-checks : (a b c : Bool) (cause : Cause) (checks : List (Option Cause))
-    → first_failing (needs a cause ∷ needs b cause ∷ needs c cause ∷ checks) ≡ first_failing (needs (a && (b && c)) cause ∷ checks)
-three-checks true true true cause checks = refl
-three-checks true true false cause checks = refl
-three-checks true false c cause checks = refl
-three-checks false b c cause checks = refl
-
--- the checks, by what the first three say together
-pub description-fault-is : (e : Event) (fixed : Bool)
-    → fixed ≡ (e.kind == 15 && (nat_le 57 (length e.body) && (binlog_version e.body == 4 && header_length e.body == 19)))
-    → description_fault e ≡ first_failing (needs fixed BadFormat ∷ server_checks (version_of (version_text e.body)) e.body)
-unfolding description_fault
-description-fault-is e fixed one =
-    three-checks (e.kind == 15) (nat_le 57 (length e.body)) (binlog_version e.body == 4 && header_length e.body == 19) BadFormat
-    (server_checks (version_of (version_text e.body)) e.body)
-    ∙ rw (one) refl
-
--- of two checks the first decides if it fails, and else the second
-first-decides : (first second : Option Cause) (fault : Fault) → fault_at 4 first ≡ Some fault → fault_at 4 (first_failing (first ∷ second ∷ [])) ≡ Some fault
-first-decides None second fault fails = absurd (none-some fault fails)
-first-decides (Some cause) second fault fails = fails
 
 second-decides : (first second : Option Cause) → fault_at 4 first ≡ None → first_failing (first ∷ second ∷ []) ≡ second
 second-decides None None holds = refl
 second-decides None (Some cause) holds = refl
 second-decides (Some cause) second holds = absurd (none-some (cause 4) (sym holds))
-
--- a description that is refused
-pub format-refused : (e : Event) (fault : Fault) → fault_at 4 (description_fault e) ≡ Some fault → fault_at 4 (format_fault e) ≡ Some fault
-unfolding format_fault
-format-refused e fault fails = first-decides (description_fault e) (needs (algorithm e.body == 0) Checksums) fault fails
 
 -- of one that isn't, the algorithm
 pub format-by-algorithm : (e : Event) → fault_at 4 (description_fault e) ≡ None → format_fault e ≡ needs (algorithm e.body == 0) Checksums

@@ -1,7 +1,6 @@
 -- Opening a log: which of the checks of a file decides, from the first on.
 use Rattle.std.proofs.Common.{◌≡◌, ℕ, ◌^◌, ◌<◌, Bool, true, false, List, [], ◌∷◌, length, take, drop, bytes_eq, Option, Some, None, refl, sym, ap, ◌∙◌}
-use Rattle.std.specs.Prelude.{nat_lt, is_some, Result, Ok, Err, IsErrAnd}
-use Rattle.std.specs.Result.{result_err}
+use Rattle.std.specs.Prelude.{nat_lt, is_some}
 use Rattle.std.specs.Option.{option_map_or}
 use Rattle.std.proofs.lemmas.Bool.{lt-ltb, ltb-true}
 use Rattle.std.proofs.lemmas.Option.{none-some}
@@ -12,7 +11,7 @@ use Rattle.blog_event.specs.Event.{Event, event_at}
 use Rattle.blog_event.specs.Fault.{Cause, needs, first_failing, fault_at}
 use Rattle.blog_event.specs.File.{magic}
 use Rattle.blog_event.specs.Format.{description_fault, format_fault}
-use Rattle.blog_event.specs.Opening.{opening_by, unchecked, opening_fault, front_fault, IsLog, OpensLogs}
+use Rattle.blog_event.specs.Opening.{opening_by, opening_fault, front_fault, IsLog, OpensLogs}
 
 -- ---- as far as the event behind the magic number, with any check of it
 
@@ -28,60 +27,17 @@ opening-checked check bytes e few mark found =
     let short : nat_lt (length bytes) (2 ^ 32) ≡ true = lt-ltb (length bytes) (2 ^ 32) few in
     rw (short, mark, found) (last-decides (fault_at 4 (check e)))
 
--- a fault before the last check decides
-earlier-decides : (one two three last : Option Fault) (f : Fault) → first_failing (one ∷ two ∷ three ∷ None ∷ []) ≡ Some f
-    → first_failing (one ∷ two ∷ three ∷ last ∷ []) ≡ Some f
-earlier-decides (Some one) two three last f fails = fails
-earlier-decides None (Some two) three last f fails = fails
-earlier-decides None None (Some three) last f fails = fails
-earlier-decides None None None last f fails = absurd (none-some f fails)
-
--- no check says nothing of any event
-unchecked-says : (found : Option Event) → fault_at 4 (option_map_or unchecked found None) ≡ None
-unchecked-says None = refl
-unchecked-says (Some e) = refl
-
--- a fault that comes without the check is one with it
-pub opening-refused : (check : Event → Option Cause) (bytes : List ℕ) (f : Fault) → opening_by unchecked bytes ≡ Some f → opening_by check bytes ≡ Some f
-opening-refused check bytes f fails =
-    let first : Option Event = event_at (drop 4 bytes) in
-    earlier-decides (fault_at 0 (needs (nat_lt (length bytes) (2 ^ 32)) TooLong)) (fault_at 0 (needs (bytes_eq (take 4 bytes) magic) NotABinlog))
-    (fault_at 4 (needs (is_some first) CutEvent)) (fault_at 4 (option_map_or check first None)) f (rw (unchecked-says first) at fails)
-
 -- ---- with the checks of the format
-
-pub opening-unread : (bytes : List ℕ) (f : Fault) → opening_by unchecked bytes ≡ Some f → opening_fault bytes ≡ Some f
-unfolding opening_fault
-opening-unread bytes f fails = opening-refused format_fault bytes f fails
 
 pub opening-format : (bytes : List ℕ) (e : Event) → length bytes < 2 ^ 32 → bytes_eq (take 4 bytes) magic ≡ true → event_at (drop 4 bytes) ≡ Some e
     → opening_fault bytes ≡ fault_at 4 (format_fault e)
 unfolding opening_fault
 opening-format bytes e few mark found = opening-checked format_fault bytes e few mark found
 
--- the same whatever the algorithm is
-pub front-unread : (bytes : List ℕ) (f : Fault) → opening_by unchecked bytes ≡ Some f → front_fault bytes ≡ Some f
-unfolding front_fault
-front-unread bytes f fails = opening-refused description_fault bytes f fails
-
 pub front-format : (bytes : List ℕ) (e : Event) → length bytes < 2 ^ 32 → bytes_eq (take 4 bytes) magic ≡ true → event_at (drop 4 bytes) ≡ Some e
     → front_fault bytes ≡ fault_at 4 (description_fault e)
 unfolding front_fault
 front-format bytes e few mark found = opening-checked description_fault bytes e few mark found
-
--- so what a check of that event finds is what opening finds
-pub opening-found : (bytes : List ℕ) (e : Event) (found : Option Fault) → length bytes < 2 ^ 32 → bytes_eq (take 4 bytes) magic ≡ true → event_at (drop 4 bytes) ≡ Some e
-    → found ≡ fault_at 4 (format_fault e) → found ≡ opening_fault bytes
-opening-found bytes e found few mark stands checked = checked ∙ sym (opening-format bytes e few mark stands)
-
-pub front-found : (bytes : List ℕ) (e : Event) (found : Option Fault) → length bytes < 2 ^ 32 → bytes_eq (take 4 bytes) magic ≡ true → event_at (drop 4 bytes) ≡ Some e
-    → found ≡ fault_at 4 (description_fault e) → found ≡ front_fault bytes
-front-found bytes e found few mark stands checked = checked ∙ sym (front-format bytes e few mark stands)
-
--- the fault that a refusal names
-pub err-said : {A : Type 0} (r : Result A Fault) (fault : Fault) → IsErrAnd r (λ said. said ≡ fault) → result_err r ≡ Some fault
-err-said (Ok x) fault h = absurd h
-err-said (Err said) fault h = ap Some h
 
 -- ---- what a log is that was opened
 

@@ -84,6 +84,7 @@ fn after_point(bytes: &[u8]) -> Option<&[u8]>
 }
 
 /// The server version at the front of a text: three numbers joined by points.
+#[tactic(auto, unfolding(crate::specs::Format::version_of))]
 fn version_of(text: &[u8]) -> Option<Version>
     ensures { option_map version_value result ≡ version_of text.now }
 {
@@ -184,6 +185,7 @@ fn check_server(body: &[u8]) -> Result<u8, Fault>
 /// The checksum algorithm of a file's events by its first event: 0 none, 1 CRC-32; 0 for a server below 5.6.1. Or the
 /// first check of that event that fails, a fault at 4: it is a format description of this profile, of a server whose
 /// version can be read.
+#[tactic(auto, unfolding(crate::specs::Format::description_fault))]
 pub(crate) fn check_description(event: &Event<'_>) -> Result<u8, Fault>
     ensures exact { result_err result ≡ fault_at 4 (description_fault (event_of event.now)) }
     ensures algorithm { IfOk result (λ found. found ≡ algorithm event.now.body.now) }
@@ -196,6 +198,7 @@ pub(crate) fn check_description(event: &Event<'_>) -> Result<u8, Fault>
 
 /// The first check of a file's first event that fails, a fault at 4: it is a format description of this profile, of a
 /// server whose version can be read, without checksums.
+#[tactic(auto, unfolding(crate::specs::Format::format_fault))]
 pub(crate) fn check_format(event: &Event<'_>) -> Result<(), Fault>
     ensures exact { result_err result ≡ fault_at 4 (format_fault (event_of event.now)) }
 {

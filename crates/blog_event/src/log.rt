@@ -62,6 +62,7 @@ fn first_event(bytes: &[u8]) -> Result<Event<'_>, Fault>
 
 /// The format description of a file, the event at the byte position 4, and the checksum algorithm of the file's events: 0
 /// none, 1 CRC-32; 0 for a server below 5.6.1. Fails as `Log::open` does, but never with `Checksums`.
+#[tactic(auto, unfolding(crate::specs::Opening::front_fault))]
 pub fn format_description(bytes: &[u8]) -> Result<(Event<'_>, u8), Fault>
     ensures exact { result_err result ≡ front_fault bytes.now }
     ensures short { IfOk result (λ _. length bytes.now < 2 ^ 32) }
@@ -87,6 +88,7 @@ impl<'a> Log<'a> {
     /// than 4,294,967,295; with `NotABinlog` at 0 if they don't begin with the magic number; with `CutEvent` at 4 if no event
     /// stands there; with `BadFormat`, `OldServer` or `Checksums` at 4 if that event isn't a format description of this
     /// profile.
+    #[tactic(auto, unfolding(crate::specs::Opening::opening_fault))]
     pub fn open(bytes: &'a [u8]) -> Result<Log<'a>, Fault>
         ensures exact { result_err result ≡ opening_fault bytes.now }
         ensures bytes { IfOk result (λ log. log_bytes log ≡ bytes.now) }

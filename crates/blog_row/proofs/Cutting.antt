@@ -1,5 +1,5 @@
 -- What a cut of the first bytes gives, and what is known where an option is Some.
-use Rattle.std.proofs.Common.{◌≡◌, ℕ, Bool, true, false, cond, leb, List, ◌++◌, length, take, drop, Option, Some, None, option_and_then, option_map, is_some, unwrap_or, refl, ap, ◌∙◌, arith, length-append, leb-true, le-leb, take-append-drop, length-take-le, take_at, drop_at}
+use Rattle.std.proofs.Common.{◌≡◌, ℕ, Bool, true, false, cond, leb, List, ◌++◌, length, take, drop, Option, Some, None, option_and_then, option_map, refl, ap, ◌∙◌, arith, length-append, leb-true, le-leb, take-append-drop, length-take-le, take_at, drop_at}
 use Rattle.std.proofs.lemmas.Option.{some_pair_parts}
 use Rattle.blog_row.specs.Checks.{cut}
 
@@ -27,10 +27,13 @@ and_then_again f o x y e h = ap (option_and_then f) e ∙ h
 pub map_again : {A B : Type 0} (f : A → B) (o : Option A) (x : A) (y : B) → o ≡ Some x → f x ≡ y → option_map f o ≡ Some y
 map_again f o x y e h = ap (option_map f) e ∙ ap Some h
 
--- what is there is what stands in the place of a default
-pub some_is : {A : Type 0} (default : A) (o : Option A) → is_some o ≡ true → o ≡ Some (unwrap_or o default)
-some_is default None e = absurd (cc)
-some_is default (Some x) e = refl
+-- where the first of two steps gives nothing, nor do both
+pub nothing_then : {A B : Type 0} (f : A → Option B) (o : Option A) → o ≡ None → option_and_then f o ≡ None
+nothing_then f o e = ap (option_and_then f) e
+
+-- where the first step gives x, both give what the second makes of it
+pub then_of : {A B : Type 0} (f : A → Option B) (o : Option A) (x : A) → o ≡ Some x → option_and_then f o ≡ f x
+then_of f o x e = ap (option_and_then f) e
 
 -- ---- cuts
 

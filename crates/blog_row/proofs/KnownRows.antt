@@ -1,8 +1,7 @@
 -- A rows event that is known to be there: its parts are found without reading the images again.
-use Rattle.std.proofs.Common.{◌≡◌, ◌<◌, ℕ, List, [], length, Option, Some, None, Result, Ok, Err, unwrap_or, is_some, is_ok, true, eqb, refl, sym, ap, ◌∙◌, ◌%◌}
+use Rattle.std.proofs.Common.{◌≡◌, ◌<◌, ℕ, List, [], length, Some, None, Ok, Err, unwrap_or, is_some, is_ok, true, eqb, refl, sym, ap, ◌∙◌, ◌%◌}
 use Rattle.std.specs.List.{list_all}
 use Rattle.blog_row.specs.declared.kind.RowsKind.{RowsKind}
-use Rattle.blog_row.specs.declared.fault.RowFault.{RowFault}
 use Rattle.blog_row.specs.declared.fault.RowFault.TheVariants.{BadBody, PartialImage}
 use Rattle.blog_row.specs.Checks.{◌>>=◌}
 use Rattle.blog_row.specs.RowsKind.{images_a_row}

@@ -1,6 +1,6 @@
 -- How the code reads a layout: part by part.
-use Rattle.std.proofs.Common.{subst, ◌≡◌, ◌<◌, ◌≤◌, ℕ, Bool, true, false, ◌&&◌, cond, eqb, leb, List, length, take, drop, Option, Some, None, option_and_then, Result, Ok, Err, is_ok, refl, sym, ap, ◌∙◌, arith, leb-true, le-leb, ◌⊎◌, inl, inr, ◌+◌, length-append}
-use Rattle.std.proofs.lemmas.Bool.{and_parts, and_from, eqb-true, lt-leb}
+use Rattle.std.proofs.Common.{◌≡◌, ◌<◌, ◌≤◌, ℕ, Bool, true, false, ◌&&◌, cond, eqb, leb, List, length, take, drop, Option, Some, None, option_and_then, Result, Ok, Err, is_ok, refl, sym, ap, ◌∙◌, arith, leb-true, le-leb, ◌+◌, length-append}
+use Rattle.std.proofs.lemmas.Bool.{and_parts, and_from, eqb-true}
 use Rattle.std.proofs.lemmas.List.{take_at}
 use Rattle.std.specs.List.{list_all}
 use Rattle.blog_row.specs.declared.fault.RowFault.{RowFault}
@@ -10,10 +10,9 @@ use Rattle.blog_row.specs.Packed.{packed_front}
 use Rattle.blog_row.specs.Column.{Layout, is_column, metadata_total, columns_of}
 use Rattle.blog_row.specs.Image.{bitmap_len}
 use Rattle.blog_row.specs.TableMap.{layout_fields}
-use Rattle.blog_row.specs.LayoutReading.{are_known, total_of, counted_front, types_front, metadata_front, layout_behind}
-use Rattle.blog_row.proofs.Results.{step_found, check_found, same_ok}
+use Rattle.blog_row.specs.LayoutReading.{are_known, total_of, types_front, metadata_front, layout_behind}
+use Rattle.blog_row.proofs.Results.{step_found, check_found}
 use Rattle.blog_row.proofs.Cutting.{none_is_not, and_then_found, cut_found}
-use Rattle.blog_row.proofs.NamesCode.{cut_fits, cut_short}
 
 -- ---- two readings that go on alike
 
@@ -89,27 +88,6 @@ no_types bytes e = layout_parts bytes ∙ ap (λ o. or_bad o >>= behind_types) e
 test_found : {A : Type 0} (b : Bool) (o : Option A) (x : A) → cond b o None ≡ Some x → (b ≡ true) × (o ≡ Some x)
 test_found false o x e = none_is_not x e
 test_found true o x e = (refl, e)
-
--- no number in front
-pub counted_none : (test : ℕ → Bool) (bytes : List ℕ) → packed_front bytes ≡ None → counted_front test bytes ≡ None
-counted_none test bytes e = rw e
-
--- a number that doesn't pass
-pub counted_out : (test : ℕ → Bool) (bytes : List ℕ) (n : ℕ × List ℕ × List ℕ) → packed_front bytes ≡ Some n → test n.0 ≡ false → counted_front test bytes ≡ None
-counted_out test bytes n e out = rw (e, out)
-
--- too few bytes behind it
-pub counted_short : (test : ℕ → Bool) (bytes : List ℕ) (n : ℕ × List ℕ × List ℕ) → packed_front bytes ≡ Some n → test n.0 ≡ true → length n.2 < n.0 → counted_front test bytes ≡ None
-counted_short test bytes n e passes short = rw (e, passes) (cut_short n.0 n.2 short)
-
--- the bytes
-pub counted_there : (test : ℕ → Bool) (bytes : List ℕ) (n : ℕ × List ℕ × List ℕ) → packed_front bytes ≡ Some n → test n.0 ≡ true → n.0 ≤ length n.2 → counted_front test bytes ≡ Some (take n.0 n.2, drop n.0 n.2)
-counted_there test bytes n e passes fits = rw (e, passes) (cut_fits n.0 n.2 fits)
-
--- a count that is too small or too large, and one that is neither
-pub not_between : (n : ℕ) → (n < 1) ⊎ ((1 ≤ n) × (4096 < n)) → (leb 1 n && leb n 4096) ≡ false
-not_between n (inl low) = let none : leb 1 n ≡ false = lt-leb 1 n low in rw none
-not_between n (inr h) = let some : leb 1 n ≡ true = le-leb 1 n h.0 in let many : leb n 4096 ≡ false = lt-leb n 4096 h.1 in rw (some, many)
 
 pub between : (n : ℕ) → 1 ≤ n → n ≤ 4096 → (leb 1 n && leb n 4096) ≡ true
 between n low high = and_from (leb 1 n) (leb n 4096) (le-leb 1 n low) (le-leb n 4096 high)

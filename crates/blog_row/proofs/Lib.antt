@@ -6,8 +6,6 @@ pub mod ColumnTypes
 pub mod NameLemmas
 pub mod Layouts
 pub mod Bodies
-pub mod PackedCode
-pub mod NamesCode
 pub mod TypeBytes
 pub mod Walking
 pub mod ValueWalking

@@ -1,13 +1,12 @@
 -- How images are put in reverse order: from the front of what is left to the end of what is free.
 use Rattle.std.proofs.Common.{reverse, ◌≡◌, ◌+◌, ◌-◌, ◌<◌, ◌≤◌, ℕ, List, [], ◌∷◌, ◌++◌, length, take, drop, Option, Some, None, option_map, sym, ap, ◌∙◌, arith, append_assoc, length-append, drop_at, length-take-le, drop-drop}
 use Rattle.std.specs.List.{concat}
-use Rattle.std.proofs.lemmas.List.{append-nil, reverse-append, drop_all}
+use Rattle.std.proofs.lemmas.List.{append-nil, reverse-append}
 use Rattle.std.proofs.lemmas.List.Folds.{concat-append}
 use Rattle.std.proofs.lemmas.Option.{same_Some}
 use Rattle.blog_row.specs.Column.{Layout}
 use Rattle.blog_row.specs.Image.{image_len_of, images_up_to, images_of}
 use Rattle.blog_row.proofs.Cutting.{map_found}
-use Rattle.blog_row.proofs.Images.{images_found}
 use Rattle.blog_row.proofs.RowsCode.{counted, OneImage, count_stops}
 
 -- the images that are left are read from the rest, and those before them stand in reverse order behind the room for these
@@ -22,18 +21,6 @@ joined_reverse : (image : List ℕ) (images : List (List ℕ)) → concat (rever
 joined_reverse image images =
     ap concat (reverse-append (image ∷ []) images) ∙ concat-append (reverse images) (image ∷ [])
     ∙ ap (λ (t : List ℕ). concat (reverse images) ++ t) (append-nil image)
-
--- nothing is written yet
-pub written_none : (layout : Layout) (all : List (List ℕ)) (bytes to : List ℕ) → images_of layout bytes ≡ Some all → length to ≡ length (concat all) → Written layout all bytes to
-written_none layout all bytes to e l =
-    let same : length bytes ≡ length (concat all) = ap length (images_found layout bytes all e).1 in
-    let free : drop (length bytes) to ≡ [] = drop_all (length bytes) to (omega arith) in
-    record {
-      left = all;
-      left_is = e;
-      within = omega arith;
-      text = sym (ap (λ (t : List ℕ). concat (reverse all) ++ t) free ∙ append-nil (concat (reverse all)));
-    }
 
 -- what is left begins with an image
 pub written_there : {P : Type 0} (layout : Layout) (all : List (List ℕ)) (rest to : List ℕ) → Written layout all rest to → 0 < length rest → image_len_of layout rest ≡ None → P

@@ -1,9 +1,7 @@
 -- How the code reads the body of a rows event: part by part.
-use Rattle.std.proofs.Common.{◌≡◌, ◌+◌, ◌-◌, ◌%◌, ◌<◌, ◌≤◌, ℕ, zero, suc, Bool, true, false, eqb, leb, List, [], ◌∷◌, ◌++◌, length, take, drop, Option, Some, None, option_and_then, option_map, unwrap_or, is_some, Result, Ok, Err, refl, sym, ap, ◌∙◌, arith, length-append, drop_at}
+use Rattle.std.proofs.Common.{◌≡◌, ◌+◌, ◌-◌, ◌%◌, ◌<◌, ◌≤◌, ℕ, zero, suc, Bool, true, false, eqb, List, [], ◌∷◌, ◌++◌, length, take, drop, Option, Some, None, option_and_then, option_map, unwrap_or, is_some, Result, Ok, Err, refl, sym, ap, ◌∙◌, arith, length-append, drop_at}
 use Rattle.std.specs.Result.{IfOk}
 use Rattle.std.specs.List.{list_all, concat}
-use Rattle.std.proofs.lemmas.Bool.{and_from}
-use Rattle.byteorder.specs.Endian.{little_number}
 use Rattle.blog_row.specs.declared.kind.RowsAction.{RowsAction}
 use Rattle.blog_row.specs.declared.kind.RowsAction.TheVariants.{Write, Update, Delete}
 use Rattle.blog_row.specs.declared.kind.RowsKind.{RowsKind}
@@ -19,38 +17,13 @@ use Rattle.blog_row.specs.Checks.{◌>>=◌, check, or_bad, cut}
 use Rattle.blog_row.specs.Packed.{packed_front}
 use Rattle.blog_row.specs.Column.{Layout}
 use Rattle.blog_row.specs.Image.{Row, bitmap_len, is_marked, IsImage, image_front, image_len_of, images_up_to, images_of}
-use Rattle.blog_row.specs.RowsEvent.{RowsBody, HasExtra, IsRowsBody, are_marked, bitmaps_by, two_bitmaps, counted_extra, extra_of, pieces, rows_of}
+use Rattle.blog_row.specs.RowsEvent.{RowsBody, HasExtra, IsRowsBody, are_marked, bitmaps_by, two_bitmaps, extra_of, pieces, rows_of}
 use Rattle.blog_row.specs.RowsWriting.{no_extra}
-use Rattle.blog_row.specs.RowsEventView.{FrontParts, front_of, rows_front, rows_body, counted_seen}
-use Rattle.blog_row.proofs.Cutting.{none_is_not, map_found}
-use Rattle.blog_row.proofs.NamesCode.{then_of, nothing_then}
+use Rattle.blog_row.specs.RowsEventView.{FrontParts, rows_front, rows_body, counted_seen}
+use Rattle.blog_row.proofs.Cutting.{none_is_not, map_found, nothing_then, then_of}
 use Rattle.blog_row.proofs.Images.{image_found, image_positive, images_found, images_again}
 use Rattle.blog_row.proofs.Layouts.{length_of_columns}
 use Rattle.blog_row.proofs.Bodies.{marks, rows_found, rows_again}
-
--- ---- the fields up to the extra bytes
-
-pub no_id : (version : RowsVersion) (body : List ℕ) → cut 6 body ≡ None → rows_front version body ≡ None
-unfolding rows_front
-no_id version body e = rw e
-
-pub no_flags : (version : RowsVersion) (body : List ℕ) (id : List ℕ × List ℕ) → cut 6 body ≡ Some id → cut 2 id.1 ≡ None → rows_front version body ≡ None
-unfolding rows_front
-no_flags version body id e f = rw (e, f)
-
-pub by_extra : (version : RowsVersion) (body : List ℕ) (id flags : List ℕ × List ℕ) (o : Option (List ℕ × List ℕ × List ℕ)) → cut 6 body ≡ Some id → cut 2 id.1 ≡ Some flags → extra_of version flags.1 ≡ o
-    → rows_front version body ≡ option_map (front_of id.0 flags.0) o
-unfolding rows_front
-by_extra version body id flags o e f g = rw (e, f, g) refl
-
-pub few_extra : (len : List ℕ × List ℕ) → leb 2 (little_number 2 len.0) ≡ false → counted_extra len ≡ None
-few_extra len e = rw e
-
-pub some_extra : (len : List ℕ × List ℕ) (n : ℕ) (o : Option (List ℕ × List ℕ)) → n ≡ little_number 2 len.0 → leb 2 (little_number 2 len.0) ≡ true → cut (n - 2) len.1 ≡ o
-    → counted_extra len ≡ option_map (λ extra. (len.0, extra.0, extra.1)) o
-some_extra len n o same e f =
-    let own : cut (little_number 2 len.0 - 2) len.1 ≡ o = ap (λ k. cut (k - 2) len.1) (sym same) ∙ f in
-    rw (e, own)
 
 -- ---- bitmaps
 
@@ -60,11 +33,6 @@ not_marked n i bitmap l e = by_case (are_marked n bitmap) refl
     by_case : (t : Bool) → are_marked n bitmap ≡ t → are_marked n bitmap ≡ false
     by_case false h = h
     by_case true h = let set : is_marked bitmap i ≡ true = (marks n bitmap).0 h i l in absurd (cc)
-
-pub one_more_marked : (n : ℕ) (bitmap : List ℕ) → are_marked n bitmap ≡ true → is_marked bitmap n ≡ true → are_marked (n + 1) bitmap ≡ true
-one_more_marked n bitmap e f =
-    let next : n + 1 ≡ suc n = omega arith in
-    ap (λ k. are_marked k bitmap) next ∙ and_from (is_marked bitmap n) (are_marked n bitmap) f e
 
 -- ---- images, one after the other
 

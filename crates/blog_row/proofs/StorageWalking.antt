@@ -1,7 +1,7 @@
 -- How the code looks up how columns are stored, and how it walks over an image by that.
-use Rattle.std.proofs.Common.{◌≡◌, ◌<◌, ◌≤◌, ℕ, ◌+◌, ◌/◌, ◌%◌, min, true, false, List, [], ◌∷◌, ◌++◌, length, take, drop, get_or, set, Option, Some, None, refl, sym, ap, ◌∙◌, subst, arith, append_assoc, drop-cons, add-one}
+use Rattle.std.proofs.Common.{◌≡◌, ◌<◌, ◌≤◌, ℕ, ◌+◌, ◌/◌, ◌%◌, min, true, false, List, [], ◌∷◌, ◌++◌, length, take, drop, get_or, Option, Some, None, refl, sym, ap, ◌∙◌, subst, arith, drop-cons, add-one}
 use Rattle.std.specs.List.{list_all}
-use Rattle.std.proofs.lemmas.List.{append-nil, drop_all, take_more_set}
+use Rattle.std.proofs.lemmas.List.{append-nil, drop_all}
 use Rattle.blog_row.specs.declared.column.Storage as told
 use Rattle.blog_row.specs.declared.column.Storage.TheVariants as variants
 use Rattle.blog_row.specs.Column.{Column, Layout, storage_of, is_column, columns_of, value_stored, value_front}
@@ -43,9 +43,6 @@ pub record Reached (storages : List told.Storage) (nulls bytes : List ℕ) (whol
   pub columns : Layout
   pub stored : AreStored columns (drop i storages)
   pub so_far : whole ≡ behind_from columns nulls i end bytes
-
-pub reached_none : (storages : List told.Storage) (columns : Layout) (nulls bytes : List ℕ) (at : ℕ) → AreStored columns storages → Reached storages nulls bytes (behind_from columns nulls 0 at bytes) 0 at
-reached_none storages columns nulls bytes at stored = record { columns = columns; stored = stored; so_far = refl }
 
 -- one column further, which is NULL
 pub reached_null : (storages : List told.Storage) (nulls bytes : List ℕ) (whole : Option (List ℕ)) (i end : ℕ)
@@ -101,22 +98,6 @@ nulls_stored columns storages n stored e = ap bitmap_len (sym (as_many_stored co
 pub record LookedUp (kinds metadata : List ℕ) (storages : List told.Storage) (i : ℕ) (left : List ℕ) : Type 0 where
   pub known : list_all is_column (columns_of (drop i kinds) left) ≡ true
   pub so_far : (others : List told.Storage) → AreStored (columns_of (drop i kinds) left) others → AreStored (columns_of kinds metadata) (take i storages ++ others)
-
-pub looked_up_none : (kinds metadata : List ℕ) (storages : List told.Storage) → list_all is_column (columns_of kinds metadata) ≡ true → LookedUp kinds metadata storages 0 metadata
-looked_up_none kinds metadata storages known = record { known = known; so_far = λ others stored. stored }
-
--- one column more
-pub looked_up_more : (kinds metadata left after : List ℕ) (storages : List told.Storage) (i : ℕ) (column : Column) (storage : told.Storage)
-    → i < length storages → columns_of (drop i kinds) left ≡ column ∷ columns_of (drop (i + 1) kinds) after → storage_of column ≡ Some (storage_seen storage) → list_all is_column (columns_of (drop (i + 1) kinds) after) ≡ true
-    → LookedUp kinds metadata storages i left → LookedUp kinds metadata (set storages i storage) (i + 1) after
-looked_up_more kinds metadata left after storages i column storage h are here known l = record {
-  known = known;
-  so_far = λ others stored.
-      let joined : take i storages ++ (storage ∷ others) ≡ take (i + 1) (set storages i storage) ++ others =
-      sym (append_assoc (take i storages) (storage ∷ []) others) ∙ ap (λ (t : List told.Storage). t ++ others) (sym (take_more_set storages i storage h)) in
-      let one : AreStored (column ∷ columns_of (drop (i + 1) kinds) after) (storage ∷ others) = (here, stored) in
-      subst (AreStored (columns_of kinds metadata)) joined (l.so_far (storage ∷ others) (subst (λ (columns : Layout). AreStored columns (storage ∷ others)) (sym are) one));
-}
 
 -- all of them
 pub looked_up_all : (kinds metadata left : List ℕ) (storages : List told.Storage) (i : ℕ) → i ≡ length kinds → LookedUp kinds metadata storages i left → AreStored (columns_of kinds metadata) (take (length kinds) storages)

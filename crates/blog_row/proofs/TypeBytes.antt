@@ -54,8 +54,6 @@ known_at kind metadata kinds e =
 pub known_here : (kinds metadata : List ℕ) (i : ℕ) → i < length kinds → list_all is_column (columns_of (drop i kinds) metadata) ≡ true → KnownAt (get_or kinds i 0) metadata (drop (i + 1) kinds)
 known_here kinds metadata i h e = known_at (get_or kinds i 0) metadata (drop (i + 1) kinds) (rw (split_index kinds i h) at e)
 
--- ---- the metadata behind that of columns
-
 -- ---- are the columns of the profile?
 
 -- the first i columns are, and the metadata of the others is left

@@ -9,6 +9,7 @@ ghost use Rattle.blog_row.specs.StorageView.{storage_seen};
 
 use crate::column::{Storage, metadata_len, stored_as};
 use crate::fault::RowFault;
+use crate::image::cut_at;
 use crate::names::names_at;
 use crate::packed::packed_at;
 use crate::storages::{MOST_STORAGES, len_by, storages_of};
@@ -84,36 +85,27 @@ pub(crate) fn column_at<'a>(kinds: &[u8], i: usize, metadata: &'a [u8]) -> (Stor
 const MOST_COLUMNS: u64 = 4096;
 
 /// The types behind their packed count, and the bytes behind them, where there are 1 to 4,096 types.
+#[tactic(auto, unfolding(crate::specs::LayoutReading::types_front))]
 fn types_at(bytes: &[u8]) -> Option<(&[u8], &[u8])>
     ensures { option_map cut_seen result ≡ types_front bytes.now }
 {
-    let Some(count) = packed_at(bytes) else {
-        return None;
-    };
+    let count = packed_at(bytes)?;
     if count.value < 1 || MOST_COLUMNS < count.value {
         return None;
     }
-    let columns = count.value as usize;
-    if count.rest.len() < columns {
-        return None;
-    }
-    Some(count.rest.split_at(columns))
+    cut_at(count.value as usize, count.rest)
 }
 
 /// The `len` bytes of metadata behind their packed length, and the bytes behind them, where that is the length.
+#[tactic(auto, unfolding(crate::specs::LayoutReading::metadata_front))]
 fn metadata_at(len: usize, bytes: &[u8]) -> Option<(&[u8], &[u8])>
     ensures { option_map cut_seen result ≡ metadata_front len bytes.now }
 {
-    let Some(size) = packed_at(bytes) else {
-        return None;
-    };
+    let size = packed_at(bytes)?;
     if size.value != len as u64 {
         return None;
     }
-    if size.rest.len() < len {
-        return None;
-    }
-    Some(size.rest.split_at(len))
+    cut_at(len, size.rest)
 }
 
 /// The columns of a table, 1 to 4,096 of them: the types and the metadata bytes of its table map

@@ -1,8 +1,10 @@
 //! The names of a table map.
 
-ghost use Rattle.std.specs.Prelude.{◌≡◌, ◌≤◌, ◌+◌, length, drop, option_map};
+ghost use Rattle.std.specs.Prelude.{◌≡◌, option_map};
 ghost use Rattle.blog_row.specs.TableMap.{name_front, names_of, names_seen};
 ghost use Rattle.blog_row.specs.Checks.{cut_seen};
+
+use crate::image::cut_at;
 
 /// The fields of a table map's body up to its names (MySQL Internals manual, "Table_map_event").
 #[derive(Clone, Copy, Debug)]
@@ -20,40 +22,28 @@ pub(crate) struct Names<'a> {
 }
 
 /// The name at the front, behind its length of one byte and before a zero byte; and the bytes behind that.
+#[tactic(auto, unfolding(crate::specs::TableMap::name_front))]
 fn name_at(bytes: &[u8]) -> Option<(&[u8], &[u8])>
     ensures { option_map cut_seen result ≡ name_front bytes.now }
 {
-    if bytes.is_empty() {
+    let (len, behind) = bytes.split_first()?;
+    let (name, ended) = cut_at(usize::from(*len), behind)?;
+    let (zero, rest) = ended.split_first()?;
+    if *zero != 0 {
         return None;
     }
-    let len = usize::from(bytes[0]);
-    let (_, behind) = bytes.split_at(1);
-    if behind.len() <= len {
-        return None;
-    }
-    let (name, ended) = behind.split_at(len);
-    if ended[0] != 0 {
-        return None;
-    }
-    let (_, rest) = ended.split_at(1);
     Some((name, rest))
 }
 
 /// The fields up to the names, if the body has them: an id, flags, and two names.
+#[tactic(auto, unfolding(crate::specs::TableMap::names_of))]
 pub(crate) fn names_at(body: &[u8]) -> Option<Names<'_>>
     ensures { option_map names_seen result ≡ names_of body.now }
 {
-    if body.len() < 8 {
-        return None;
-    }
-    let (id, behind) = body.split_at(6);
-    let (flags, behind) = behind.split_at(2);
-    let Some((schema, behind)) = name_at(behind) else {
-        return None;
-    };
-    let Some((table, rest)) = name_at(behind) else {
-        return None;
-    };
+    let (id, behind) = cut_at(6, body)?;
+    let (flags, behind) = cut_at(2, behind)?;
+    let (schema, behind) = name_at(behind)?;
+    let (table, rest) = name_at(behind)?;
     Some(Names {
         id,
         flags,

@@ -43,6 +43,7 @@ fn value_of(first: u8, others: &[u8]) -> u64
 }
 
 /// The packed integer at the front, if one stands there.
+#[tactic(auto, unfolding(crate::specs::Packed::packed_front))]
 pub(crate) fn packed_at(bytes: &[u8]) -> Option<Packed<'_>>
     ensures { option_map packed_seen result ≡ packed_front bytes.now }
 {

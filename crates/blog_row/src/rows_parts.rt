@@ -70,6 +70,7 @@ pub(crate) fn extra_at(version: RowsVersion, bytes: &[u8]) -> Option<Extra<'_>>
 }
 
 /// The fields up to the extra bytes, where the body has them.
+#[tactic(auto, unfolding(crate::specs::RowsEventView::rows_front))]
 pub(crate) fn front_at(version: RowsVersion, body: &[u8]) -> Option<Front<'_>>
     ensures { option_map front_seen result ≡ rows_front version body.now }
 {

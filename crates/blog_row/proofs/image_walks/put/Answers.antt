@@ -1,17 +1,10 @@
-use Rattle.std.proofs.Common.{◌≡◌, ◌<◌, ◌∙◌, [], length, take, unwrap_or, sym, ap, arith, None, Some}
+use Rattle.std.proofs.Common.{◌≡◌, ◌<◌, ◌∙◌, length, take, sym, arith, None, Some}
 use Rattle.std.proofs.lemmas.Grind.{common_steps}
-use Rattle.blog_row.specs.Image.{image_len_of, images_of}
+use Rattle.blog_row.specs.Image.{image_len_of}
 use Rattle.blog_row.specs.LayoutView.{layout_columns}
-use Rattle.blog_row.proofs.Cutting.{some_is}
-use Rattle.blog_row.proofs.RowsCode.{OneImage, some_columns, one_image, images_are_joined}
-use Rattle.blog_row.proofs.Reversing.{written_none, written_there, written_more, written_all}
+use Rattle.blog_row.proofs.RowsCode.{OneImage, some_columns, one_image}
+use Rattle.blog_row.proofs.Reversing.{written_there, written_more, written_all}
 use Rattle.blog_row.proofs.image_walks.put.Goals as goal
-
-pub loop-rest-init : goal.loop-rest-init
-loop-rest-init c =
-    let layout = layout_columns c.args.layout.now in
-    let all : images_of layout c.args.bytes.now ≡ Some (unwrap_or (images_of layout c.args.bytes.now) []) = some_is [] (images_of layout c.args.bytes.now) c.requires.imaged in
-    written_none layout _ c.args.bytes.now c.args.to.now all (c.requires.room ∙ ap length (images_are_joined layout c.args.bytes.now c.requires.imaged))
 
 pub unreachable-requires : goal.unreachable-requires
 unreachable-requires c =

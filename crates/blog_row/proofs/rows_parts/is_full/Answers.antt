@@ -10,6 +10,3 @@ loop-byte-preserved c =
     let full = ap (λ (k : ℕ). get_or c.args.bitmap.now k 0) here ∙ c.if-byte.false in
     let more = eight_null c.args.bitmap.now 0 (8 * n) c.loop-byte.invariant start full in
     λ i least below. more i least (omega arith)
-
-pub returns : goal.returns
-returns c = λ whole i below. c.loop-byte.invariant i (omega arith) (omega arith)

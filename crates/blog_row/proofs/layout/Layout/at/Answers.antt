@@ -3,7 +3,7 @@ use Rattle.std.proofs.lemmas.Bool.{lt-leb}
 use Rattle.std.specs.List.{list_all}
 use Rattle.blog_row.specs.Column.{is_column, columns_of, metadata_total}
 use Rattle.blog_row.specs.Image.{bitmap_len}
-use Rattle.blog_row.specs.LayoutReading.{are_known, types_front, metadata_front, layout_behind}
+use Rattle.blog_row.specs.LayoutReading.{types_front, metadata_front, layout_behind}
 use Rattle.blog_row.specs.Checks.{cut_seen}
 use Rattle.blog_row.proofs.LayoutCode.{behind_metadata, layout_parts, no_types, types_found, total_there, total_missing, metadata_found}
 use Rattle.blog_row.proofs.layout.Layout.at.Goals as goal

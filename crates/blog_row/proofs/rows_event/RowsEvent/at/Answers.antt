@@ -1,4 +1,4 @@
-use Rattle.std.proofs.Common.{rules, arith, ◌≡◌, ◌<◌, ◌^◌, ◌%◌, ◌∙◌, ℕ, true, false, List, [], length, eqb, unwrap_or, Ok, refl, sym, ap}
+use Rattle.std.proofs.Common.{rules, arith, ◌≡◌, ◌<◌, ◌^◌, ◌%◌, ◌∙◌, true, false, [], length, eqb, unwrap_or, Ok, refl, sym, ap}
 use Rattle.std.proofs.lemmas.Bool.{eq-eqb, ne_eqb}
 use Rattle.blog_row.specs.Image.{bitmap_len, images_of}
 use Rattle.blog_row.specs.RowsKind.{images_a_row}

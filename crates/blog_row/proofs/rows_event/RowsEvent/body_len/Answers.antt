@@ -17,12 +17,6 @@ parts c = (
   ap (λ (b : List ℕ × List ℕ). length b.1) (c.bitmaps.ensures.two ∙ sym c.args.self.now.two),
 )
 
-pub overflow_add-result : goal.overflow_add-result
-overflow_add-result c = omega (arith, parts (goal.at.overflow_add-result c).After-extra_len, ap length c.count.ensures, c.args.self.now.extra_long, c.args.self.now.fits)
-
-pub overflow_add-result-2 : goal.overflow_add-result-2
-overflow_add-result-2 c = omega (arith, parts (goal.at.overflow_add-result-2 c).After-extra_len, ap length c.count.ensures, c.args.self.now.extra_long, c.args.self.now.fits)
-
 pub overflow_add-result-3 : goal.overflow_add-result-3
 overflow_add-result-3 c =
     let r = c.args.self.now in
