@@ -5,7 +5,6 @@ use crate::words::WordsFault;
 use blog_device::{RunFault, Watched, put};
 use blog_event::Fault;
 use blog_split::SplitFault;
-use blog_sum::SumFault;
 use console::put_line;
 use std::alloc::Allocator;
 use std::fmt;
@@ -28,7 +27,8 @@ impl<A: Allocator> fmt::Display for Failure<'_, A> {
             Failure::Words(WordsFault::Wrong(text)) => write!(f, "{text}"),
             Failure::Words(WordsFault::NotText) => f.write_str(NOT_TEXT),
             Failure::Words(WordsFault::OutOfMemory) => {
-                write!(f, "{}: {OUT_OF_MEMORY}", Fault::OutOfMemory)
+                let fault = Fault::OutOfMemory;
+                write!(f, "{fault}: {}", advice::of_log(&fault))
             }
             Failure::NoLog(path, cause) => write!(
                 f,
@@ -49,16 +49,16 @@ impl<A: Allocator> fmt::Display for Failure<'_, A> {
             Failure::Copy(CopyFault::Run(fault)) | Failure::List(fault) => print_run_fault(
                 f, fault,
             ),
-            Failure::EndsEarly(fault) => write!(f, "{fault}: {}", what_to_do_at_the_end(fault)),
+            Failure::EndsEarly(fault) => write!(f, "{fault}: {}", advice::of_end(fault)),
             Failure::Copy(CopyFault::Sums(fault)) => write!(
                 f,
                 "{fault}: {}",
-                what_to_do_about_sums(fault)
+                advice::of_sums(fault)
             ),
             Failure::Copy(CopyFault::Split(SplitFault::Log(fault))) => write!(
                 f,
                 "{fault}: {}",
-                what_to_do_about_rows(fault)
+                advice::of_whole_log(fault)
             ),
             Failure::Copy(CopyFault::Split(SplitFault::TooLong)) => f.write_str(CUT_TOO_LONG),
         }
@@ -66,16 +66,15 @@ impl<A: Allocator> fmt::Display for Failure<'_, A> {
 }
 
 fn print_run_fault<W: fmt::Write>(f: &mut fmt::Formatter<W>, fault: &RunFault) -> fmt::Result {
+    let sentence = advice::of_run(fault);
     match fault {
-        RunFault::Log(fault) => write!(f, "{fault}: {}", what_to_do(fault)),
-        RunFault::Read => f.write_str(READ_FAILED),
-        RunFault::Write => f.write_str(WRITE_FAILED),
+        RunFault::Log(fault) => write!(f, "{fault}: {sentence}"),
+        RunFault::Read => write!(f, "read failed: {sentence}"),
+        RunFault::Write => write!(f, "write failed: {sentence}"),
     }
 }
 
 const NOT_TEXT: &str = "the arguments are not UTF-8: give names in UTF-8";
-
-const OUT_OF_MEMORY: &str = "run it where twice the log's size is free in memory";
 
 const NO_LOG: &str = "see its name and whether you may read it";
 
@@ -86,59 +85,5 @@ const NO_RESULT_FILE: &str = "see its folder and whether you may write there";
 const CUT_TOO_LONG: &str =
     "TooLong: cut so small the log would have more than 4294967295 bytes: give a larger --size";
 
-const READ_FAILED: &str = "read failed: see the log's disk, and try again";
-
-const WRITE_FAILED: &str =
-    "write failed: see whether the disk is full, or the program that reads the output has ended";
-
-fn what_to_do(fault: &Fault) -> &'static str {
-    match fault {
-        Fault::NotABinlog { .. } =>
-            "the file is no binary log, or an encrypted one: give a binary log",
-        Fault::TooLong { .. } => "the log has more than 4294967295 bytes: use another tool",
-        Fault::CutEvent { .. } => {
-            "the log ends inside an event, or is damaged: copy it from the server again"
-        }
-        Fault::Checksums { .. } => {
-            "the log has checksums: make a plain copy, binlog plain LOG -r FILE, and give that"
-        }
-        Fault::OldServer { .. } => "the server's version can't be read: give a server's own log",
-        Fault::OutOfMemory => OUT_OF_MEMORY,
-        _ => "the first event is damaged, or of another kind of log: copy it from the server again",
-    }
-}
-
-fn what_to_do_about_rows(fault: &Fault) -> &'static str {
-    match fault {
-        Fault::NotABinlog { .. }
-        | Fault::CutEvent { .. }
-        | Fault::BadFormat { .. }
-        | Fault::OldServer { .. }
-        | Fault::Checksums { .. }
-        | Fault::TooLong { .. }
-        | Fault::OutOfMemory => what_to_do(fault),
-        _ => "the log can't be undone as a whole: cut the log that flashback writes of a range",
-    }
-}
-
-fn what_to_do_at_the_end(fault: &Fault) -> &'static str {
-    match fault {
-        Fault::CutEvent { .. } => {
-            "the log ends inside an event: copy it from the server again, once it is closed"
-        }
-        _ => "the log ends inside a transaction: copy it from the server again, once it is closed",
-    }
-}
-
-fn what_to_do_about_sums(fault: &SumFault) -> &'static str {
-    match fault {
-        SumFault::Log(fault) => what_to_do(fault),
-        SumFault::UnknownAlgorithm { .. } => {
-            "the log has checksums that aren't CRC32: use the server's own tools"
-        }
-        SumFault::WrongSum { .. } => {
-            "the event isn't what the server wrote: copy the log from the server again"
-        }
-        SumFault::OutOfMemory => OUT_OF_MEMORY,
-    }
-}
+#[cfg(test)]
+mod tests;

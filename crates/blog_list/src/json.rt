@@ -4,7 +4,7 @@ use crate::beginning::{Beginning, statement_of};
 use crate::lines::Id;
 use crate::times::Seconds;
 use crate::totals::Totals;
-use blog_event::{Fault, Log};
+use blog_event::Log;
 use blog_trans::TableCount;
 use blog_units::Unit;
 use bstr::ByteSlice;
@@ -37,7 +37,7 @@ struct UnitLine {
     #[serde(skip_serializing_if = "Option::is_none")]
     tables: Option<Vec<TableLine>>,
     #[serde(skip_serializing_if = "Option::is_none")]
-    fault: Option<String>,
+    fault: Option<&'static str>,
     #[serde(skip_serializing_if = "Option::is_none")]
     position: Option<u32>,
     #[serde(skip_serializing_if = "Option::is_none")]
@@ -81,7 +81,7 @@ pub(crate) fn put_unit<A: Allocator + Copy, B: Allocator>(
             line.tables = Some(tables);
         }
         Err(fault) => {
-            line.fault = Some(name_of(global, fault)?);
+            line.fault = Some(fault.name());
             line.position = fault.at();
             line.statement = match statement_of(log, fault, unit.stop) {
                 Some(text) => {
@@ -146,11 +146,4 @@ fn digits(global: Global, bytes: &[u8]) -> Result<Option<String>, AllocError> {
         return Ok(None);
     }
     Ok(Some(hex::encode_upper(global, bytes)?))
-}
-
-/// The name of a fault, without its position.
-fn name_of(global: Global, fault: &Fault) -> Result<String, AllocError> {
-    let text = format!(in global; "{fault}")?;
-    let name = text.as_str().split(' ').next().unwrap_or("");
-    String::from_str(global, name)
 }
