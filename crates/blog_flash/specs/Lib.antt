@@ -10,4 +10,3 @@ pub mod Agreement
 pub mod Outputs
 pub mod Answers
 pub mod Runs
-pub mod Worked
