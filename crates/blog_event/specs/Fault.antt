@@ -1,5 +1,5 @@
 -- Why a log is refused: the table of the faults, and lists of checks of which the first that fails decides.
-use Rattle.std.specs.Prelude.{ℕ, Bool, true, false, List, [], ◌∷◌, Option, Some, None, option_map}
+use Rattle.std.specs.Prelude.{ℕ, Bool, true, false, List, [], ◌∷◌, Option, Some, None, codes, option_map}
 use Rattle.blog_event.specs.declared.fault.Fault.{Fault}
 use Rattle.blog_event.specs.declared.fault.Fault.TheVariants as fault
 
@@ -23,6 +23,27 @@ number_of (fault.BadBody pos) = 15
 number_of (fault.UnknownEvent pos) = 16
 number_of (fault.TooLong pos) = 17
 number_of fault.OutOfMemory = 18
+
+-- its name, with which its text begins
+abbrev pub name_of : Fault → List ℕ
+name_of (fault.NotABinlog pos) = codes "NotABinlog"
+name_of (fault.CutEvent pos) = codes "CutEvent"
+name_of (fault.BadFormat pos) = codes "BadFormat"
+name_of (fault.OldServer pos) = codes "OldServer"
+name_of (fault.Checksums pos) = codes "Checksums"
+name_of (fault.NoEventAt pos) = codes "NoEventAt"
+name_of (fault.Statement pos) = codes "Statement"
+name_of (fault.RolledBack pos) = codes "RolledBack"
+name_of (fault.OutOfPlace pos) = codes "OutOfPlace"
+name_of (fault.Unended pos) = codes "Unended"
+name_of (fault.NoMap pos) = codes "NoMap"
+name_of (fault.MapClash pos) = codes "MapClash"
+name_of (fault.PartialImage pos) = codes "PartialImage"
+name_of (fault.UnknownType pos) = codes "UnknownType"
+name_of (fault.BadBody pos) = codes "BadBody"
+name_of (fault.UnknownEvent pos) = codes "UnknownEvent"
+name_of (fault.TooLong pos) = codes "TooLong"
+name_of fault.OutOfMemory = codes "OutOfMemory"
 
 -- its position, for all but the last
 abbrev pub position_of : Fault → Option ℕ

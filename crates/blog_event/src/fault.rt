@@ -85,7 +85,7 @@ impl<T: Drop> From<AllocFailed<T>> for Fault {
 }
 
 impl Fault {
-    ghost use Rattle.blog_event.specs.Fault.{number_of, position_of};
+    ghost use Rattle.blog_event.specs.Fault.{name_of, number_of, position_of};
 
     /// The fault's number, from 1 to 18.
     pub fn number(&self) -> u8
@@ -110,6 +110,32 @@ impl Fault {
             Fault::UnknownEvent { .. } => 16,
             Fault::TooLong { .. } => 17,
             Fault::OutOfMemory => 18,
+        }
+    }
+
+    /// The fault's name, with which its text begins.
+    pub fn name(&self) -> &'static str
+        ensures name { result.now ≡ name_of self.now }
+    {
+        match self {
+            Fault::NotABinlog { .. } => "NotABinlog",
+            Fault::CutEvent { .. } => "CutEvent",
+            Fault::BadFormat { .. } => "BadFormat",
+            Fault::OldServer { .. } => "OldServer",
+            Fault::Checksums { .. } => "Checksums",
+            Fault::NoEventAt { .. } => "NoEventAt",
+            Fault::Statement { .. } => "Statement",
+            Fault::RolledBack { .. } => "RolledBack",
+            Fault::OutOfPlace { .. } => "OutOfPlace",
+            Fault::Unended { .. } => "Unended",
+            Fault::NoMap { .. } => "NoMap",
+            Fault::MapClash { .. } => "MapClash",
+            Fault::PartialImage { .. } => "PartialImage",
+            Fault::UnknownType { .. } => "UnknownType",
+            Fault::BadBody { .. } => "BadBody",
+            Fault::UnknownEvent { .. } => "UnknownEvent",
+            Fault::TooLong { .. } => "TooLong",
+            Fault::OutOfMemory => "OutOfMemory",
         }
     }
 

@@ -96,6 +96,13 @@ impl<'a> Log<'a> {
         Ok(Log { bytes, format })
     }
 
+    /// The bytes of the file.
+    pub fn bytes(&self) -> &'a [u8]
+        ensures bytes { result.now ≡ log_bytes self.now }
+    {
+        self.bytes
+    }
+
     /// The format description, the event at the byte position 4.
     pub fn format(&self) -> Event<'a>
         ensures event { event_at (drop 4 (log_bytes self.now)) ≡ Some (event_of result) }
