@@ -2,7 +2,7 @@
 #![tactic(auto)]
 
 mod laid_out;
-mod lengths;
+mod log_sizes;
 mod modes;
 mod printed;
 mod put_sql;
@@ -10,12 +10,15 @@ mod put_summary;
 mod runs;
 mod theorems;
 mod worked_logs;
+mod written_event;
+mod written_events;
 mod written_out;
 
 pub use blog_device::{RunFault, Watched, put};
 pub use blog_event::Fault;
 pub use blog_trans::Selection;
-pub use laid_out::{front, put_rows_event, put_same};
+pub use laid_out::{front, lay_out};
+pub use log_sizes::{LogSizes, sizes_of};
 pub use modes::{Mode, answer, flashback, forward, selected, sql, summary};
 pub use printed::put_table;
 pub use runs::{prepare, run, run_by_chunks};
@@ -28,3 +31,6 @@ pub use worked_logs::{
     worked_inverses, worked_normal_forms, worked_outputs, worked_printed, worked_selections,
     worked_starts, worked_versions,
 };
+pub use written_event::{WrittenEvent, WrittenRows};
+pub use written_events::{WrittenEvents, WrittenGroups};
+pub use written_out::{CHUNK_LEN, write_out};
