@@ -14,4 +14,3 @@ pub mod Agreement
 pub mod Outputs
 pub mod Answers
 pub mod Runs
-pub mod Worked

@@ -9,7 +9,6 @@ mod put_sql;
 mod put_summary;
 mod runs;
 mod theorems;
-mod worked_logs;
 mod written_event;
 mod written_events;
 mod written_out;
@@ -25,11 +24,6 @@ pub use runs::{prepare, run, run_by_chunks};
 pub use theorems::{
     every_stop_stands, flashback_undoes, forward_is_normal, groups_show_each_event_once,
     maps_agree_on_layouts, written_changes_are_inverse, written_logs_are_no_longer,
-};
-pub use worked_logs::{
-    worked_event_faults, worked_faults, worked_file_faults, worked_first_faults, worked_groups,
-    worked_inverses, worked_normal_forms, worked_outputs, worked_printed, worked_selections,
-    worked_starts, worked_versions,
 };
 pub use written_event::{WrittenEvent, WrittenRows};
 pub use written_events::{WrittenEvents, WrittenGroups};

@@ -1,6 +1,6 @@
 -- Small logs with events around the changes, byte by byte, in the manner of the logs of changes.
 use Rattle.std.specs.Prelude.{ℕ, List, [], ◌∷◌, ◌++◌}
-use Rattle.blog_flash.specs.Worked.Logs.{no_changes}
+use Rattle.blog_examples.specs.Logs.{no_changes}
 
 -- a transaction that maps a table and changes nothing; 236 bytes
 abbrev pub map_alone : List ℕ

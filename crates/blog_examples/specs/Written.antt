@@ -1,6 +1,6 @@
 -- The logs that undo small logs, byte by byte.
 use Rattle.std.specs.Prelude.{ℕ, List, [], ◌∷◌, ◌++◌}
-use Rattle.blog_flash.specs.Worked.Logs.{no_changes}
+use Rattle.blog_examples.specs.Logs.{no_changes}
 
 -- `two_updates` undone; 275 bytes
 abbrev pub two_updates_undone : List ℕ

@@ -1,6 +1,6 @@
 -- Small logs that are refused, byte by byte.
 use Rattle.std.specs.Prelude.{ℕ, List, [], ◌∷◌, ◌++◌}
-use Rattle.blog_flash.specs.Worked.Logs.{no_changes}
+use Rattle.blog_examples.specs.Logs.{no_changes}
 
 -- an insert without a `BEGIN`; 220 bytes
 abbrev pub no_begin : List ℕ

@@ -12,7 +12,7 @@ use Rattle.blog_flash.specs.Texts.{laid_out, flashback_text}
 use Rattle.blog_flash.specs.Printed.{sql_text, summary_text}
 use Rattle.hex.specs.Hex.{encode_with}
 use Rattle.std.specs.Fmt.{digits}
-use Rattle.blog_flash.proofs.worked_logs.worked_printed.Goals as goal
+use Rattle.blog_examples.proofs.worked_logs.worked_printed.Goals as goal
 
 -- each by computation; the digits of a decimal number unfold in a proof file alone
 pub returns : goal.returns

@@ -1,6 +1,6 @@
 -- Small logs with rows events of version 1, and of servers before 5.6.1, byte by byte.
 use Rattle.std.specs.Prelude.{ℕ, List, [], ◌∷◌, ◌++◌}
-use Rattle.blog_flash.specs.Worked.Logs.{no_changes}
+use Rattle.blog_examples.specs.Logs.{no_changes}
 
 -- one row is inserted, by version 1; 257 bytes
 abbrev pub insert_of_version_1 : List ℕ
