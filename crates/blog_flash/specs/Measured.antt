@@ -27,3 +27,8 @@ pub record HasSizes (pos : ℕ) (es : List Event) (sizes : LogSizes) : Type 0 wh
 abbrev pub Measures : ℕ → List Event → Option LogSizes → Type 0
 Measures pos es (Some sizes) = HasSizes pos es sizes
 Measures pos es None = 4294967295 < end_of pos es
+
+-- events behind so many bytes end where a log may end, and none of them is larger than the largest of these sizes
+pub record AreWithin (pos : ℕ) (es : List Event) (sizes : LogSizes) : Type 0 where
+  pub short : end_of pos es ≤ 4294967295
+  pub each : AllByRecursion (λ e. event_size e ≤ sizes.largest) es

@@ -7,7 +7,7 @@ ghost use Rattle.blog_flash.specs.Written.{event_written};
 use crate::written_events::WrittenEvents;
 use blog_event::HEADER_LEN;
 
-/// How many bytes a log has, and how many its largest event has behind the front.
+/// How many bytes a log has, and how many its largest event has behind the front; or more.
 #[derive(Clone, Copy, Debug)]
 pub struct LogSizes {
     /// The bytes of the log.

@@ -54,11 +54,7 @@ pub fn selected<'a, 's, A: Allocator + Copy>(
 }
 
 /// The sizes of the groups of an index in an order, behind their front.
-pub(crate) fn group_sizes<A: Allocator>(
-    index: &Index<'_, '_, A>,
-    front: &[u8],
-    order: Order,
-) -> LogSizes
+fn group_sizes<A: Allocator>(index: &Index<'_, '_, A>, front: &[u8], order: Order) -> LogSizes
     requires within { length front.now ≤ 4294967295 }
     requires short { end_of (length front.now) (group_events (transactions_of order (index_groups index.now))) ≤ 4294967295 }
     ensures { HasSizes (length front.now) (map event_written (groups_written (transactions_of order (index_groups index.now)))) result }

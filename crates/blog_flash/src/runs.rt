@@ -7,7 +7,8 @@ ghost use Rattle.blog_device.specs.Devices.{is_read_fault, is_write_fault};
 ghost use Rattle.blog_flash.specs.Runs.{IsOutputWritten, Prepares, Runs, ends_before_writing, mode_in};
 
 use crate::laid_out::front;
-use crate::modes::{Mode, answer, group_sizes, selected};
+use crate::log_sizes::LogSizes;
+use crate::modes::{Mode, answer, selected};
 use crate::written_events::WrittenGroups;
 use crate::written_out::{CHUNK_LEN, write_out};
 use blog_device::{RunFault, Watched, put, read_log};
@@ -54,7 +55,11 @@ fn write_log<A: Allocator + Copy, W: Write>(
         Err(fault) => return Err(RunFault::Log(fault)),
     };
     let front = front(&groups);
-    let sizes = group_sizes(&groups, front, order);
+    // No event is written longer than it was read.
+    let sizes = LogSizes {
+        len: bytes.len(),
+        largest: groups.largest(0),
+    };
     let mut events = WrittenGroups::new(&groups, order);
     write_out(alloc, front, &mut events, sizes, writer, chunk_len)
 }

@@ -10,7 +10,7 @@ ghost use Rattle.blog_device.specs.Watched.{device_of, has_failed};
 ghost use Rattle.blog_device.specs.Devices.{AppendsBeginning, is_write_fault};
 ghost use Rattle.blog_flash.specs.LaidOut.{text_from};
 ghost use Rattle.blog_flash.specs.Runs.{IsWritten, ends_before_writing};
-ghost use Rattle.blog_flash.specs.Measured.{HasSizes};
+ghost use Rattle.blog_flash.specs.Measured.{AreWithin};
 ghost use Rattle.blog_flash.specs.Written.{event_written};
 
 use crate::log_sizes::LogSizes;
@@ -47,8 +47,9 @@ fn write_events<'a, A: Allocator, E: WrittenEvents<'a>, W: Write>(
     put(writer, chunk)
 }
 
-/// Writes a log, as `lay_out` makes it. All memory is taken before the first write: `chunk_len` bytes, or as many as the log
-/// has where these are fewer, or as many as the front of the log or the largest event has where these are more.
+/// Writes a log, as `lay_out` makes it. `sizes` are at least those of the log. All memory is taken before the first write:
+/// `chunk_len` bytes, or as many as the log has where these are fewer, or as many as the front of the log or the largest event
+/// has where these are more.
 ///
 /// `Log(OutOfMemory)` where that is refused: the writer was not called then. `Write` where a write failed; what was written
 /// is then a beginning of the log.
@@ -60,7 +61,7 @@ pub fn write_out<'a, A: Allocator, E: WrittenEvents<'a>, W: Write>(
     writer: &mut Watched<W>,
     chunk_len: usize,
 ) -> Result<(), RunFault>
-    requires sizes { HasSizes (length front.now) (map event_written (E.to_come events.old)) sizes }
+    requires sizes { AreWithin (length front.now) (map event_written (E.to_come events.old)) sizes }
     ensures written { IsWritten (W.contents (device_of writer.old)) (W.contents (device_of writer.new))
         (front.now ++ text_from (length front.now) (map event_written (E.to_come events.old))) result }
     ensures untouched { ends_before_writing result ≡ true → writer.new ≡ writer.old }

@@ -64,7 +64,7 @@ statement-opened limit ss s n y used others here all none =
     ap (λ (es : List Written). es ++ (pieces_behind limit y.maps y.rows 0 n ++ (statements_behind limit (drop (s + 1) ss) ++ others))) (piece-none y.maps y.rows used 0 0 none (omega arith))
     ∙ ap (λ (rs : List RowsEvent). flat_map statement_written (map (piece_statement (statement_value y)) (pieces_of limit rs)) ++ (statements_behind limit (drop (s + 1) ss) ++ others)) (all-between y.rows 0 n all)
     ∙ sym (append_assoc (flat_map statement_written own) (flat_map statement_written behind) others)
-    ∙ ap (λ (es : List Written). es ++ others) (sym (flat_map-append statement_events own behind))
+    ∙ ap (λ (es : List Written). es ++ others) (sym (flat_map-append statement_written own behind))
     ∙ ap (λ (ys : List PlacedStatement). statements_behind limit ys ++ others) (sym (drop-at ss s y here))
 
 -- a transaction is begun

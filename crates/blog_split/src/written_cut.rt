@@ -44,7 +44,8 @@ fn write_cut<A: Allocator + Copy, B: Allocator, W: Write>(
     match write_out(alloc, front, &mut events, sizes, writer, chunk_len) {
         Ok(()) => Ok(()),
         Err(RunFault::Log(fault)) => Err(SplitRunFault::Split(SplitFault::Log(fault))),
-        Err(_) => Err(SplitRunFault::Write),
+        Err(RunFault::Write) => Err(SplitRunFault::Write),
+        Err(RunFault::Read) => unreachable!(),
     }
 }
 

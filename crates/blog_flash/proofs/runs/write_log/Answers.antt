@@ -1,4 +1,6 @@
-use Rattle.std.proofs.Common.{List, ℕ, ap₂, subst, ◌∙◌, arith}
+use Rattle.std.proofs.Common.{◌≤◌, List, ℕ, length, map, refl, sym, ap, ap₂, subst, ◌∙◌, arith}
+use Rattle.std.specs.List.{AllByRecursion}
+use Rattle.blog_event.specs.Event.{event_size}
 use Rattle.blog_device.specs.Watched.{device_of}
 use Rattle.blog_event.specs.File.{read}
 use Rattle.blog_trans.specs.Groups.{groups}
@@ -7,9 +9,23 @@ use Rattle.blog_flash.specs.LaidOut.{groups_in, transactions_of}
 use Rattle.blog_flash.specs.Runs.{IsWritten, mode_in}
 use Rattle.blog_flash.specs.Texts.{laid_out_after}
 use Rattle.blog_flash.proofs.Answering.{output-laid, output-written}
-use Rattle.blog_trans.specs.IndexView.{index_groups}
-use Rattle.blog_flash.proofs.InTurn.{written-text}
+use Rattle.blog_trans.specs.IndexView.{index_bytes, index_groups, index_selection}
+use Rattle.blog_flash.proofs.InTurn.{events-of-written, written-end, written-text}
+use Rattle.blog_flash.proofs.Totals.{groups-fit-room}
+use Rattle.blog_flash.specs.Written.{event_written}
 use Rattle.blog_flash.proofs.runs.write_log.Goals as goal
+
+pub write_out-requires : goal.write_out-requires
+unfolding groups
+write_out-requires g c k =
+    let index = c.in-Ok.groups in
+    let ts = transactions_of c.args.order (index_groups index) in
+    let es = ap (map event_written) c.new-events.ensures ∙ events-of-written ts in
+    let fits = groups-fit-room (index_bytes index) (index_selection index) c.args.order 0 c.largest.result (omega (arith, c.largest.ensures)) in
+    ((refl, tt), record {
+      short = omega (arith, written-end (length c.front-front.result.now) ts _ c.new-events.ensures, c.front-front.ensures.short c.args.order);
+      each = subst (AllByRecursion (λ e. event_size e ≤ c.largest.result)) (sym es) fits;
+    })
 
 pub returns-clause-written : goal.returns-clause-written
 unfolding groups
