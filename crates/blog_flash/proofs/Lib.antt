@@ -7,7 +7,7 @@ pub mod Forming
 pub mod Spans
 pub mod Passing
 pub mod Regrouping
-pub mod Sizes
+pub mod Lengths
 pub mod Agreeing
 pub mod Sound
 pub mod Source

@@ -20,8 +20,8 @@ use Rattle.blog_trans.proofs.Shown.{own_size, shown-sizes}
 use Rattle.blog_trans.proofs.Sums.{sum_of, sum-append, sum-map, sum-joined, sum-reverse}
 use Rattle.blog_flash.specs.LaidOut.{groups_in, transactions_of, written_event}
 use Rattle.blog_flash.specs.Texts.{group_events, laid_out}
-use Rattle.blog_flash.proofs.InTurn.{written-in-turn}
-use Rattle.blog_flash.proofs.Sizes.{laid-out-length}
+use Rattle.blog_flash.proofs.InTurn.{events-in-turn}
+use Rattle.blog_flash.proofs.Lengths.{laid-out-length}
 use Rattle.blog_flash.proofs.Source.{fields-found}
 
 -- ---- sums
@@ -100,7 +100,7 @@ module _ (w : ℕ → ℕ) (grows : Grows w) (order : Order) where
       let fits = parts-fit (IsPlacedTransaction Member sel) written_weight own_weight (transaction_in_turn order) transaction_shown (transaction-fits Member sel) order
       (placed_groups bytes sel) (groups-among sel (events_in_range bytes sel)) in
       let events = sum-map (λ e. w (event_size e)) (written_event order) (in_turn order (placed_groups bytes sel)) in
-      let written = ap (sum_of (λ e. w (event_size e))) (written-in-turn order (placed_groups bytes sel)) in
+      let written = ap (sum_of (λ e. w (event_size e))) (events-in-turn order (placed_groups bytes sel)) in
       omega arith
 
 -- ---- in sum

@@ -18,7 +18,7 @@ use Rattle.blog_flash.proofs.Standing.{stood}
 use Rattle.blog_flash.proofs.Forming.{events-fit}
 use Rattle.blog_flash.proofs.Passing.{groups-pass}
 use Rattle.blog_flash.proofs.Regrouping.{groups-again}
-use Rattle.blog_flash.proofs.Sizes.{end-total, total-placed, laid-out-length}
+use Rattle.blog_flash.proofs.Lengths.{end-total, total-placed, laid-out-length}
 
 -- groups that can be laid out behind a format description
 pub record IsWritable (Known : Event → Type 0) (format : Event) (ts : List Transaction) : Type 0 where

@@ -1,5 +1,9 @@
 pub mod States
 pub mod Texts
+pub mod Written
+pub mod WrittenView
+pub mod WrittenGroupsView
+pub mod Measured
 pub mod Reversal
 pub mod Printed
 pub mod LaidOut

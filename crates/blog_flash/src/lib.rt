@@ -2,19 +2,22 @@
 #![tactic(auto)]
 
 mod laid_out;
-mod lengths;
+mod log_sizes;
 mod modes;
 mod printed;
 mod put_sql;
 mod put_summary;
 mod runs;
 mod theorems;
+mod written_event;
+mod written_events;
 mod written_out;
 
 pub use blog_device::{RunFault, Watched, put};
 pub use blog_event::Fault;
 pub use blog_trans::Selection;
-pub use laid_out::{front, put_rows_event, put_same};
+pub use laid_out::{front, lay_out};
+pub use log_sizes::{LogSizes, sizes_of};
 pub use modes::{Mode, answer, flashback, forward, selected, sql, summary};
 pub use printed::put_table;
 pub use runs::{prepare, run, run_by_chunks};
@@ -22,3 +25,6 @@ pub use theorems::{
     every_stop_stands, flashback_undoes, forward_is_normal, groups_show_each_event_once,
     maps_agree_on_layouts, written_changes_are_inverse, written_logs_are_no_longer,
 };
+pub use written_event::{WrittenEvent, WrittenRows};
+pub use written_events::{WrittenEvents, WrittenGroups};
+pub use written_out::{CHUNK_LEN, write_out};

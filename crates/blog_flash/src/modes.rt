@@ -1,19 +1,23 @@
 //! What is answered to a log.
 
-ghost use Rattle.std.specs.Prelude.{◌≡◌, IfOk, IfErr, IsTrue, IsFalse};
-ghost use Rattle.blog_event.specs.File.{read};
+ghost use Rattle.std.specs.Prelude.{◌≡◌, ◌≤◌, IfOk, IfErr, IsTrue, IsFalse, length, map};
+ghost use Rattle.blog_event.specs.File.{end_of, read};
 ghost use Rattle.blog_trans.specs.Selection.{selection_of};
 ghost use Rattle.blog_trans.specs.Acceptance.{IsAccepted, fault, IsRefusal};
 ghost use Rattle.blog_trans.specs.Groups.{groups};
-ghost use Rattle.blog_trans.specs.IndexView.{index_bytes, index_selection};
+ghost use Rattle.blog_trans.specs.IndexView.{index_bytes, index_groups, index_selection};
 ghost use Rattle.blog_flash.specs.Answers.{Answers};
-ghost use Rattle.blog_flash.specs.LaidOut.{groups_in};
+ghost use Rattle.blog_flash.specs.LaidOut.{groups_in, transactions_of};
 ghost use Rattle.blog_flash.specs.Printed.{sql_text, summary_text};
-ghost use Rattle.blog_flash.specs.Texts.{laid_out_after};
+ghost use Rattle.blog_flash.specs.Texts.{group_events, laid_out_after};
+ghost use Rattle.blog_flash.specs.Measured.{HasSizes};
+ghost use Rattle.blog_flash.specs.Written.{event_written, groups_written};
 
-use crate::laid_out::lay_out;
+use crate::laid_out::{front, lay_out};
+use crate::log_sizes::{LogSizes, sizes_of};
 use crate::put_sql::put_sql;
 use crate::put_summary::put_summary;
+use crate::written_events::WrittenGroups;
 use blog_event::{Fault, Log};
 use blog_row::Order;
 use blog_trans::{Index, Selection, index};
@@ -49,6 +53,18 @@ pub fn selected<'a, 's, A: Allocator + Copy>(
     index(alloc, &log, sel)
 }
 
+/// The sizes of the groups of an index in an order, behind their front.
+fn group_sizes<A: Allocator>(index: &Index<'_, '_, A>, front: &[u8], order: Order) -> LogSizes
+    requires within { length front.now ≤ 4294967295 }
+    requires short { end_of (length front.now) (group_events (transactions_of order (index_groups index.now))) ≤ 4294967295 }
+    ensures { HasSizes (length front.now) (map event_written (groups_written (transactions_of order (index_groups index.now)))) result }
+{
+    let Some(sizes) = sizes_of(front.len(), &mut WrittenGroups::new(index, order)) else {
+        unreachable!();
+    };
+    sizes
+}
+
 /// The selected groups of a log as a log, in an order.
 fn laid_out<A: Allocator + Copy>(
     alloc: A,
@@ -61,7 +77,9 @@ fn laid_out<A: Allocator + Copy>(
     ensures refused { IfErr result (IsRefusal (fault bytes.now (selection_of sel.now))) }
 {
     let groups = selected(alloc, bytes, sel)?;
-    lay_out(alloc, bytes, &groups, order)
+    let front = front(&groups);
+    let sizes = group_sizes(&groups, front, order);
+    Ok(lay_out(alloc, front, &mut WrittenGroups::new(&groups, order), sizes)?)
 }
 
 /// The selected groups of a log as pseudo-SQL.

@@ -6,8 +6,11 @@ ghost use Rattle.blog_device.specs.Watched.{device_of, has_failed};
 ghost use Rattle.blog_device.specs.Devices.{is_read_fault, is_write_fault};
 ghost use Rattle.blog_flash.specs.Runs.{IsOutputWritten, Prepares, Runs, ends_before_writing, mode_in};
 
+use crate::laid_out::front;
+use crate::log_sizes::LogSizes;
 use crate::modes::{Mode, answer, selected};
-use crate::written_out::write_out;
+use crate::written_events::WrittenGroups;
+use crate::written_out::{CHUNK_LEN, write_out};
 use blog_device::{RunFault, Watched, put, read_log};
 use blog_row::Order;
 use blog_trans::Selection;
@@ -33,9 +36,6 @@ pub fn prepare<A: Allocator + Copy, R: Read>(
     answer(alloc, &bytes, mode, sel).map_err(RunFault::Log)
 }
 
-/// How much of a log is collected before it is written, in bytes.
-const CHUNK_LEN: usize = 1 << 18;
-
 /// Writes the selected changes of a log as a log, in an order, by chunks of `chunk_len` bytes. `Log` where the log is refused
 /// or memory was, and then the writer was not called; `Write` where a write failed.
 fn write_log<A: Allocator + Copy, W: Write>(
@@ -54,7 +54,14 @@ fn write_log<A: Allocator + Copy, W: Write>(
         Ok(groups) => groups,
         Err(fault) => return Err(RunFault::Log(fault)),
     };
-    write_out(alloc, bytes, &groups, order, writer, chunk_len)
+    let front = front(&groups);
+    // No event is written longer than it was read.
+    let sizes = LogSizes {
+        len: bytes.len(),
+        largest: groups.largest(0),
+    };
+    let mut events = WrittenGroups::new(&groups, order);
+    write_out(alloc, front, &mut events, sizes, writer, chunk_len)
 }
 
 /// Reads a log to the reader's end and writes what it is answered with in this mode, with the faults of `prepare` and then

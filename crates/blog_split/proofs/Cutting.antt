@@ -16,7 +16,7 @@ use Rattle.blog_flash.proofs.Agreeing.{Chosen}
 use Rattle.blog_flash.proofs.Formed.{IsRowsEvent, IsStatement, IsTransaction, AreGroups}
 use Rattle.blog_flash.proofs.Forming.{groups-reversed}
 use Rattle.blog_flash.proofs.Headline.{IsSource, is-source, flashback-changes}
-use Rattle.blog_flash.proofs.Sizes.{laid-out-length}
+use Rattle.blog_flash.proofs.Lengths.{laid-out-length}
 use Rattle.blog_flash.proofs.Undoing.{undo_all}
 use Rattle.blog_flash.proofs.Written.{IsWritable, written-read, written-accepted, written-groups}
 use Rattle.blog_split.proofs.Turned.{groups-turned}

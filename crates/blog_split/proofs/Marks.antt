@@ -18,7 +18,7 @@ use Rattle.blog_event.specs.File.{Placed}
 use Rattle.blog_row.specs.RowsEvent.{table_id}
 use Rattle.blog_trans.specs.Groups.{PlacedRows, PlacedStatement, RowsEvent, event_value, rows_value, statement_value}
 use Rattle.blog_trans.proofs.Turns.{drop-at}
-use Rattle.blog_flash.specs.Texts.{rows_events, statement_events}
+use Rattle.blog_flash.specs.Written.{Maps, rows_written, statement_written}
 use Rattle.blog_split.specs.Cuts.{is_used_by, piece_statement}
 use Rattle.blog_split.specs.Greedy.{rows_between}
 use Rattle.blog_split.specs.Marks.{goes_by, is_number, IsMapNumber, AreMarks, AreUsed, numbered}
@@ -155,6 +155,6 @@ number-at ns i d within = let n = at-some ns i within in n.1 ∙ ap Some (sym (g
 
 -- a piece begins with them
 pub piece-events : (y : PlacedStatement) (rows : List RowsEvent) (ns : List ℕ) → AreUsed y.maps rows ns
-    → map event_value (numbered y.maps ns) ++ rows_events rows ≡ statement_events (piece_statement (statement_value y) rows)
+    → map Maps (map event_value (numbered y.maps ns)) ++ rows_written rows ≡ statement_written (piece_statement (statement_value y) rows)
 piece-events y rows ns used =
-    ap (λ (es : List Event). es ++ rows_events rows) (ap (map event_value) used.maps_are ∙ values-kept (is_used_by rows) y.maps)
+    ap (λ (es : List Event). map Maps es ++ rows_written rows) (ap (map event_value) used.maps_are ∙ values-kept (is_used_by rows) y.maps)

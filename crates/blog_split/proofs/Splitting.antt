@@ -1,20 +1,20 @@
 -- What is promised of a log that is laid out with its statements cut.
-use Rattle.std.proofs.Common.{◌≡◌, ℕ, ◌+◌, ◌≤◌, List, [], ◌++◌, length, Option, Vec, Result, Ok, Err, is_ok, cond, inl, refl, ap, ap₂, ◌∙◌, arith}
-use Rattle.std.proofs.lemmas.Slice.{pushed}
-use Rattle.blog_event.specs.Event.{Event}
+use Rattle.std.proofs.Common.{◌≡◌, ℕ, ◌+◌, ◌≤◌, List, ◌++◌, length, map, Option, Vec, Result, Ok, Err, inl, refl, sym, ap, subst, ◌∙◌, arith}
 use Rattle.blog_event.specs.File.{AreBytes, read}
 use Rattle.blog_flash.specs.LaidOut.{text_from}
-use Rattle.blog_flash.specs.Texts.{laid_out_after}
-use Rattle.blog_flash.proofs.Sizes.{text-end}
+use Rattle.blog_flash.specs.Measured.{HasSizes}
+use Rattle.blog_flash.specs.Texts.{group_events, laid_out_after}
+use Rattle.blog_flash.specs.Written.{Written, event_written, groups_written}
+use Rattle.blog_flash.specs.declared.log_sizes.LogSizes.{LogSizes}
+use Rattle.blog_flash.proofs.InTurn.{events-of-written, written-text}
+use Rattle.blog_flash.proofs.Lengths.{text-end}
 use Rattle.blog_trans.specs.Selection.{all}
 use Rattle.blog_trans.specs.Acceptance.{IsAccepted}
-use Rattle.blog_trans.specs.Groups.{groups}
-use Rattle.blog_split.specs.declared.sizes.Sizes.{Sizes}
+use Rattle.blog_trans.specs.Groups.{Transaction, groups}
 use Rattle.blog_split.specs.declared.fault.SplitFault.{SplitFault}
 use Rattle.blog_split.specs.declared.fault.SplitFault.TheVariants.{Log, TooLong}
 use Rattle.blog_split.specs.Greedy.{cut_groups}
 use Rattle.blog_split.specs.Laws.{IsSplit}
-use Rattle.blog_split.specs.Sizes.{HasSizes}
 use Rattle.blog_split.specs.Splitting.{LaysOut, Splits}
 use Rattle.blog_split.specs.declared.fault.SplitRunFault.{SplitRunFault}
 use Rattle.blog_split.specs.declared.fault.SplitRunFault.TheVariants.{Split, Write}
@@ -22,17 +22,18 @@ use Rattle.blog_split.specs.SplittingTo.{IsCutWritten, SplitsTo}
 use Rattle.blog_split.proofs.Cutting.{keeps-changes}
 use Rattle.blog_split.proofs.Greedy.{groups-are-cut}
 
--- an empty vector that the front is put into, and the events that are left, are together the whole text, which is short enough
-pub whole-text : {T E : Type 0} {was held : List ℕ} {none len : ℕ} {r : Result T E} {done : T} {left : List Event} {sizes : Sizes} (front whole : List ℕ) (es : List Event) → front ++ text_from (length front) es ≡ whole → HasSizes (length front) es sizes
-    → was ≡ [] → none ≡ 0 → r ≡ Ok done → held ≡ cond (is_ok r) (was ++ front) was → len ≡ cond (is_ok r) (none + length front) none → left ≡ es
-    → (held ++ text_from len left ≡ whole) × (length whole ≤ 4294967295)
-whole-text {T} {E} {was} {held} {none} {len} {r} {done} {left} front whole es text sizes empty zero ok items long is_left =
-    let is_front : held ≡ front = pushed front empty ok items in
-    let own : len ≡ none + length front = rw ok at long in
-    let as_long : len ≡ length front = omega (arith, own, zero) in (
-      ap₂ (λ (bytes : List ℕ) (n : ℕ). bytes ++ text_from n left) is_front as_long ∙ ap (λ (fs : List Event). front ++ text_from (length front) fs) is_left ∙ text,
-      omega (arith, ap length text, text-end front es, sizes.len, sizes.short),
-    )
+-- events that are written, as they are laid out
+pub written-are : (ts : List Transaction) (ws : List Written) → ws ≡ groups_written ts → map event_written ws ≡ group_events ts
+written-are ts ws is = ap (map event_written) is ∙ events-of-written ts
+
+-- their sizes
+pub written-sizes : (pos : ℕ) (ts : List Transaction) (ws : List Written) (sizes : LogSizes) → ws ≡ groups_written ts → HasSizes pos (group_events ts) sizes → HasSizes pos (map event_written ws) sizes
+written-sizes pos ts ws sizes is has = subst (λ es. HasSizes pos es sizes) (sym (written-are ts ws is)) has
+
+-- the front with them behind it is the whole text, which is short enough
+pub whole-text : (front whole : List ℕ) (ts : List Transaction) (ws : List Written) (sizes : LogSizes) → front ++ text_from (length front) (group_events ts) ≡ whole → HasSizes (length front) (group_events ts) sizes
+    → ws ≡ groups_written ts → (front ++ text_from (length front) (map event_written ws) ≡ whole) × (length whole ≤ 4294967295)
+whole-text front whole ts ws sizes text has is = (written-text front ts ws is ∙ text, omega (arith, ap length text, text-end front (group_events ts), has.len, has.short))
 
 -- of each accepted log
 pub splits : {A : Type 0} (limit : ℕ) (bytes : List ℕ) (r : Result (Vec ℕ A) SplitFault) → AreBytes bytes → IsAccepted bytes all → LaysOut bytes all (cut_groups limit (groups bytes all)) r

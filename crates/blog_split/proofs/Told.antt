@@ -1,5 +1,5 @@
 -- What is told of a rows event of a statement: how long what is written for it is, and its table id.
-use Rattle.std.proofs.Common.{◌≡◌, ℕ, ◌+◌, ◌≤◌, Bool, true, length, length-append, arith, Option, Some, IfSome, option_map, sym, ap, ap₂, subst, ◌∙◌, take_at, refl}
+use Rattle.std.proofs.Common.{◌≡◌, ℕ, ◌+◌, ◌≤◌, List, Bool, true, length, length-append, arith, Option, Some, IfSome, option_map, sym, ap, ap₂, subst, ◌∙◌, take_at, refl}
 use Rattle.std.proofs.lemmas.Option.{same_Some}
 use Rattle.blog_event.specs.declared.event.Event as told
 use Rattle.blog_event.specs.Event.{event_size}
@@ -14,22 +14,23 @@ use Rattle.blog_trans.specs.Groups.{PlacedRows, rows_value}
 use Rattle.blog_trans.specs.declared.groups.Index.{Index}
 use Rattle.blog_trans.specs.IndexView.{Stands, placed, index_bytes, index_groups, index_selection, rows_at, rows_place}
 use Rattle.blog_trans.proofs.IndexFacts.{rows_read}
-use Rattle.blog_flash.specs.LaidOut.{written_rows}
-use Rattle.blog_flash.specs.Texts.{rows_event}
+use Rattle.blog_flash.specs.Written.{Changes}
 use Rattle.blog_flash.proofs.Source.{fields-found}
 use Rattle.blog_split.specs.Greedy.{HasLength}
 use Rattle.blog_split.proofs.Between.{some-from}
 
--- a rows event as it was read
-pub record IsTold (x : PlacedRows) (e : told.Event) (r : seen.RowsEvent) : Type 0 where
+-- a rows event as it was read, and the body of its map
+pub record IsTold (x : PlacedRows) (e : told.Event) (m : List ℕ) (r : seen.RowsEvent) : Type 0 where
   pub event : x.event ≡ placed e
+  pub map : x.map.event.body ≡ m
   pub kind : x.kind ≡ rows_kind r
   pub body : x.body ≡ rows_body r
 
 -- by what the index tells
-pub told-by : (o : Option PlacedRows) (x : PlacedRows) (e : told.Event) (r : seen.RowsEvent) → o ≡ Some x → option_map (λ x. x.event) o ≡ Some (placed e)
-    → IfSome o (λ x. x.kind ≡ rows_kind r) → IfSome o (λ x. x.body ≡ rows_body r) → IsTold x e r
-told-by o x e r is event kind body = record {
+pub told-by : (o : Option PlacedRows) (x : PlacedRows) (e m : told.Event) (r : seen.RowsEvent) → o ≡ Some x → option_map (λ x. x.event) o ≡ Some (placed e)
+    → option_map (λ x. x.map) o ≡ Some (placed m) → IfSome o (λ x. x.kind ≡ rows_kind r) → IfSome o (λ x. x.body ≡ rows_body r) → IsTold x e m.body.now r
+told-by o x e m r is event map kind body = record {
+  map = ap (λ (p : Placed). p.event.body) (same_Some x.map (placed m) (sym (ap (option_map (λ x. x.map)) is) ∙ map));
   event = same_Some x.event (placed e) (sym (ap (option_map (λ x. x.event)) is) ∙ event);
   kind = subst (λ (p : Option PlacedRows). IfSome p (λ x. x.kind ≡ rows_kind r)) is kind;
   body = subst (λ (p : Option PlacedRows). IfSome p (λ x. x.body ≡ rows_body r)) is body;
@@ -42,15 +43,12 @@ length-told x r len kind body long =
     ap (λ (n : ℕ). 19 + n) (ap₂ (λ (k : RowsKind) (b : RowsBody). length (written_body true (content_of k b))) kind body ∙ sym long)
 
 -- what is written for it
-pub row-told : (x : PlacedRows) (e : told.Event) (r : seen.RowsEvent) (last : Bool) → IsTold x e r → rows_event last (rows_value x) ≡ written_rows Forward last e r
-row-told x e r last h =
-    ap (λ (p : Placed). rows_event last (rows_value (record { event = p; map = x.map; kind = x.kind; body = x.body }))) h.event
-    ∙ ap₂ (λ (k : RowsKind) (b : RowsBody). rows_event last (rows_value (record { event = placed e; map = x.map; kind = k; body = b }))) h.kind h.body
-
--- how long that is
-pub size-told : (e : told.Event) (r : seen.RowsEvent) (last : Bool) (len : ℕ) → len ≡ length (written_body last (content_in Forward (rows_content r)))
-    → event_size (written_rows Forward last e r) ≡ 19 + len
-size-told e r last len long = ap (λ (n : ℕ). 19 + n) (sym long)
+pub row-told : (x : PlacedRows) (e : told.Event) (m : List ℕ) (r : seen.RowsEvent) (last : Bool) → IsTold x e m r
+    → Changes (rows_value x) last ≡ Changes (record { timestamp = e.header.timestamp; server_id = e.header.server_id; header_flags = e.header.flags; map = m; content = rows_content r }) last
+row-told x e m r last h =
+    ap (λ (p : Placed). Changes (rows_value (record { event = p; map = x.map; kind = x.kind; body = x.body })) last) h.event
+    ∙ ap₂ (λ (k : RowsKind) (b : RowsBody). Changes (rows_value (record { event = placed e; map = x.map; kind = k; body = b })) last) h.kind h.body
+    ∙ ap (λ (bytes : List ℕ). Changes (record { timestamp = e.header.timestamp; server_id = e.header.server_id; header_flags = e.header.flags; map = bytes; content = rows_content r }) last) h.map
 
 -- the table id with which its body begins is its own
 pub id-told : {A : Type 0} (index : Index A) (t s r : ℕ) (x : PlacedRows) → rows_at (index_groups index) t s r ≡ Some x → table_id x.event.event.body ≡ x.body.id

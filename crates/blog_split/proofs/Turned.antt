@@ -10,7 +10,7 @@ use Rattle.blog_trans.proofs.ProgressSteps.{reverse-latest}
 use Rattle.blog_trans.proofs.Sums.{sum_of, sum-append, sum-joined}
 use Rattle.blog_flash.specs.Reversal.{reversed_rows, reversed_statement, reversed_transaction, reversed}
 use Rattle.blog_flash.specs.Texts.{rows_event, rows_events, statement_events, transaction_events, group_events}
-use Rattle.blog_flash.proofs.Sizes.{total}
+use Rattle.blog_flash.proofs.Lengths.{total}
 
 -- numbers of elements that are changed without a change of their numbers, in reverse order
 sum-turned : {A : Type 0} (f : A → ℕ) (g : A → A) → ((x : A) → f (g x) ≡ f x) → (xs : List A) → sum_of f (reverse (map g xs)) ≡ sum_of f xs

@@ -1,4 +1,4 @@
-//! Going through the events of a log whose statements are cut, one after the other, as they are written.
+//! The events of a log whose statements are cut, one after the other, as they are written.
 
 ghost use Rattle.std.specs.Prelude.{◌≡◌, ◌+◌, ◌<◌, ◌≤◌, ℕ, true, false, length, All, Some, IsSome, IfOk, IfErr, slice_get, vec_len, vec_capacity};
 ghost use Rattle.std.proofs.Props.{props};
@@ -11,28 +11,11 @@ use crate::fault::SplitFault;
 use crate::most::most_of;
 use crate::piece::take_piece;
 use crate::used_maps::{MapId, list_maps};
-use blog_event::{Event, Fault};
-use blog_row::RowsEvent;
+use blog_event::Fault;
+use blog_flash::{WrittenEvent, WrittenEvents, WrittenRows};
+use blog_row::Order;
 use blog_trans::{Index, MapRead};
 use std::alloc::Allocator;
-
-/// A rows event of the cut log.
-#[derive(Clone, Copy, Debug)]
-pub(crate) struct CutRows<'a> {
-    pub(crate) event: Event<'a>,
-    pub(crate) rows: RowsEvent<'a>,
-    /// Whether it is the last of its piece.
-    pub(crate) last: bool,
-}
-
-/// An event of the cut log.
-#[derive(Clone, Copy, Debug)]
-pub(crate) enum CutEvent<'a> {
-    /// One that is written as it is.
-    Same(Event<'a>),
-    /// A rows event.
-    Rows(CutRows<'a>),
-}
 
 /// The events of the groups of an index, their statements cut.
 #[derive(Drop)]
@@ -71,28 +54,13 @@ pub(crate) struct CutEvents<'i, 'a, 's, A: Allocator, B: Allocator> {
     ghost read_stands: { ForSome read (λ map. Stands (index_bytes index.now) (placed map.event)) },
 }
 
-impl<'a> CutEvent<'a> {
-    ghost use Rattle.blog_event.specs.Event.{event_size};
-    ghost use Rattle.blog_split.specs.CutView.{event_cut};
-
-    /// How many bytes its body has.
-    pub(crate) fn body_len(&self) -> usize
-        ensures { event_size (event_cut self.now) ≡ 19 + result }
-    {
-        match self {
-            CutEvent::Same(event) => event.body.len(),
-            CutEvent::Rows(rows) => rows.rows.body_len(),
-        }
-    }
-}
-
 impl<'i, 'a, 's, A: Allocator, B: Allocator> CutEvents<'i, 'a, 's, A, B> {
     ghost use Rattle.blog_event.specs.declared.fault.Fault.TheVariants.{OutOfMemory};
     ghost use Rattle.blog_trans.specs.Groups.{groups};
     ghost use Rattle.blog_trans.specs.IndexView.{index_selection};
-    ghost use Rattle.blog_flash.specs.Texts.{group_events};
+    ghost use Rattle.blog_flash.specs.Written.{groups_written};
     ghost use Rattle.blog_split.specs.declared.fault.SplitFault.TheVariants as SplitFault;
-    ghost use Rattle.blog_split.specs.CutView.{GivesCut, events_left};
+    ghost use Rattle.blog_split.specs.CutView.{GivesCut, cut_to_come};
     ghost use Rattle.blog_split.specs.Greedy.{cut_groups};
 
     /// The events of the groups of an index, their statements cut. `Log(OutOfMemory)` where one of the two lists that it takes
@@ -105,7 +73,7 @@ impl<'i, 'a, 's, A: Allocator, B: Allocator> CutEvents<'i, 'a, 's, A, B> {
     ) -> Result<Self, SplitFault>
     where
         A: Copy,
-        ensures left { IfOk result (λ events. events_left events ≡ group_events (cut_groups limit (groups (index_bytes index.now) (index_selection index.now)))) }
+        ensures left { IfOk result (λ events. cut_to_come events ≡ groups_written (cut_groups limit (groups (index_bytes index.now) (index_selection index.now)))) }
         ensures refused { IfErr result (λ fault. fault ≡ SplitFault.Log OutOfMemory) }
     {
         let most = most_of(index);
@@ -135,7 +103,7 @@ impl<'i, 'a, 's, A: Allocator, B: Allocator> CutEvents<'i, 'a, 's, A, B> {
     }
 
     /// Begins the next transaction, if any is left.
-    fn begin(&mut self) -> Option<CutEvent<'a>>
+    fn begin(&mut self) -> Option<WrittenEvent<'a>>
         requires { self.old.is_open ≡ false }
         ensures { GivesCut self.old result self.new }
     {
@@ -153,7 +121,7 @@ impl<'i, 'a, 's, A: Allocator, B: Allocator> CutEvents<'i, 'a, 's, A, B> {
         self.transaction = t;
         self.is_open = true;
         self.next_transaction = t + 1;
-        Some(CutEvent::Same(self.index.begin(t)))
+        Some(WrittenEvent::Same(self.index.begin(t)))
     }
 
     /// Opens the next statement.
@@ -163,7 +131,7 @@ impl<'i, 'a, 's, A: Allocator, B: Allocator> CutEvents<'i, 'a, 's, A, B> {
         requires no_rows { self.old.piece_end ≤ self.old.row }
         requires no_pieces { self.old.rows ≤ self.old.piece_end }
         requires some { self.old.next_statement < self.old.statements }
-        ensures left { events_left self.new ≡ events_left self.old }
+        ensures left { cut_to_come self.new ≡ cut_to_come self.old }
         ensures open { self.new.is_open ≡ true }
         ensures statements { self.new.statements ≡ self.old.statements }
         ensures no_maps { vec_len self.new.used ≤ self.new.given }
@@ -187,7 +155,7 @@ impl<'i, 'a, 's, A: Allocator, B: Allocator> CutEvents<'i, 'a, 's, A, B> {
         requires no_maps { vec_len self.old.used ≤ self.old.given }
         requires no_rows { self.old.piece_end ≤ self.old.row }
         requires some { self.old.piece_end < self.old.rows }
-        ensures left { events_left self.new ≡ events_left self.old }
+        ensures left { cut_to_come self.new ≡ cut_to_come self.old }
         ensures open { self.new.is_open ≡ true }
         ensures some { self.new.row < self.new.piece_end }
     {
@@ -207,7 +175,7 @@ impl<'i, 'a, 's, A: Allocator, B: Allocator> CutEvents<'i, 'a, 's, A, B> {
     }
 
     /// The next map of the open piece.
-    fn map(&mut self) -> CutEvent<'a>
+    fn map(&mut self) -> WrittenEvent<'a>
         requires open { self.old.is_open ≡ true }
         requires some { self.old.given < vec_len self.old.used }
         ensures { GivesCut self.old (Some result) self.new }
@@ -215,11 +183,11 @@ impl<'i, 'a, 's, A: Allocator, B: Allocator> CutEvents<'i, 'a, 's, A, B> {
         let m = self.used[self.given];
         self.given += 1;
         let (event, _) = self.index.map(self.transaction, self.statement, m);
-        CutEvent::Same(event)
+        WrittenEvent::Map(event)
     }
 
     /// The next rows event of the open piece.
-    fn rows_event(&mut self) -> CutEvent<'a>
+    fn rows_event(&mut self) -> WrittenEvent<'a>
         requires open { self.old.is_open ≡ true }
         requires no_maps { vec_len self.old.used ≤ self.old.given }
         requires some { self.old.row < self.old.piece_end }
@@ -231,15 +199,17 @@ impl<'i, 'a, 's, A: Allocator, B: Allocator> CutEvents<'i, 'a, 's, A, B> {
             .index
             .rows_by(self.transaction, self.statement, r, self.read);
         self.read = Some(map);
-        CutEvent::Rows(CutRows {
+        WrittenEvent::Rows(WrittenRows {
             event,
+            map: map.event.body,
             rows,
+            order: Order::Forward,
             last: self.piece_end - r == 1,
         })
     }
 
     /// Ends the open transaction.
-    fn end(&mut self) -> CutEvent<'a>
+    fn end(&mut self) -> WrittenEvent<'a>
         requires open { self.old.is_open ≡ true }
         requires no_maps { vec_len self.old.used ≤ self.old.given }
         requires no_rows { self.old.piece_end ≤ self.old.row }
@@ -248,21 +218,16 @@ impl<'i, 'a, 's, A: Allocator, B: Allocator> CutEvents<'i, 'a, 's, A, B> {
         ensures { GivesCut self.old (Some result) self.new }
     {
         self.is_open = false;
-        CutEvent::Same(self.index.end(self.transaction))
+        WrittenEvent::Same(self.index.end(self.transaction))
     }
 }
 
-impl<'i, 'a, 's, A: Allocator, B: Allocator> Iterator for CutEvents<'i, 'a, 's, A, B> {
-    type Item = CutEvent<'a>;
+impl<'i, 'a, 's, A: Allocator, B: Allocator> WrittenEvents<'a> for CutEvents<'i, 'a, 's, A, B> {
+    ghost use Rattle.blog_split.specs.CutView.{cut_to_come};
 
-    ghost use Rattle.std.specs.Iterator.{at_most};
-    ghost use Rattle.blog_split.specs.CutView.{GivesCut, events_left};
+    ghost to_come = { cut_to_come };
 
-    ghost next_gives = { GivesCut };
-
-    ghost remaining = { λ events. at_most (length (events_left events)) };
-
-    fn next(&mut self) -> Option<CutEvent<'a>> {
+    fn next_event(&mut self) -> Option<WrittenEvent<'a>> {
         if !self.is_open {
             return self.begin();
         }

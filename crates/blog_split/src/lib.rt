@@ -7,7 +7,6 @@ mod fault;
 mod laws;
 mod most;
 mod piece;
-mod sizes;
 mod used_maps;
 mod written_cut;
 

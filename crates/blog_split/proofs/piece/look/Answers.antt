@@ -17,7 +17,7 @@ pub id_of-requires : goal.id_of-requires
 id_of-requires g c =
     let groups = index_groups c.args.index.now in
     let x = some_found (rows_at groups c.args.t c.args.s c.args.r) c.requires.some in
-    let told = told-by (rows_at groups c.args.t c.args.s c.args.r) x.0 c.rows_by.result.0 c.rows_by.result.2 x.1 c.rows_by.ensures.event c.rows_by.ensures.kind c.rows_by.ensures.read in
+    let told = told-by (rows_at groups c.args.t c.args.s c.args.r) x.0 c.rows_by.result.0 c.rows_by.result.1.event c.rows_by.result.2 x.1 c.rows_by.ensures.event c.rows_by.ensures.map c.rows_by.ensures.kind c.rows_by.ensures.read in
     omega (arith, long-told c.args.index.now c.args.t c.args.s c.args.r x.0 x.1, ap (λ (p : Placed). length p.event.body) told.event)
 
 pub number_of-requires : goal.number_of-requires
@@ -27,14 +27,14 @@ number_of-requires g c =
 
 pub returns-clause-len : goal.returns-clause-len
 returns-clause-len g c x is =
-    let told = told-by (rows_at (index_groups c.args.index.now) c.args.t c.args.s c.args.r) x c.rows_by.result.0 c.rows_by.result.2 is c.rows_by.ensures.event c.rows_by.ensures.kind c.rows_by.ensures.read in
+    let told = told-by (rows_at (index_groups c.args.index.now) c.args.t c.args.s c.args.r) x c.rows_by.result.0 c.rows_by.result.1.event c.rows_by.result.2 is c.rows_by.ensures.event c.rows_by.ensures.map c.rows_by.ensures.kind c.rows_by.ensures.read in
     length-told x c.rows_by.result.2 c.body_len.result told.kind told.body (c.body_len.ensures.len Forward true)
 
 pub returns-clause-number : goal.returns-clause-number
 returns-clause-number g c y x is here =
     let index = c.args.index.now in
     let at = rows-here (index_groups index) c.args.t c.args.s c.args.r y is ∙ here in
-    let told = told-by (rows_at (index_groups index) c.args.t c.args.s c.args.r) x c.rows_by.result.0 c.rows_by.result.2 at c.rows_by.ensures.event c.rows_by.ensures.kind c.rows_by.ensures.read in
+    let told = told-by (rows_at (index_groups index) c.args.t c.args.s c.args.r) x c.rows_by.result.0 c.rows_by.result.1.event c.rows_by.result.2 at c.rows_by.ensures.event c.rows_by.ensures.map c.rows_by.ensures.kind c.rows_by.ensures.read in
     let id : table_id c.rows_by.result.0.body.now ≡ x.body.id = sym (ap (λ (p : Placed). table_id p.event.body) told.event) ∙ id-told index c.args.t c.args.s c.args.r x at in
     let long = length-take-le 6 c.rows_by.result.0.body.now (omega (arith, long-told index c.args.t c.args.s c.args.r x at, ap (λ (p : Placed). length p.event.body) told.event)) in
     number-found y.maps c.args.ids.now (rows_value x) c.id_of.result c.number_of.result (statement-known index c.args.t c.args.s y is).distinct (c.requires.table y is)

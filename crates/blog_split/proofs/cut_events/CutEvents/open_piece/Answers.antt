@@ -1,12 +1,11 @@
 use Rattle.std.proofs.Common.{[], List, Option, ◌≡◌, ◌++◌, length, map, drop, sym, ap, subst, arith}
 use Rattle.std.specs.Option.{option_map_or}
 use Rattle.std.proofs.lemmas.List.{drop_all}
-use Rattle.blog_event.specs.Event.{Event}
 use Rattle.blog_trans.specs.Entries.{statements_at}
 use Rattle.blog_trans.specs.Groups.{PlacedRows, PlacedStatement, transaction_value}
 use Rattle.blog_trans.specs.IndexView.{index_groups, maps_in, rows_in, statement_at}
 use Rattle.blog_trans.proofs.IndexFacts.{some_found}
-use Rattle.blog_flash.specs.Texts.{group_events}
+use Rattle.blog_flash.specs.Written.{Written, groups_written}
 use Rattle.blog_split.specs.CutView.{end_behind, statements_behind}
 use Rattle.blog_split.specs.Greedy.{IsPieceEnd, cut_groups, rows_between}
 use Rattle.blog_split.specs.Marks.{AreUsed}
@@ -41,9 +40,9 @@ returns-clause-left g c =
     let end = subst (λ (rs : List PlacedRows). IsPieceEnd before.limit rs from to) (sym rows_are) (c.take_piece-to.ensures.end y.0 y.1) in
     let marked = subst (λ (o : Option PlacedStatement). AreUsed (option_map_or (λ y. y.maps) o []) (rows_between from to (option_map_or (λ y. y.rows) o [])) c.take_piece-to.new.used.items) (sym y.1) (c.take_piece-to.ensures.used y.0 y.1) in
     let others = statements_behind before.limit (drop before.next_statement (statements_at ts before.transaction)) ++ end_behind ts before.transaction in
-    let later = group_events (cut_groups before.limit (map transaction_value (drop before.next_transaction ts))) in
+    let later = groups_written (cut_groups before.limit (map transaction_value (drop before.next_transaction ts))) in
     let left = piece-opened before.limit maps rows (drop before.given before.used.items) c.take_piece-to.new.used.items before.row from to before.rows others none c.requires.no_rows (omega (arith, many, ap length rows_are)) end marked in
-    rw c.requires.open (ap (λ (es : List Event). es ++ later) left)
+    rw c.requires.open (ap (λ (es : List Written). es ++ later) left)
 
 pub returns-clause-some : goal.returns-clause-some
 returns-clause-some g c =

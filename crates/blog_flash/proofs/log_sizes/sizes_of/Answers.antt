@@ -1,0 +1,30 @@
+use Rattle.std.proofs.Common.{◌≡◌, ◌+◌, ◌≤◌, map, sym, ap, subst, arith}
+use Rattle.std.specs.List.{AllByRecursion}
+use Rattle.blog_event.specs.Event.{event_size}
+use Rattle.blog_flash.specs.Measured.{IsLonger}
+use Rattle.blog_flash.specs.Written.{event_written}
+use Rattle.blog_flash.proofs.Lengths.{total, end-total}
+use Rattle.blog_flash.proofs.log_sizes.sizes_of.Goals as goal
+
+pub events-init : goal.events-init
+events-init g c = record { end = sym (end-total c.args.front_len _); short = c.requires; each = λ room small all. all }
+
+pub events-preserved : goal.events-preserved
+events-preserved g c =
+    let next = ap (map event_written) c.in-Some.ensures.first in
+    let longer : IsLonger c.events.sizes c.body_len.result c.in_ok-sizes.sizes = c.in_ok-sizes.ensures in
+    record {
+      end = omega (arith, ap total next, c.events.invariant.end, longer.len, c.body_len.ensures);
+      short = longer.short;
+      each = λ room small all. c.events.invariant.each room (omega (arith, small, longer.largest))
+          (subst (AllByRecursion (λ e. event_size e ≤ room)) (sym next) (omega (arith, small, longer.fits, c.body_len.ensures), all));
+    }
+
+pub returns : goal.returns
+returns g c =
+    let none = ap (map event_written) c.in_default.ensures.first.0 in
+    record {
+      len = omega (arith, ap total none, c.events.invariant.end);
+      short = c.events.invariant.short;
+      each = c.events.invariant.each c.events.sizes.largest (omega arith) (subst (AllByRecursion (λ e. event_size e ≤ c.events.sizes.largest)) (sym none) tt);
+    }

@@ -1,0 +1,52 @@
+//! How long a log is before it is written: from sizes alone, so that no row is read.
+
+ghost use Rattle.std.specs.Prelude.{◌≤◌, map};
+ghost use Rattle.blog_flash.specs.Measured.{GetsLonger, Measures};
+ghost use Rattle.blog_flash.specs.Written.{event_written};
+
+use crate::written_events::WrittenEvents;
+use blog_event::HEADER_LEN;
+
+/// How many bytes a log has, and how many its largest event has behind the front; or more.
+#[derive(Clone, Copy, Debug)]
+pub struct LogSizes {
+    /// The bytes of the log.
+    pub len: usize,
+    /// The bytes of its largest event, header included; 0 where there is none.
+    pub largest: usize,
+}
+
+/// The sizes with one more event, which has a body of so many bytes; none where the log would be too long.
+fn with_event(sizes: LogSizes, body_len: usize) -> Option<LogSizes>
+    requires { sizes.len ≤ 4294967295 }
+    ensures { GetsLonger sizes body_len result }
+{
+    let left = u32::MAX as usize - sizes.len;
+    if left < HEADER_LEN {
+        return None;
+    }
+    if left - HEADER_LEN < body_len {
+        return None;
+    }
+    let len = HEADER_LEN + body_len;
+    Some(LogSizes {
+        len: sizes.len + len,
+        largest: sizes.largest.max(len),
+    })
+}
+
+/// The sizes of a log whose front has so many bytes, with these events behind it. None where it would have more than
+/// 4,294,967,295 bytes.
+pub fn sizes_of<'a, E: WrittenEvents<'a>>(front_len: usize, events: &mut E) -> Option<LogSizes>
+    requires { front_len ≤ 4294967295 }
+    ensures { Measures front_len (map event_written (E.to_come events.old)) result }
+{
+    let mut sizes = LogSizes {
+        len: front_len,
+        largest: 0,
+    };
+    'events: while let Some(event) = events.next_event() {
+        sizes = with_event(sizes, event.body_len())?;
+    }
+    Some(sizes)
+}

@@ -1,0 +1,67 @@
+//! Where events that are to be written come from.
+
+ghost use Rattle.std.specs.Prelude.{◌≡◌, List, map};
+
+use crate::written_event::{WrittenEvent, WrittenRows};
+use blog_row::Order;
+use blog_trans::{GroupEvent, GroupEvents, Index};
+use std::alloc::{Allocator, Global};
+
+/// Events that are to be written, one after the other.
+pub trait WrittenEvents<'a> {
+    ghost use Rattle.std.specs.Iterator.{YieldsFirstBy};
+    ghost use Rattle.blog_flash.specs.Written.{Written};
+    ghost use Rattle.blog_flash.specs.WrittenView.{written_told};
+
+    // The events that are still to come, as values.
+    ghost to_come: { Self → List Written };
+
+    /// The next event, if any is left.
+    fn next_event(&mut self) -> Option<WrittenEvent<'a>>
+        ensures first { YieldsFirstBy written_told to_come self.old result self.new };
+}
+
+/// The events of the groups of an index, as they are written in an order.
+#[derive(Drop)]
+pub struct WrittenGroups<'i, 'a, 's, A: Allocator = Global> {
+    events: GroupEvents<'i, 'a, 's, A>,
+    order: Order,
+}
+
+impl<'i, 'a, 's, A: Allocator> WrittenGroups<'i, 'a, 's, A> {
+    ghost use Rattle.blog_trans.specs.IndexView.{index_groups};
+    ghost use Rattle.blog_flash.specs.LaidOut.{transactions_of};
+    ghost use Rattle.blog_flash.specs.Written.{groups_written};
+    ghost use Rattle.blog_flash.specs.WrittenGroupsView.{groups_to_come};
+
+    /// The groups as they stand in the log (forward), or as they undo these (backward).
+    pub fn new(index: &'i Index<'a, 's, A>, order: Order) -> WrittenGroups<'i, 'a, 's, A>
+        ensures { groups_to_come result ≡ groups_written (transactions_of order (index_groups index.now)) }
+    {
+        WrittenGroups {
+            events: index.in_turn(order),
+            order,
+        }
+    }
+}
+
+impl<'i, 'a, 's, A: Allocator> WrittenEvents<'a> for WrittenGroups<'i, 'a, 's, A> {
+    ghost use Rattle.blog_flash.specs.WrittenGroupsView.{groups_to_come};
+
+    ghost to_come = { groups_to_come };
+
+    #[inline(always)]
+    fn next_event(&mut self) -> Option<WrittenEvent<'a>> {
+        match self.events.next()? {
+            GroupEvent::Begin(event) | GroupEvent::End(event) => Some(WrittenEvent::Same(event)),
+            GroupEvent::Map(event) => Some(WrittenEvent::Map(event)),
+            GroupEvent::Rows(rows) => Some(WrittenEvent::Rows(WrittenRows {
+                event: rows.event,
+                map: rows.map.body,
+                rows: rows.rows,
+                order: self.order,
+                last: rows.last,
+            })),
+        }
+    }
+}
