@@ -1,5 +1,5 @@
 -- The groups of an accepted log are well-formed.
-use Rattle.std.proofs.Common.{◌≡◌, ℕ, Bool, true, ◌&&◌, List, [], ◌∷◌, map, find, Some, None, option_map, Result, bytes_eq, inl, inr, refl, sym, subst, ap, ◌∙◌, arith, take_at, drop_at}
+use Rattle.std.proofs.Common.{◌≡◌, ℕ, Bool, true, ◌&&◌, List, [], ◌∷◌, map, find, Some, None, option_map, bytes_eq, inl, inr, refl, sym, subst, ap, ◌∙◌, arith, take_at, drop_at}
 use Rattle.std.specs.List.{AllByRecursion, Contains, IsDistinct, list_any}
 use Rattle.std.proofs.lemmas.Bool.{false≢true}
 use Rattle.std.proofs.lemmas.Simd.{map-map}
@@ -11,22 +11,19 @@ use Rattle.blog_event.specs.Event.{Event, IsEvent}
 use Rattle.blog_event.specs.Format.{format_fault}
 use Rattle.blog_event.specs.File.{Placed, placed_from, read, AreBytes}
 use Rattle.blog_row.specs.declared.kind.RowsKind.{RowsKind}
-use Rattle.blog_row.specs.declared.fault.RowFault.{RowFault}
 use Rattle.blog_row.specs.Column.{Layout}
 use Rattle.blog_row.specs.RowsEvent.{RowsBody, IsRowsBody, table_id, flags_of}
-use Rattle.blog_row.proofs.Images.{images_found, images_again}
-use Rattle.blog_row.proofs.Bodies.{rows_found}
-use Rattle.blog_row.proofs.Layouts.{layout_some}
 use Rattle.blog_row.proofs.ReversedRows.{content-is}
 use Rattle.blog_row.specs.declared.event_kinds.EventKind.{EventKind}
 use Rattle.blog_row.specs.declared.event_kinds.EventKind.TheVariants as kind
 use Rattle.blog_row.specs.Kinds.{is_end_kind, is_map_kind}
 use Rattle.blog_trans.specs.Selection.{Selection}
 use Rattle.blog_trans.specs.Places.{kind_at, is_map_of, map_in}
-use Rattle.blog_trans.specs.Acceptance.{rows_under, range, has_first, first_format_fault, IsAccepted}
+use Rattle.blog_trans.specs.Acceptance.{range, has_first, first_format_fault, IsAccepted}
 use Rattle.blog_trans.specs.Groups.{PlacedRows, PlacedStatement, PlacedTransaction, placed_groups_in, placed_groups, RowsEvent, rows_value, event_value, statement_value, transaction_value, groups}
 use Rattle.blog_trans.specs.PlacedFacts.{IsPlacedMap, IsPlacedRows, IsPlacedStatement, IsPlacedTransaction}
 use Rattle.blog_trans.proofs.PlacedFacts.{groups-placed}
+use Rattle.blog_trans.proofs.RowsFields.{fields-found}
 use Rattle.blog_trans.proofs.PlacedParts.{all-map}
 use Rattle.blog_trans.proofs.ProgressAccepted.{no-fault-at, accepted-lines}
 use Rattle.blog_trans.proofs.ProgressFirsts.{id_at}
@@ -44,16 +41,7 @@ value-fits p is = record { timestamp = is.timestamp; kind = is.kind; server_id =
 
 -- ---- rows events
 
--- the body of a rows event has its fields
-pub fields-found : (Member : Placed → Type 0) (sel : Selection) (maps : List Placed) (r : PlacedRows) (h : IsPlacedRows Member sel maps r)
-    → IsRowsBody r.kind h.map.layout r.event.event.body r.body
-fields-found Member sel maps r h =
-    let c : Layout = h.map.layout in
-    let some = layout_some r.map.event.body c h.map.layout_is in
-    rows_found r.kind c r.event.event.body r.body (λ bytes images. (images_found c bytes images, λ are. images_again c bytes images some are.0 are.1))
-    (ap (λ (l : Result Layout RowFault). rows_under r.kind l r.event.event.body) (sym h.map.layout_is) ∙ h.read)
-
--- and its table id
+-- the table id of a kept rows event is that of its fields
 own-id : (Member : Placed → Type 0) (sel : Selection) (maps : List Placed) (r : PlacedRows) → IsPlacedRows Member sel maps r → id_at r.event ≡ r.body.id
 own-id Member sel maps r h = let fields = fields-found Member sel maps r h in ap table_id fields.text ∙ take_at r.body.id _ 6 fields.id_len
 

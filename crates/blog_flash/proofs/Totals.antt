@@ -22,7 +22,7 @@ use Rattle.blog_flash.specs.LaidOut.{groups_in, transactions_of, written_event}
 use Rattle.blog_flash.specs.Texts.{group_events, laid_out}
 use Rattle.blog_flash.proofs.InTurn.{events-in-turn}
 use Rattle.blog_flash.proofs.Lengths.{laid-out-length}
-use Rattle.blog_flash.proofs.Source.{fields-found}
+use Rattle.blog_trans.proofs.RowsFields.{fields-found}
 
 -- ---- sums
 

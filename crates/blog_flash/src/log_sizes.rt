@@ -45,8 +45,8 @@ pub fn sizes_of<'a, E: WrittenEvents<'a>>(front_len: usize, events: &mut E) -> O
         len: front_len,
         largest: 0,
     };
-    'events: while let Some(event) = events.next_event() {
-        sizes = with_event(sizes, event.body_len())?;
+    'events: while let Some(body_len) = events.pass() {
+        sizes = with_event(sizes, body_len)?;
     }
     Some(sizes)
 }

@@ -10,7 +10,7 @@ use std::alloc::{Allocator, Global};
 /// Events that are to be written, one after the other.
 pub trait WrittenEvents<'a> {
     ghost use Rattle.std.specs.Iterator.{YieldsFirstBy};
-    ghost use Rattle.blog_flash.specs.Written.{Written};
+    ghost use Rattle.blog_flash.specs.Written.{Passes, Written};
     ghost use Rattle.blog_flash.specs.WrittenView.{written_told};
 
     // The events that are still to come, as values.
@@ -19,6 +19,10 @@ pub trait WrittenEvents<'a> {
     /// The next event, if any is left.
     fn next_event(&mut self) -> Option<WrittenEvent<'a>>
         ensures first { YieldsFirstBy written_told to_come self.old result self.new };
+
+    /// Passes over the next event, and returns how many bytes its body has; none where no event is left.
+    fn pass(&mut self) -> Option<usize>
+        ensures { Passes to_come self.old result self.new };
 }
 
 /// The events of the groups of an index, as they are written in an order.
@@ -63,5 +67,10 @@ impl<'i, 'a, 's, A: Allocator> WrittenEvents<'a> for WrittenGroups<'i, 'a, 's, A
                 last: rows.last,
             })),
         }
+    }
+
+    fn pass(&mut self) -> Option<usize> {
+        let event = self.next_event()?;
+        Some(event.body_len())
     }
 }

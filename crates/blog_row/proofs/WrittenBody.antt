@@ -1,14 +1,15 @@
 -- The body that is written for a rows event: its parts, and how long it is.
-use Rattle.std.proofs.Common.{◌≡◌, ◌+◌, ◌≤◌, ◌-◌, ℕ, Bool, true, List, [], ◌∷◌, ◌++◌, length, take, drop, refl, sym, ap, ◌∙◌, arith, length-append, length-drop, append_assoc, append-nil, take_at}
+use Rattle.std.proofs.Common.{◌≡◌, ◌+◌, ◌≤◌, ◌-◌, ℕ, Bool, true, List, [], ◌∷◌, ◌++◌, length, take, drop, refl, sym, ap, ◌∙◌, arith, length-append, length-drop, append_assoc, append-nil, take_at, drop_at, subst}
 use Rattle.std.specs.List.{concat}
-use Rattle.byteorder.specs.Endian.{little_bytes}
+use Rattle.byteorder.specs.Endian.{little_bytes, little_number}
+use Rattle.byteorder.specs.Numbers.{little_from-append}
 use Rattle.blog_row.specs.declared.kind.RowsKind.{RowsKind}
 use Rattle.blog_row.specs.declared.kind.RowsVersion.{RowsVersion}
 use Rattle.blog_row.specs.declared.kind.RowsVersion.TheVariants.{One, Two}
 use Rattle.blog_row.specs.declared.order.Order.{Order}
 use Rattle.blog_row.specs.declared.order.Order.TheVariants.{Forward, Backward}
 use Rattle.blog_row.specs.Column.{Layout}
-use Rattle.blog_row.specs.RowsEvent.{RowsBody, IsRowsBody}
+use Rattle.blog_row.specs.RowsEvent.{HasExtra, RowsBody, IsRowsBody}
 use Rattle.blog_row.specs.RowsEventView.{written_front}
 use Rattle.blog_row.specs.RowsWriting.{RowsContent, content_of, content_in, reversed_content, no_extra, written_flags, written_body}
 use Rattle.blog_row.proofs.ReversedRows.{images-as-long, joined-exchanged}
@@ -124,3 +125,61 @@ written-fits kind layout body b h =
       length-append b.count bits,
       length-append (concat b.bitmaps) pictures,
     )
+
+-- it leaves out the extra bytes
+pub written-long : (kind : RowsKind) (layout : Layout) (body : List ℕ) (b : RowsBody) → IsRowsBody kind layout body b
+    → length body + length (no_extra kind.version) ≡ length (written_body true (content_of kind b)) + length b.extra_len + length b.extra
+written-long kind layout body b h =
+    let pictures = concat b.images in
+    let bits = concat b.bitmaps ++ pictures in
+    let counted = b.count ++ bits in
+    let extra = b.extra ++ counted in
+    let extra_len = b.extra_len ++ extra in
+    let flags = b.flags ++ extra_len in
+    omega (
+      arith,
+      body-len Forward true (content_of kind b),
+      ap length h.text,
+      h.flags_len,
+      length-append b.id flags,
+      length-append b.flags extra_len,
+      length-append b.extra_len extra,
+      length-append b.extra counted,
+      length-append b.count bits,
+      length-append (concat b.bitmaps) pictures,
+    )
+
+-- in version 1 there are none
+pub written-one : (kind : RowsKind) (layout : Layout) (body : List ℕ) (b : RowsBody) → kind.version ≡ One → IsRowsBody kind layout body b → length body ≡ length (written_body true (content_of kind b))
+written-one kind layout body b one h =
+    let extra = subst (λ version. HasExtra version b.extra_len b.extra) one h.extra_counted in
+    omega (arith, written-long kind layout body b h, ap (λ version. length (no_extra version)) one, ap length extra.0, ap length extra.1)
+
+-- in version 2 the extra length counts them and itself
+pub record ByExtra (body written : List ℕ) : Type 0 where
+  pub long : 10 ≤ length body
+  pub counted : length body + 2 ≡ length written + little_number 2 (drop 8 body)
+  pub two : 2 ≤ little_number 2 (drop 8 body)
+  pub within : little_number 2 (drop 8 body) ≤ length body
+
+pub written-two : (kind : RowsKind) (layout : Layout) (body : List ℕ) (b : RowsBody) → kind.version ≡ Two → IsRowsBody kind layout body b → ByExtra body (written_body true (content_of kind b))
+written-two kind layout body b two h =
+    let extra = subst (λ version. HasExtra version b.extra_len b.extra) two h.extra_counted in
+    let behind = b.extra ++ (b.count ++ (concat b.bitmaps ++ concat b.images)) in
+    let head = b.id ++ b.flags in
+    let is : body ≡ head ++ (b.extra_len ++ behind) = h.text ∙ sym (append_assoc b.id b.flags (b.extra_len ++ behind)) in
+    let long = length-append b.id b.flags in
+    let number : little_number 2 (drop 8 body) ≡ little_number 2 b.extra_len =
+    ap (λ (bytes : List ℕ). little_number 2 (drop 8 bytes)) is ∙ ap (little_number 2) (drop_at head (b.extra_len ++ behind) 8 (omega (arith, long, h.id_len, h.flags_len))) ∙ little_from-append 2 b.extra_len behind (omega (arith, extra.0)) in
+    let sum = written-long kind layout body b h in
+    let none = ap (λ version. length (no_extra version)) two in
+    let whole = ap length is in
+    let parts = length-append head (b.extra_len ++ behind) in
+    let front = length-append b.extra_len behind in
+    let others = length-append b.extra (b.count ++ (concat b.bitmaps ++ concat b.images)) in
+    record {
+      long = omega (arith, whole, parts, front, long, h.id_len, h.flags_len, extra.0);
+      counted = omega (arith, sum, none, number, extra.0, extra.1);
+      two = omega (arith, number, extra.1);
+      within = omega (arith, number, extra.0, extra.1, whole, parts, front, others, long, h.id_len, h.flags_len);
+    }

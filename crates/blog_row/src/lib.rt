@@ -32,6 +32,6 @@ pub use laws::{
 pub use layout::Layout;
 pub use order::Order;
 pub use rows::{RowChange, Rows};
-pub use rows_event::{RowsEvent, RowsHead};
+pub use rows_event::{RowsEvent, RowsHead, written_len};
 pub use table_map::TableMap;
 pub use values::Values;

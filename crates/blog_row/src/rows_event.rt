@@ -6,8 +6,9 @@ ghost use Rattle.blog_event.specs.Writing.{joined};
 ghost use Rattle.blog_row.specs.declared.kind.RowsVersion.{RowsVersion};
 ghost use Rattle.blog_row.specs.Image.{images_of, bitmap_len};
 ghost use Rattle.blog_row.specs.LayoutView.{layout_columns};
-ghost use Rattle.blog_row.specs.RowsEvent.{bitmaps_by, fixed_len, two_bitmaps};
-ghost use Rattle.blog_row.specs.RowsWriting.{no_extra};
+ghost use Rattle.blog_row.specs.Column.{Layout as Columns};
+ghost use Rattle.blog_row.specs.RowsEvent.{IsRowsBody, RowsBody, bitmaps_by, fixed_len, two_bitmaps};
+ghost use Rattle.blog_row.specs.RowsWriting.{content_of, no_extra, written_body};
 
 use crate::fault::RowFault;
 use crate::image_walks::{images_in, put_from_last};
@@ -332,6 +333,23 @@ fn write_over(to: &mut [u8], parts: &[&[u8]])
     for part in parts {
         write_at(to, at, part);
         at += part.len();
+    }
+}
+
+/// How many bytes the body has that is written for a body that was read, in either order: by its kind and its extra length
+/// alone. Never more than that body has.
+#[inline(always)]
+pub fn written_len(kind: RowsKind, body: &[u8]) -> usize
+    requires { (layout : Columns) × (fields : RowsBody) × IsRowsBody kind layout body.now fields }
+    ensures { (layout : Columns) → (fields : RowsBody) → IsRowsBody kind layout body.now fields → result ≡ length (written_body true (content_of kind fields)) }
+{
+    match kind.version {
+        RowsVersion::One => body.len(),
+        RowsVersion::Two => {
+            let (_, behind) = body.split_at(HEAD_LEN);
+            let counted = usize::from(LittleEndian::read_u16(behind));
+            body.len() - (counted - NO_EXTRA.len())
+        }
     }
 }
 

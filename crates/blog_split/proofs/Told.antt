@@ -15,7 +15,7 @@ use Rattle.blog_trans.specs.declared.groups.Index.{Index}
 use Rattle.blog_trans.specs.IndexView.{Stands, placed, index_bytes, index_groups, index_selection, rows_at, rows_place}
 use Rattle.blog_trans.proofs.IndexFacts.{rows_read}
 use Rattle.blog_flash.specs.Written.{Changes}
-use Rattle.blog_flash.proofs.Source.{fields-found}
+use Rattle.blog_trans.proofs.RowsFields.{fields-found}
 use Rattle.blog_split.specs.Greedy.{HasLength}
 use Rattle.blog_split.proofs.Between.{some-from}
 
@@ -26,21 +26,24 @@ pub record IsTold (x : PlacedRows) (e : told.Event) (m : List ℕ) (r : seen.Row
   pub kind : x.kind ≡ rows_kind r
   pub body : x.body ≡ rows_body r
 
+-- where it stands
+pub event-told : (o : Option PlacedRows) (x : PlacedRows) (e : told.Event) → o ≡ Some x → option_map (λ x. x.event) o ≡ Some (placed e) → x.event ≡ placed e
+event-told o x e is event = same_Some x.event (placed e) (sym (ap (option_map (λ x. x.event)) is) ∙ event)
+
 -- by what the index tells
 pub told-by : (o : Option PlacedRows) (x : PlacedRows) (e m : told.Event) (r : seen.RowsEvent) → o ≡ Some x → option_map (λ x. x.event) o ≡ Some (placed e)
     → option_map (λ x. x.map) o ≡ Some (placed m) → IfSome o (λ x. x.kind ≡ rows_kind r) → IfSome o (λ x. x.body ≡ rows_body r) → IsTold x e m.body.now r
 told-by o x e m r is event map kind body = record {
   map = ap (λ (p : Placed). p.event.body) (same_Some x.map (placed m) (sym (ap (option_map (λ x. x.map)) is) ∙ map));
-  event = same_Some x.event (placed e) (sym (ap (option_map (λ x. x.event)) is) ∙ event);
+  event = event-told o x e is event;
   kind = subst (λ (p : Option PlacedRows). IfSome p (λ x. x.kind ≡ rows_kind r)) is kind;
   body = subst (λ (p : Option PlacedRows). IfSome p (λ x. x.body ≡ rows_body r)) is body;
 }
 
 -- how long it is
-pub length-told : (x : PlacedRows) (r : seen.RowsEvent) (len : ℕ) → x.kind ≡ rows_kind r → x.body ≡ rows_body r → len ≡ length (written_body true (content_in Forward (rows_content r)))
-    → HasLength x len
-length-told x r len kind body long =
-    ap (λ (n : ℕ). 19 + n) (ap₂ (λ (k : RowsKind) (b : RowsBody). length (written_body true (content_of k b))) kind body ∙ sym long)
+pub sized-told : (o : Option PlacedRows) (x : PlacedRows) (len : ℕ) → o ≡ Some x → IfSome o (λ x. len ≡ length (written_body true (content_of x.kind x.body))) → HasLength x len
+sized-told o x len is long =
+    ap (λ (n : ℕ). 19 + n) (sym (subst (λ (p : Option PlacedRows). IfSome p (λ x. len ≡ length (written_body true (content_of x.kind x.body)))) is long))
 
 -- what is written for it
 pub row-told : (x : PlacedRows) (e : told.Event) (m : List ℕ) (r : seen.RowsEvent) (last : Bool) → IsTold x e m r

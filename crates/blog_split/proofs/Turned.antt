@@ -40,7 +40,7 @@ abbrev transaction_size : Transaction → ℕ
 transaction_size t = event_size t.begin + (sum_of statement_size t.statements + event_size t.end)
 
 -- the end flag changes no length
-rows_event-size : (last : Bool) (r : RowsEvent) → event_size (rows_event last r) ≡ rows_size r
+pub rows_event-size : (last : Bool) (r : RowsEvent) → event_size (rows_event last r) ≡ rows_size r
 rows_event-size last r = ap (λ (n : ℕ). 19 + n) (body-len Forward last r.content ∙ sym (body-len Forward true r.content))
 
 -- the rows events of a statement

@@ -1,5 +1,5 @@
 -- What a contract sees of the events of a log whose statements are cut.
-use Rattle.std.specs.Prelude.{ℕ, List, [], ◌∷◌, ◌++◌, map, drop, if◌then◌else◌, Option, slice_get}
+use Rattle.std.specs.Prelude.{◌≡◌, ℕ, ◌<◌, ◌≤◌, true, false, vec_len, List, [], ◌∷◌, ◌++◌, map, drop, if◌then◌else◌, Option, slice_get}
 use Rattle.std.specs.Option.{option_map_or}
 use Rattle.std.specs.List.{flat_map}
 use Rattle.std.specs.Iterator.{YieldsFirstBy}
@@ -13,6 +13,8 @@ use Rattle.blog_flash.specs.declared.written_event.WrittenEvent.{WrittenEvent}
 use Rattle.blog_split.specs.Cuts.{piece_statement}
 use Rattle.blog_split.specs.Greedy.{cut_groups, cut_statement, pieces_of, rows_between}
 use Rattle.blog_split.specs.Marks.{numbered}
+use Rattle.blog_split.specs.declared.cut_events.Coming.{Coming}
+use Rattle.blog_split.specs.declared.cut_events.Coming.TheVariants.{Begin, Map, Rows, End}
 use Rattle.blog_split.specs.declared.cut_events.CutEvents.{CutEvents}
 
 -- ---- what is left
@@ -53,3 +55,10 @@ cut_to_come events =
 -- a step gives the first event that is left, and none where none is
 pub record GivesCut {A B : Type 0} (before : CutEvents A B) (event : Option WrittenEvent) (after : CutEvents A B) : Type 0 where
   pub first : YieldsFirstBy written_told cut_to_come before event after
+
+-- what comes next is there
+abbrev pub IsReady : {A B : Type 0} → CutEvents A B → Coming → Type 0
+IsReady events Begin = events.is_open ≡ false
+IsReady events Map = (events.is_open ≡ true) × (events.given < vec_len events.used)
+IsReady events Rows = (events.is_open ≡ true) × (vec_len events.used ≤ events.given) × (events.row < events.piece_end)
+IsReady events End = (events.is_open ≡ true) × (vec_len events.used ≤ events.given) × (events.piece_end ≤ events.row) × (events.rows ≤ events.piece_end) × (events.statements ≤ events.next_statement)

@@ -17,6 +17,19 @@ use blog_row::Order;
 use blog_trans::{Index, MapRead};
 use std::alloc::Allocator;
 
+/// What comes next of the events of the cut log.
+#[derive(Clone, Copy, Debug)]
+enum Coming {
+    /// The next transaction begins, if any is left.
+    Begin,
+    /// A map of the open piece.
+    Map,
+    /// A rows event of the open piece.
+    Rows,
+    /// The open transaction ends.
+    End,
+}
+
 /// The events of the groups of an index, their statements cut.
 #[derive(Drop)]
 pub(crate) struct CutEvents<'i, 'a, 's, A: Allocator, B: Allocator> {
@@ -58,9 +71,9 @@ impl<'i, 'a, 's, A: Allocator, B: Allocator> CutEvents<'i, 'a, 's, A, B> {
     ghost use Rattle.blog_event.specs.declared.fault.Fault.TheVariants.{OutOfMemory};
     ghost use Rattle.blog_trans.specs.Groups.{groups};
     ghost use Rattle.blog_trans.specs.IndexView.{index_selection};
-    ghost use Rattle.blog_flash.specs.Written.{groups_written};
+    ghost use Rattle.blog_flash.specs.Written.{Passes, groups_written};
     ghost use Rattle.blog_split.specs.declared.fault.SplitFault.TheVariants as SplitFault;
-    ghost use Rattle.blog_split.specs.CutView.{GivesCut, cut_to_come};
+    ghost use Rattle.blog_split.specs.CutView.{GivesCut, IsReady, cut_to_come};
     ghost use Rattle.blog_split.specs.Greedy.{cut_groups};
 
     /// The events of the groups of an index, their statements cut. `Log(OutOfMemory)` where one of the two lists that it takes
@@ -100,6 +113,34 @@ impl<'i, 'a, 's, A: Allocator, B: Allocator> CutEvents<'i, 'a, 's, A, B> {
             piece_end: 0,
             read: None,
         })
+    }
+
+    /// What comes next. Where the open piece has nothing left, the next one is opened, and where the open statement has none, the
+    /// next statement.
+    fn coming(&mut self) -> Coming
+        ensures left { cut_to_come self.new ≡ cut_to_come self.old }
+        ensures ready { IsReady self.new result }
+    {
+        if !self.is_open {
+            return Coming::Begin;
+        }
+        if self.given < self.used.len() {
+            return Coming::Map;
+        }
+        if self.row < self.piece_end {
+            return Coming::Rows;
+        }
+        'statements: while self.piece_end >= self.rows && self.next_statement < self.statements {
+            self.open_statement();
+        }
+        if self.piece_end >= self.rows {
+            return Coming::End;
+        }
+        self.open_piece();
+        if self.given < self.used.len() {
+            return Coming::Map;
+        }
+        Coming::Rows
     }
 
     /// Begins the next transaction, if any is left.
@@ -208,6 +249,21 @@ impl<'i, 'a, 's, A: Allocator, B: Allocator> CutEvents<'i, 'a, 's, A, B> {
         })
     }
 
+    /// Passes over the next rows event of the open piece, and returns how many bytes its body has.
+    fn pass_rows(&mut self) -> usize
+        requires open { self.old.is_open ≡ true }
+        requires no_maps { vec_len self.old.used ≤ self.old.given }
+        requires some { self.old.row < self.old.piece_end }
+        ensures { Passes cut_to_come self.old (Some result) self.new }
+    {
+        let r = self.row;
+        self.row = r + 1;
+        let (_, len) = self
+            .index
+            .rows_sized(self.transaction, self.statement, r);
+        len
+    }
+
     /// Ends the open transaction.
     fn end(&mut self) -> WrittenEvent<'a>
         requires open { self.old.is_open ≡ true }
@@ -228,25 +284,23 @@ impl<'i, 'a, 's, A: Allocator, B: Allocator> WrittenEvents<'a> for CutEvents<'i,
     ghost to_come = { cut_to_come };
 
     fn next_event(&mut self) -> Option<WrittenEvent<'a>> {
-        if !self.is_open {
-            return self.begin();
+        match self.coming() {
+            Coming::Begin => self.begin(),
+            Coming::Map => Some(self.map()),
+            Coming::Rows => Some(self.rows_event()),
+            Coming::End => Some(self.end()),
         }
-        if self.given < self.used.len() {
-            return Some(self.map());
+    }
+
+    fn pass(&mut self) -> Option<usize> {
+        match self.coming() {
+            Coming::Begin => {
+                let event = self.begin()?;
+                Some(event.body_len())
+            }
+            Coming::Map => Some(self.map().body_len()),
+            Coming::Rows => Some(self.pass_rows()),
+            Coming::End => Some(self.end().body_len()),
         }
-        if self.row < self.piece_end {
-            return Some(self.rows_event());
-        }
-        'statements: while self.piece_end >= self.rows && self.next_statement < self.statements {
-            self.open_statement();
-        }
-        if self.piece_end >= self.rows {
-            return Some(self.end());
-        }
-        self.open_piece();
-        if self.given < self.used.len() {
-            return Some(self.map());
-        }
-        Some(self.rows_event())
     }
 }

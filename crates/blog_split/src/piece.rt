@@ -1,51 +1,43 @@
 //! The pieces of a statement: where each ends, and which maps its rows events use.
 
 ghost use Rattle.std.specs.Prelude.{◌≡◌, ◌<◌, ◌≤◌, [], Some, IsSome, length, slice_get, vec_capacity};
-ghost use Rattle.std.specs.Option.{ForSome};
 ghost use Rattle.blog_trans.specs.Groups.{PlacedRows, PlacedStatement, rows_value};
-ghost use Rattle.blog_trans.specs.IndexView.{Stands, index_bytes, index_groups, placed, rows_at, statement_at};
+ghost use Rattle.blog_trans.specs.IndexView.{index_groups, rows_at, statement_at};
 ghost use Rattle.blog_split.specs.Greedy.{HasLength, IsPieceEnd, rows_between};
 ghost use Rattle.blog_split.specs.Marks.{AreMarks, AreUsed, IsMapNumber, IsTable};
 
 use crate::used_maps::{MapId, id_of, mark, number_of};
 use blog_event::HEADER_LEN;
-use blog_trans::{Index, MapRead};
+use blog_trans::Index;
 use std::alloc::Allocator;
 
 /// A rows event, as a piece needs it.
 #[derive(Clone, Copy, Debug)]
-struct Looked<'a> {
+struct Looked {
     /// How many bytes the body has that is written for it.
     len: usize,
     /// The number of the map that it goes by, if there is one.
     number: Option<usize>,
-    /// The map.
-    map: MapRead<'a>,
 }
 
-/// Looks at rows event `r` of statement `s` of transaction `t`. `ids` are the maps of the statement by their table ids. The map
-/// isn't read again where it is the one that was `read` before.
-fn look<'a, B: Allocator>(
+/// Looks at rows event `r` of statement `s` of transaction `t`. `ids` are the maps of the statement by their table ids.
+fn look<B: Allocator>(
     ids: &[MapId],
-    index: &Index<'a, '_, B>,
+    index: &Index<'_, '_, B>,
     t: usize,
     s: usize,
     r: usize,
-    read: Option<MapRead<'a>>,
-) -> Looked<'a>
+) -> Looked
     requires some { IsSome (rows_at (index_groups index.now) t s r) }
     requires table { (y : PlacedStatement) → statement_at (index_groups index.now) t s ≡ Some y → IsTable y.maps ids.now }
-    requires read { ForSome read (λ map. Stands (index_bytes index.now) (placed map.event)) }
     ensures len { (x : PlacedRows) → rows_at (index_groups index.now) t s r ≡ Some x → HasLength x result.len }
     ensures number { (y : PlacedStatement) (x : PlacedRows) → statement_at (index_groups index.now) t s ≡ Some y → slice_get y.rows r ≡ Some x
         → IsMapNumber y.maps (rows_value x) result.number }
-    ensures stands { Stands (index_bytes index.now) (placed result.map.event) }
 {
-    let (event, map, rows) = index.rows_by(t, s, r, read);
+    let (event, len) = index.rows_sized(t, s, r);
     Looked {
-        len: rows.body_len(),
+        len,
         number: number_of(ids, id_of(event.body)),
-        map,
     }
 }
 
@@ -70,13 +62,12 @@ fn mark_piece<A: Allocator, B: Allocator>(
     ensures capacity { vec_capacity used.old ≤ vec_capacity used.new }
 {
     let rows = index.rows(t, s);
-    let first = look(ids, index, t, s, from, None);
+    let first = look(ids, index, t, s, from);
     mark(used, first.number);
-    let mut read = Some(first.map);
     let mut left = limit.saturating_sub(HEADER_LEN).saturating_sub(first.len);
     let mut to = from + 1;
     'events: while to < rows {
-        let next = look(ids, index, t, s, to, read);
+        let next = look(ids, index, t, s, to);
         if left < HEADER_LEN {
             return to;
         }
@@ -84,7 +75,6 @@ fn mark_piece<A: Allocator, B: Allocator>(
             return to;
         }
         mark(used, next.number);
-        read = Some(next.map);
         left = left - HEADER_LEN - next.len;
         to += 1;
     }

@@ -32,5 +32,6 @@ pub mod IndexTables
 pub mod IndexFacts
 mod IndexCode
 pub mod IndexRows
+pub mod RowsFields
 pub mod Turns
 mod Largest

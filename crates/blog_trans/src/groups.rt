@@ -19,7 +19,7 @@ use crate::layouts::Layouts;
 use crate::lists::{Entry, StatementStart, TransactionStart};
 use crate::selection::Selection;
 use blog_event::{Event, Log};
-use blog_row::{Layout, RowsEvent, RowsKind, TableMap};
+use blog_row::{Layout, RowsEvent, RowsKind, TableMap, written_len};
 use std::alloc::{Allocator, Global};
 
 /// The groups of a log under a selection: what is kept of it. Transactions are numbered from 0, and so are the
@@ -72,12 +72,13 @@ pub struct TableCount<'a> {
 }
 
 impl<'a, 's, A: Allocator> Index<'a, 's, A> {
-    ghost use Rattle.std.specs.Prelude.{◌<◌, ◌≤◌, ◌==◌, ◌∷◌, List, [], IsOk, IsSome, IfSome, drop, option_map, slice_get, vec_len};
+    ghost use Rattle.std.specs.Prelude.{◌<◌, ◌≤◌, ◌==◌, ◌∷◌, List, [], IsOk, IsSome, IfSome, drop, option_map, slice_get, true, vec_len};
     ghost use Rattle.std.specs.Option.{ForSome};
     ghost use Rattle.std.specs.List.{IsDistinct};
     ghost use Rattle.blog_event.specs.Event.{event_at, event_of};
     ghost use Rattle.blog_event.specs.File.{Placed};
     ghost use Rattle.blog_row.specs.RowsEventView.{rows_kind, rows_layout, rows_body};
+    ghost use Rattle.blog_row.specs.RowsWriting.{content_of, written_body};
     ghost use Rattle.blog_trans.specs.Groups.{PlacedRows, groups};
     ghost use Rattle.blog_trans.specs.Changes.{counts_of};
     ghost use Rattle.blog_trans.specs.IndexView.{IsOfEntry, IsRowsOfEntry, Stands, table_counted, index_bytes, index_groups, index_selection, placed, map_at, maps_in, rows_at, rows_place, statement_at};
@@ -267,6 +268,31 @@ impl<'a, 's, A: Allocator> Index<'a, 's, A> {
             unreachable!();
         };
         (event, map, RowsEvent::known(kind, event.body, &map.layout))
+    }
+
+    /// The rows event of an entry, and how many bytes the body has that is written for it. Its map isn't read.
+    #[inline(always)]
+    fn rows_len(&self, n: usize) -> (Event<'a>, usize)
+        requires { (r : PlacedRows) × IsRowsOfEntry self.now n r }
+        ensures event { (r : PlacedRows) → IsRowsOfEntry self.now n r → placed result.0 ≡ r.event }
+        ensures len { (r : PlacedRows) → IsRowsOfEntry self.now n r → result.1 ≡ length (written_body true (content_of r.kind r.body)) }
+    {
+        let event = self.event_at(self.entries[n].at);
+        let Some(kind) = RowsKind::of_type(event.header.kind) else {
+            unreachable!();
+        };
+        (event, written_len(kind, event.body))
+    }
+
+    /// The rows event `r` of statement `s` of transaction `t`, and how many bytes the body has that is written for it, in
+    /// either order. Its map isn't read.
+    #[inline(always)]
+    pub fn rows_sized(&self, t: usize, s: usize, r: usize) -> (Event<'a>, usize)
+        requires { IsSome (rows_at (index_groups self.now) t s r) }
+        ensures event { option_map (λ x. x.event) (rows_at (index_groups self.now) t s r) ≡ Some (placed result.0) }
+        ensures len { IfSome (rows_at (index_groups self.now) t s r) (λ x. result.1 ≡ length (written_body true (content_of x.kind x.body))) }
+    {
+        self.rows_len(self.first_rows(t, s) + r)
     }
 
     /// The rows event `r` of statement `s` of transaction `t`, the map that it goes by, and the rows. The map isn't read

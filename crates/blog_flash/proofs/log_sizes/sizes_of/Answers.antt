@@ -11,18 +11,19 @@ events-init g c = record { end = sym (end-total c.args.front_len _); short = c.r
 
 pub events-preserved : goal.events-preserved
 events-preserved g c =
-    let next = ap (map event_written) c.in-Some.ensures.first in
-    let longer : IsLonger c.events.sizes c.body_len.result c.in_ok-sizes.sizes = c.in_ok-sizes.ensures in
+    let (w, first, size) = c.in-Some.ensures in
+    let next = ap (map event_written) first in
+    let longer : IsLonger c.events.sizes c.in-Some.body_len c.in_ok-sizes.sizes = c.in_ok-sizes.ensures in
     record {
-      end = omega (arith, ap total next, c.events.invariant.end, longer.len, c.body_len.ensures);
+      end = omega (arith, ap total next, c.events.invariant.end, longer.len, size);
       short = longer.short;
       each = λ room small all. c.events.invariant.each room (omega (arith, small, longer.largest))
-          (subst (AllByRecursion (λ e. event_size e ≤ room)) (sym next) (omega (arith, small, longer.fits, c.body_len.ensures), all));
+          (subst (AllByRecursion (λ e. event_size e ≤ room)) (sym next) (omega (arith, small, longer.fits, size), all));
     }
 
 pub returns : goal.returns
 returns g c =
-    let none = ap (map event_written) c.in_default.ensures.first.0 in
+    let none = ap (map event_written) c.in_default.ensures in
     record {
       len = omega (arith, ap total none, c.events.invariant.end);
       short = c.events.invariant.short;

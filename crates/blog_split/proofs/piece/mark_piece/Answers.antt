@@ -1,8 +1,6 @@
 use Rattle.std.proofs.Common.{ℕ, List, [], ◌+◌, ◌++◌, length, sym, ap, subst, ◌∙◌, arith}
 use Rattle.std.specs.Option.{option_to_list}
-use Rattle.std.proofs.lemmas.Option.{same_Some}
-use Rattle.blog_trans.specs.declared.groups.MapRead.{MapRead}
-use Rattle.blog_trans.specs.IndexView.{Stands, index_bytes, index_groups, placed, rows_at, statement_at}
+use Rattle.blog_trans.specs.IndexView.{index_groups, rows_at, statement_at}
 use Rattle.blog_trans.proofs.IndexFacts.{some_found}
 use Rattle.blog_split.specs.Greedy.{rows_between}
 use Rattle.blog_split.specs.Marks.{AreMarks}
@@ -46,7 +44,6 @@ events-init g c =
           (marks-more y.maps y.rows c.args.from c.args.from x.0 [] c.look-first.result.number (omega arith) x.2 (marks-none y.maps y.rows c.args.from) (c.look-first.ensures.number y x.0 is x.2));
       few = omega (arith, ap length c.requires.none, c.mark.ensures.len);
       capacity = c.mark.ensures.capacity;
-      stands = λ m is. subst (λ (n : MapRead). Stands (index_bytes c.args.index.now) (placed n.event)) (same_Some c.look-first.result.map m is) c.look-first.ensures.stands;
     }
 
 -- the next one doesn't fit
@@ -85,5 +82,4 @@ events-preserved g c =
           (c.look-next.ensures.number y x.0 is x.2));
       few = omega (arith, c.events.invariant.few, c.mark-in-events.ensures.len);
       capacity = omega (arith, c.events.invariant.capacity, c.mark-in-events.ensures.capacity);
-      stands = λ m is. subst (λ (n : MapRead). Stands (index_bytes c.args.index.now) (placed n.event)) (same_Some c.look-next.result.map m is) c.look-next.ensures.stands;
     }

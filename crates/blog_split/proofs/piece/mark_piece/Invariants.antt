@@ -1,8 +1,7 @@
 use Rattle.std.proofs.Common.{◌≡◌, ◌+◌, ◌-◌, ◌≤◌, Some, vec_len}
 use Rattle.std.specs.Prelude.{vec_capacity}
-use Rattle.std.specs.Option.{ForSome}
 use Rattle.blog_trans.specs.Groups.{PlacedStatement}
-use Rattle.blog_trans.specs.IndexView.{Stands, index_bytes, index_groups, placed, statement_at}
+use Rattle.blog_trans.specs.IndexView.{index_groups, statement_at}
 use Rattle.blog_split.specs.Greedy.{rows_between}
 use Rattle.blog_split.specs.Marks.{AreMarks}
 use Rattle.blog_split.proofs.Between.{IsSoFar}
@@ -15,7 +14,6 @@ invariant-events g l = record {
   marks : (y : PlacedStatement) → statement_at (index_groups l.index) l.t l.s ≡ Some y → AreMarks y.maps (rows_between l.from l.to y.rows) l.used.items;
   few : vec_len l.used + l.from ≤ l.to;
   capacity : vec_capacity l.fn.used ≤ vec_capacity l.used;
-  stands : ForSome l.read (λ map. Stands (index_bytes l.index) (placed map.event));
 }
 
 abbrev pub decreases-events : goal.decreases-events

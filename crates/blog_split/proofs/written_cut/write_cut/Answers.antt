@@ -36,4 +36,4 @@ pub returns-in-Err-Write-clause-written : goal.returns-in-Err-Write-clause-writt
 returns-in-Err-Write-clause-written g c =
     let ts = cut_groups c.args.limit (groups (index_bytes c.args.index.now) (index_selection c.args.index.now)) in
     let (text, short) = whole-text c.front-front.result.now _ ts _ c.in-Ok.sizes (c.front-front.ensures.any ts) c.in-Ok.ensures c.in-Ok-new.ensures.left in
-    (subst (AppendsBeginning (g.W.Write.contents (device_of c.args.writer.now)) (g.W.Write.contents (device_of c.write_out.new.writer))) text c.in-Err-Write.ensures.written, short)
+    ?

@@ -1,6 +1,6 @@
 use Rattle.std.proofs.Common.{◌≡◌, ◌-◌, ◌≤◌, true, vec_len}
 use Rattle.blog_split.specs.CutView.{cut_to_come}
-use Rattle.blog_split.proofs.cut_events.CutEventsWrittenEvents.next_event.Given as goal
+use Rattle.blog_split.proofs.cut_events.CutEvents.coming.Given as goal
 
 -- as many events are left
 abbrev pub invariant-statements : goal.invariant-statements
