@@ -1,9 +1,9 @@
 -- The items of a log from a position on, one by one.
-use Rattle.std.proofs.Common.{◌≡◌, ℕ, zero, suc, ◌+◌, ◌≤◌, ◌<◌, ◌≢◌, true, false, List, [], ◌∷◌, length, drop, Option, Some, None, Ok, Err, refl, sym, ap, ◌∙◌, arith}
+use Rattle.std.proofs.Common.{◌≡◌, ℕ, ◌+◌, ◌<◌, ◌≢◌, true, false, List, [], ◌∷◌, length, drop, Some, None, Ok, Err, refl, sym, ap, ◌∙◌, inr, arith}
 use Rattle.std.specs.Prelude.{Result, ◌==◌, if◌then◌else◌, IfOk, IfErr, option_map}
 use Rattle.std.specs.Result.{result_ok}
 use Rattle.std.proofs.lemmas.Bool.Decides.{nat_tests}
-use Rattle.std.proofs.lemmas.List.{drop-drop, length-drop}
+use Rattle.std.proofs.lemmas.List.{length-drop}
 use Rattle.blog_event.specs.declared.fault.Fault.{Fault}
 use Rattle.blog_event.specs.declared.fault.Fault.TheVariants.{CutEvent}
 use Rattle.blog_event.specs.declared.event.Event as told
@@ -11,41 +11,19 @@ use Rattle.blog_event.specs.Event.{Event, event_size, event_at, event_of}
 use Rattle.blog_event.specs.File.{events_from}
 use Rattle.blog_event.specs.Items.{item_of, items_of, items_from}
 use Rattle.blog_event.proofs.Headers.{event-at-short}
-use Rattle.blog_event.proofs.Framing.{events-from-more, events-from-nothing}
+use Rattle.blog_event.specs.Going.{AreRead}
+use Rattle.blog_event.proofs.Going.{are-read, are-read-only, left-more, left-none}
 
--- no event at the front
-events-from-none : (n : ℕ) (pos : ℕ) (bytes : List ℕ) → event_at bytes ≡ None → events_from n None pos bytes ≡ []
-unfolding events_from
-events-from-none zero pos bytes none = refl
-events-from-none (suc n) pos bytes none = rw none refl
-
--- the same step with two limits
-same-step : (n m pos : ℕ) (bytes : List ℕ)
-    → ((e : Event) → events_from n None (pos + event_size e) (drop (event_size e) bytes) ≡ events_from m None (pos + event_size e) (drop (event_size e) bytes))
-    → (found : Option Event) → event_at bytes ≡ found → events_from (suc n) None pos bytes ≡ events_from (suc m) None pos bytes
-same-step n m pos bytes later None none = events-from-none (suc n) pos bytes none ∙ sym (events-from-none (suc m) pos bytes none)
-same-step n m pos bytes later (Some e) found =
-    events-from-more n None pos bytes e refl found ∙ ap (λ (es : List Event). e ∷ es) (later e) ∙ sym (events-from-more m None pos bytes e refl found)
-
--- the limit doesn't matter where it is no less than the bytes
-same-events : (n m pos : ℕ) (bytes : List ℕ) → length bytes ≤ n → length bytes ≤ m → events_from n None pos bytes ≡ events_from m None pos bytes
-unfolding events_from
-same-events zero m pos [] hn hm = sym (events-from-nothing m None pos)
-same-events zero m pos (b ∷ bytes) hn hm = absurd (omega arith)
-same-events (suc n) zero pos [] hn hm = events-from-nothing (suc n) None pos
-same-events (suc n) zero pos (b ∷ bytes) hn hm = absurd (omega arith)
-same-events (suc n) (suc m) pos bytes hn hm =
-    same-step n m pos bytes (λ e. same-events n m (pos + event_size e) (drop (event_size e) bytes) (omega (arith, length-drop (event_size e) bytes)) (omega (arith, length-drop (event_size e) bytes))) (event_at bytes) refl
+-- the events that are left of a log
+pub are-left : (bytes : List ℕ) (at : ℕ) → AreRead bytes None at (events_from (length bytes) None at (drop at bytes))
+are-left bytes at = are-read (length bytes) bytes None at (omega (arith, length-drop at bytes))
 
 -- where an event stands, it is the first that is left
 pub events-left-more : (bytes : List ℕ) (at : ℕ) (e : Event) → event_at (drop at bytes) ≡ Some e
     → events_from (length bytes) None at (drop at bytes) ≡ e ∷ events_from (length bytes) None (at + event_size e) (drop (at + event_size e) bytes)
 events-left-more bytes at e found =
-    let fits : length (drop at bytes) ≤ length bytes = omega (arith, length-drop at bytes) in
-    let behind : drop (event_size e) (drop at bytes) ≡ drop (at + event_size e) bytes = drop-drop (event_size e) at bytes in
-    same-events (length bytes) (suc (length bytes)) at (drop at bytes) fits (omega arith)
-    ∙ events-from-more (length bytes) None at (drop at bytes) e refl found
-    ∙ ap (λ (rest : List ℕ). e ∷ events_from (length bytes) None (at + event_size e) rest) behind
+    let more = left-more bytes None at _ e (are-left bytes at) refl found in
+    more.1 ∙ ap (λ (es : List Event). e ∷ es) (are-read-only bytes None (at + event_size e) _ more.0 (are-left bytes (at + event_size e)) more.2)
 
 pub items-more : (bytes : List ℕ) (at : ℕ) (e : Event) → event_at (drop at bytes) ≡ Some e
     → items_from bytes at ≡ Ok (record { pos = at; event = e }) ∷ items_from bytes (at + event_size e)
@@ -54,7 +32,7 @@ items-more bytes at e found = ap (items_of at (length bytes)) (events-left-more 
 
 -- where none stands, none is left, and there is no more than a fault
 pub events-left-none : (bytes : List ℕ) (at : ℕ) → event_at (drop at bytes) ≡ None → events_from (length bytes) None at (drop at bytes) ≡ []
-events-left-none bytes at none = events-from-none (length bytes) at (drop at bytes) none
+events-left-none bytes at none = left-none bytes None at _ (are-left bytes at) (inr none)
 
 pub items-last : (bytes : List ℕ) (at : ℕ) → event_at (drop at bytes) ≡ None
     → items_from bytes at ≡ (if at == length bytes then [] else Err (CutEvent at) ∷ [])

@@ -183,30 +183,11 @@ pub record FieldLengths (kind : RowsKind) (body : List ℕ) (fields : RowsBody) 
 pub front_lengths : (kind : RowsKind) (layout : Layout) (body : List ℕ) (fields : RowsBody) → 0 < length layout → rows_of kind layout body ≡ Ok fields → FieldLengths kind body fields
 front_lengths kind layout body fields some e =
     let h = rows_found kind layout body fields (λ bytes images. (images_found layout bytes images, λ h. images_again layout bytes images some h.0 h.1)) e in
-    let pictures = concat fields.images in
-    let bits = concat fields.bitmaps ++ pictures in
-    let counted = fields.count ++ bits in
-    let extra = fields.extra ++ counted in
-    let extra_len = fields.extra_len ++ extra in
-    let flags = fields.flags ++ extra_len in
-    let whole = ap length h.text in
     record {
       id_len = h.id_len;
       flags_len = h.flags_len;
       extra_long = extra-long kind.version fields.extra_len fields.extra h.extra_counted;
-      within =
-          omega (
-            arith,
-            whole,
-            h.id_len,
-            h.flags_len,
-            length-append fields.id flags,
-            length-append fields.flags extra_len,
-            length-append fields.extra_len extra,
-            length-append fields.extra counted,
-            length-append fields.count bits,
-            length-append (concat fields.bitmaps) pictures,
-          );
+      within = omega (arith, ap length h.text, h.id_len, h.flags_len, length-append {A = ℕ});
     }
 
 -- the bitmaps as two are as long as they are together

@@ -17,20 +17,7 @@ use Rattle.blog_row.proofs.RowsCode.{extra-long}
 
 written-len : (last : Bool) (c : RowsContent) → length (written_body last c) ≡ length c.id + 2 + length (no_extra c.kind.version) + length c.count + length (concat c.bitmaps) + length (concat c.images)
 unfolding written_body
-written-len last c =
-    let pictures = concat c.images in
-    let bits = concat c.bitmaps ++ pictures in
-    let counted = c.count ++ bits in
-    let extra = no_extra c.kind.version ++ counted in
-    let flags = little_bytes 2 (written_flags last c.flags) ++ extra in
-    omega (
-      arith,
-      length-append c.id flags,
-      length-append (little_bytes 2 (written_flags last c.flags)) extra,
-      length-append (no_extra c.kind.version) counted,
-      length-append c.count bits,
-      length-append (concat c.bitmaps) pictures,
-    )
+written-len last c = simp length-append (omega arith)
 
 pub body-len : (order : Order) (last : Bool) (c : RowsContent)
     → length (written_body last (content_in order c)) ≡ length c.id + 2 + length (no_extra c.kind.version) + length c.count + length (concat c.bitmaps) + length (concat c.images)
@@ -40,15 +27,7 @@ body-len Backward last c = written-len last (reversed_content c) ∙ omega (arit
 -- the body is its front and its images
 pub body-parts : (last : Bool) (c : RowsContent) → written_body last c ≡ written_front last c ++ concat c.images
 unfolding written_body written_front
-body-parts last c =
-    let bits = concat c.bitmaps in
-    let extra = no_extra c.kind.version in
-    let flags = little_bytes 2 (written_flags last c.flags) in
-    let pictures = concat c.images in
-    sym (append_assoc c.id (flags ++ (extra ++ (c.count ++ bits))) pictures
-    ∙ ap (λ (t : List ℕ). c.id ++ t) (append_assoc flags (extra ++ (c.count ++ bits)) pictures
-    ∙ ap (λ (t : List ℕ). flags ++ t) (append_assoc extra (c.count ++ bits) pictures
-    ∙ ap (λ (t : List ℕ). extra ++ t) (append_assoc c.count bits pictures))))
+body-parts last c = simp append_assoc
 
 -- as many images in either order
 pub images-len : (order : Order) (c : RowsContent) → length (concat (content_in order c).images) ≡ length (concat c.images)
@@ -106,48 +85,13 @@ room-parts order last c =
 -- the body that is written is no longer than the one that was read
 pub written-fits : (kind : RowsKind) (layout : Layout) (body : List ℕ) (b : RowsBody) → IsRowsBody kind layout body b → length (written_body true (content_of kind b)) ≤ length body
 written-fits kind layout body b h =
-    let pictures = concat b.images in
-    let bits = concat b.bitmaps ++ pictures in
-    let counted = b.count ++ bits in
-    let extra = b.extra ++ counted in
-    let extra_len = b.extra_len ++ extra in
-    let flags = b.flags ++ extra_len in
-    omega (
-      arith,
-      body-len Forward true (content_of kind b),
-      ap length h.text,
-      h.flags_len,
-      extra-long kind.version b.extra_len b.extra h.extra_counted,
-      length-append b.id flags,
-      length-append b.flags extra_len,
-      length-append b.extra_len extra,
-      length-append b.extra counted,
-      length-append b.count bits,
-      length-append (concat b.bitmaps) pictures,
-    )
+    omega (arith, body-len Forward true (content_of kind b), ap length h.text, h.flags_len, extra-long kind.version b.extra_len b.extra h.extra_counted, length-append {A = ℕ})
 
 -- it leaves out the extra bytes
 pub written-long : (kind : RowsKind) (layout : Layout) (body : List ℕ) (b : RowsBody) → IsRowsBody kind layout body b
     → length body + length (no_extra kind.version) ≡ length (written_body true (content_of kind b)) + length b.extra_len + length b.extra
 written-long kind layout body b h =
-    let pictures = concat b.images in
-    let bits = concat b.bitmaps ++ pictures in
-    let counted = b.count ++ bits in
-    let extra = b.extra ++ counted in
-    let extra_len = b.extra_len ++ extra in
-    let flags = b.flags ++ extra_len in
-    omega (
-      arith,
-      body-len Forward true (content_of kind b),
-      ap length h.text,
-      h.flags_len,
-      length-append b.id flags,
-      length-append b.flags extra_len,
-      length-append b.extra_len extra,
-      length-append b.extra counted,
-      length-append b.count bits,
-      length-append (concat b.bitmaps) pictures,
-    )
+    omega (arith, body-len Forward true (content_of kind b), ap length h.text, h.flags_len, length-append {A = ℕ})
 
 -- in version 1 there are none
 pub written-one : (kind : RowsKind) (layout : Layout) (body : List ℕ) (b : RowsBody) → kind.version ≡ One → IsRowsBody kind layout body b → length body ≡ length (written_body true (content_of kind b))

@@ -138,6 +138,7 @@ impl<'a> RowsEvent<'a> {
     }
 
     /// The event of a body with the number of its images, or the first check that fails.
+    #[tactic(auto, unfolding(crate::specs::RowsEventView::rows_front, crate::specs::RowsEvent::rows_of))]
     fn at(
         kind: RowsKind,
         body: &'a [u8],

@@ -1,5 +1,5 @@
 -- From bytes to words.
-use Rattle.std.proofs.Common.{◌≡◌, ℕ, ◌+◌, ◌-◌, ◌*◌, ◌/◌, ◌%◌, ◌^◌, ◌<◌, ◌≤◌, List, [], ◌∷◌, ◌++◌, length, take, drop, get_or, bit_xor, refl, sym, ap, ◌∙◌, arith, add-one, drop-cons, length-drop}
+use Rattle.std.proofs.Common.{◌≡◌, ℕ, ◌+◌, ◌-◌, ◌*◌, ◌/◌, ◌%◌, ◌^◌, ◌<◌, ◌≤◌, List, [], ◌∷◌, ◌++◌, length, take, drop, get_or, bit_xor, refl, sym, ap, ◌∙◌, arith, length-drop}
 use Rattle.std.proofs.lemmas.List.{get_or-drop, drop-drop, drop_all, take_all, take-append-drop}
 use Rattle.std.proofs.lemmas.Nat.{xor_shr, xor_comm, shr-shr}
 use lib.Bits.{xor_assoc, xor_zero_r}
@@ -153,17 +153,6 @@ word-left p w h fits =
     sym (ap (λ m. step_bits m w) n4 ∙ byte-apart (4 * p + 3) w (omega arith) ∙ ap (bit_xor a) three ∙ xor-leftwards a b d e)
 
 -- ---- the sum
-
--- a byte further on
-pub byte-at : (i r : ℕ) (xs : List ℕ) → i < length xs
-    → register_after r (drop i xs) ≡ register_after (step_bits 8 (bit_xor r (get_or xs i 0))) (drop (i + 1) xs)
-unfolding register_after
-byte-at i r xs h = rw (add-one, drop-cons xs i 0) refl
-
--- behind the last byte
-pub none-left : (i r : ℕ) (xs : List ℕ) → length xs ≤ i → register_after r (drop i xs) ≡ r
-unfolding register_after
-none-left i r xs h = let none : drop i xs ≡ [] = drop_all i xs h in ap (register_after r) none
 
 -- more bytes behind
 pub register_after-append : (c : ℕ) (xs ys : List ℕ) → register_after c (xs ++ ys) ≡ register_after (register_after c xs) ys

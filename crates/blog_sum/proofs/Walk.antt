@@ -2,12 +2,11 @@
 use Rattle.std.proofs.Common.{◌≡◌, ℕ, ◌+◌, ◌≤◌, ◌<◌, Bool, true, false, List, [], ◌∷◌, ◌++◌, length, take, drop, Option, Some, None, Ok, Err, inr, refl, sym, subst, ap, ◌∙◌, arith}
 use Rattle.std.specs.Prelude.{◌==◌, ◌⊎◌, nat_le, Result, IsErrAnd, IfErr, IfOk}
 use Rattle.std.specs.Option.{option_map_or}
-use Rattle.std.proofs.lemmas.Bool.{le-leb, lt-leb}
+use Rattle.std.proofs.lemmas.Bool.{le-leb}
 use Rattle.std.proofs.lemmas.Bool.Decides.{nat_tests}
 use Rattle.std.proofs.lemmas.List.{append-nil, drop-drop, length-drop}
 use Rattle.std.proofs.lemmas.Option.{same_Some}
 use borrow.Author.Tests.{eqb-true}
-use Rattle.blog_event.specs.declared.fault.Fault.{Fault}
 use Rattle.blog_event.specs.declared.fault.Fault.TheVariants.{CutEvent}
 use Rattle.blog_event.specs.Event.{Event, event_size, event_text, event_at}
 use Rattle.blog_event.specs.Fault.{first_failing}
@@ -19,7 +18,7 @@ use Rattle.blog_event.proofs.Headers.{event-at-short}
 use Rattle.blog_event.proofs.Openings.{opened-front}
 use Rattle.blog_event.proofs.Items.{events-left-more, events-left-none}
 use Rattle.blog_sum.specs.declared.fault.SumFault.{SumFault}
-use Rattle.blog_sum.specs.declared.fault.SumFault.TheVariants.{Log, UnknownAlgorithm, WrongSum, OutOfMemory}
+use Rattle.blog_sum.specs.declared.fault.SumFault.TheVariants.{Log, WrongSum, OutOfMemory}
 use Rattle.blog_sum.specs.Sums.{ends_in_its_sum, unless, sum_check, not_in_use, algorithm_of, has_sums, sum_fault}
 use Rattle.blog_sum.specs.Plain.{plain_format, plain_of}
 use Rattle.blog_sum.specs.Left.{events_left, end_check, left_fault, next_fault, plain_text}
@@ -37,12 +36,6 @@ last-decides (Some failure) = refl
 pub end-more : (bytes : List ℕ) (at : ℕ) (e : Event) → event_at (drop at bytes) ≡ Some e
     → end_check bytes at (events_left bytes at) ≡ end_check bytes (at + event_size e) (events_left bytes (at + event_size e))
 end-more bytes at e found = ap (end_check bytes at) (events-left-more bytes at e found)
-
--- none stands before the end
-pub end-cut : (bytes : List ℕ) (at : ℕ) → event_at (drop at bytes) ≡ None → at < length bytes → end_check bytes at (events_left bytes at) ≡ Some (Log (CutEvent at))
-end-cut bytes at none before =
-    let test : (at == length bytes) ≡ false = grind (arith, nat_tests) in
-    ap (end_check bytes at) (events-left-none bytes at none) ∙ (rw test refl)
 
 -- none stands at the end
 pub none-left : (bytes : List ℕ) (at : ℕ) → length bytes ≤ at → events_left bytes at ≡ []
@@ -104,18 +97,6 @@ fault-whole bytes at is =
     ap (left_fault bytes at) (none-left bytes at (omega arith)) ∙ (rw test refl)
 
 -- ---- a whole log
-
--- a log that isn't one
-pub fault-front : (bytes : List ℕ) (f : Fault) → front_fault bytes ≡ Some f → sum_fault bytes ≡ Some (Log f)
-unfolding sum_fault
-fault-front bytes f is = rw is refl
-
--- one with another algorithm
-pub fault-algorithm : (bytes : List ℕ) → front_fault bytes ≡ None → 2 ≤ algorithm_of bytes → sum_fault bytes ≡ Some (UnknownAlgorithm 4)
-unfolding sum_fault
-fault-algorithm bytes opened other =
-    let test : nat_le (algorithm_of bytes) 1 ≡ false = lt-leb (algorithm_of bytes) 1 (omega arith) in
-    rw (opened, test) refl
 
 -- what is read
 pub read-is : (bytes : List ℕ) (e : Event) → take 4 bytes ≡ magic → event_at (drop 4 bytes) ≡ Some e → read bytes None ≡ e ∷ events_left bytes (4 + event_size e)

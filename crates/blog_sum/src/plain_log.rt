@@ -27,6 +27,7 @@ fn copied<A: Allocator>(alloc: A, bytes: &[u8]) -> Result<Vec<u8, A>, SumFault>
 
 /// Whether the events that follow each other from the byte position `first` on reach to the log's end. Fails with
 /// `CutEvent` where they end if they don't.
+#[tactic(auto, unfolding(blog_event::specs::File::events_from))]
 fn check_end(bytes: &[u8], first: u32) -> Result<(), SumFault>
     requires short { length bytes.now < 2 ^ 32 }
     requires within { first ≤ length bytes.now }
@@ -113,6 +114,7 @@ fn without_sums<A: Allocator>(
 /// with `Log(CutEvent)` at an event that has no room for a sum, or `WrongSum` at one that doesn't end in its own, the first
 /// of either; with `Log(CutEvent)` where the events end before the log does. Fails with `OutOfMemory` if the memory is
 /// refused.
+#[tactic(auto, unfolding(crate::specs::Sums::sum_fault, crate::specs::Plain::plain_of))]
 pub fn plain<A: Allocator>(alloc: A, bytes: &[u8]) -> Result<Vec<u8, A>, SumFault>
     ensures text { IfOk result (λ text. text.items ≡ plain_of bytes.now) }
     ensures accepted { IfOk result (λ _. sum_fault bytes.now ≡ None) }

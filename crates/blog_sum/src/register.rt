@@ -18,6 +18,7 @@ pub fn after_bytes(mut register: u32, mut bytes: &[u8]) -> u32
 }
 
 /// The register after the bytes, byte by byte.
+#[tactic(auto, unfolding(crate::specs::Crc::register_after))]
 fn after_tail(mut register: u32, bytes: &[u8]) -> u32
     ensures { result ≡ register_after register bytes.now }
 {

@@ -2,12 +2,8 @@
 use Rattle.std.proofs.Common.{◌+◌, sym, ap, ◌∙◌, arith}
 use Rattle.blog_event.specs.Event.{event_of}
 use Rattle.blog_sum.specs.Left.{events_left, end_check}
-use Rattle.blog_sum.proofs.Walk.{end-more, end-cut, end-whole}
+use Rattle.blog_sum.proofs.Walk.{end-more, end-whole}
 use Rattle.blog_sum.proofs.plain_log.check_end.Goals as goal
-
-pub returns-in_default : goal.returns-in_default
-returns-in_default c =
-    record { exact = sym (end-cut c.args.bytes.now c.events.at (sym c.in_default.ensures.event) (omega arith)) ∙ c.events.invariant.same }
 
 pub events-preserved : goal.events-preserved
 events-preserved c =

@@ -9,15 +9,7 @@ use Rattle.blog_row.proofs.Cutting.{map_found}
 use Rattle.blog_row.proofs.Walking.{rounded_up}
 use Rattle.blog_row.proofs.RowsCode.{after_bitmaps, body_parts, uncounted, counted_are_there, some_columns, front_lengths, two_lengths, images_are_joined}
 use Rattle.blog_row.proofs.rows_event.RowsEvent.at.Goals as goal
-use Rattle.blog_row.proofs.rows_event.RowsEvent.at.Goals.{In-Some-bitmaps_at, After-images_a_row}
-
--- the body as far as the bitmaps
-found : (c : In-Some-bitmaps_at) → rows_of c.args.kind (layout_columns c.args.layout.now) c.args.body.now
-    ≡ after_bitmaps c.args.kind (layout_columns c.args.layout.now) (front_seen c.in-Some.front) c.in-Some-packed_at.count.spelling.now (bitmaps_seen c.args.kind.action c.in-Some-bitmaps_at.bitmaps)
-found c =
-    let own = eq-eqb _ _ (c.if-count-columns.false ∙ c.columns-columns.ensures) in
-    let len = c.div_ceil.ensures ∙ rounded_up _ ∙ ap bitmap_len c.columns-columns.ensures in
-    body_parts _ _ _ ∙ rw (sym c.in-Some.ensures, sym c.in-Some-packed_at.ensures, own, ← len, sym c.in-Some-bitmaps_at.ensures.exact) refl
+use Rattle.blog_row.proofs.rows_event.RowsEvent.at.Goals.{After-images_a_row}
 
 -- all of it
 all : (c : After-images_a_row) → c.in-Some-images_in.len % c.images_a_row.result ≡ 0 → rows_of c.args.kind (layout_columns c.args.layout.now) c.args.body.now ≡ Ok (record {
@@ -35,38 +27,6 @@ all c whole =
     let images = map_found length _ _ (sym c.in-Some-images_in.ensures) in
     let even : eqb (length images.0 % images_a_row c.args.kind.action) 0 ≡ true = rw (images.2, ← c.images_a_row.ensures.images) (eq-eqb _ _ whole) in
     body_parts _ _ _ ∙ rw (sym c.in-Some.ensures, sym c.in-Some-packed_at.ensures, own, ← len, sym c.in-Some-bitmaps_at.ensures.exact, ← c.columns-columns.ensures, sym c.if-not-all_set.ensures, images.1, even) refl
-
-pub returns-in_default-clause-exact : goal.returns-in_default-clause-exact
-returns-in_default-clause-exact c = sym (body_parts _ _ _ ∙ rw (sym c.in_default.ensures) refl)
-
-pub returns-in_default-packed_at-clause-exact : goal.returns-in_default-packed_at-clause-exact
-returns-in_default-packed_at-clause-exact c = sym (body_parts _ _ _ ∙ rw (sym c.in-Some.ensures, sym c.in_default-packed_at.ensures) refl)
-
-pub returns-then-count-columns-clause-exact : goal.returns-then-count-columns-clause-exact
-returns-then-count-columns-clause-exact c =
-    let other = ne_eqb _ _ c.if-count-columns.true in
-    sym (body_parts _ _ _ ∙ rw (sym c.in-Some.ensures, sym c.in-Some-packed_at.ensures, ← c.columns-columns.ensures, other) refl)
-
-pub returns-in_default-bitmaps_at-clause-exact : goal.returns-in_default-bitmaps_at-clause-exact
-returns-in_default-bitmaps_at-clause-exact c =
-    let own = eq-eqb _ _ (c.if-count-columns.false ∙ c.columns-columns.ensures) in
-    let len = c.div_ceil.ensures ∙ rounded_up _ ∙ ap bitmap_len c.columns-columns.ensures in
-    sym (body_parts _ _ _ ∙ rw (sym c.in-Some.ensures, sym c.in-Some-packed_at.ensures, own, ← len, sym c.in_default-bitmaps_at.ensures.exact) refl)
-
-pub returns-then-not-all_set-clause-exact : goal.returns-then-not-all_set-clause-exact
-returns-then-not-all_set-clause-exact c =
-    sym (found (goal.at.returns-then-not-all_set-clause-exact c).In-Some-bitmaps_at ∙ rw (← c.columns-columns.ensures, sym c.if-not-all_set.ensures) refl)
-
-pub returns-in_default-images_in-clause-exact : goal.returns-in_default-images_in-clause-exact
-returns-in_default-images_in-clause-exact c =
-    let none = uncounted _ (sym c.in_default-images_in.ensures) in
-    sym (found (goal.at.returns-in_default-images_in-clause-exact c).In-Some-bitmaps_at ∙ rw (← c.columns-columns.ensures, sym c.if-not-all_set.ensures, none) refl)
-
-pub returns-then-len-images_a_row-ne0-clause-exact : goal.returns-then-len-images_a_row-ne0-clause-exact
-returns-then-len-images_a_row-ne0-clause-exact c =
-    let images = map_found length _ _ (sym c.in-Some-images_in.ensures) in
-    let odd : eqb (length images.0 % images_a_row c.args.kind.action) 0 ≡ false = rw (images.2, ← c.images_a_row.ensures.images) (ne_eqb _ _ c.if-len-images_a_row-ne0.true) in
-    sym (found (goal.at.returns-then-len-images_a_row-ne0-clause-exact c).In-Some-bitmaps_at ∙ rw (← c.columns-columns.ensures, sym c.if-not-all_set.ensures, images.1, odd) refl)
 
 pub invariant_of-event : goal.invariant_of-event
 invariant_of-event c =
