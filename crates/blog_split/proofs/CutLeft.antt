@@ -2,7 +2,6 @@
 use Rattle.std.proofs.Common.{◌≡◌, ℕ, ◌+◌, ◌-◌, ◌<◌, ◌≤◌, ◌==◌, Bool, List, [], ◌∷◌, ◌++◌, length, map, drop, take, slice_get, Option, Some, sym, ap, ap₂, ◌∙◌, arith, append_assoc}
 use Rattle.std.specs.Option.{option_map_or}
 use Rattle.std.specs.List.{flat_map}
-use Rattle.std.proofs.lemmas.List.{drop_all}
 use Rattle.std.proofs.lemmas.List.Concat.{flat_map-append}
 use Rattle.std.proofs.Math.Seq.{take-length}
 use Rattle.blog_event.specs.File.{Placed}
@@ -15,7 +14,7 @@ use Rattle.blog_split.specs.Greedy.{IsPieceEnd, cut_groups, cut_statement, piece
 use Rattle.blog_split.specs.Marks.{AreUsed, numbered}
 use Rattle.blog_split.specs.CutView.{end_behind, piece_left, pieces_behind, statements_behind}
 use Rattle.blog_split.proofs.Between.{between-none}
-use Rattle.blog_split.proofs.Marks.{numbered-first, piece-events}
+use Rattle.blog_split.proofs.Marks.{piece-events}
 use Rattle.blog_split.proofs.Steps.{row-first}
 
 -- no map is left, and a rows event comes first

@@ -1,7 +1,11 @@
 -- What is promised of a log that is laid out with its statements cut.
-use Rattle.std.proofs.Common.{◌≡◌, ℕ, ◌+◌, ◌≤◌, List, ◌++◌, length, map, Option, Vec, Result, Ok, Err, inl, refl, sym, ap, subst, ◌∙◌, arith}
+use Rattle.std.proofs.Common.{◌≡◌, ℕ, ◌≤◌, List, ◌++◌, length, map, Option, Vec, Result, Ok, Err, inl, refl, sym, ap, subst, ◌∙◌, arith}
 use Rattle.blog_event.specs.File.{AreBytes, read}
+use Rattle.blog_device.specs.Devices.{AppendsBeginning}
+use Rattle.blog_device.specs.declared.fault.RunFault.{RunFault}
+use Rattle.blog_device.specs.declared.fault.RunFault.TheVariants as run
 use Rattle.blog_flash.specs.LaidOut.{text_from}
+use Rattle.blog_flash.specs.Runs.{IsWritten}
 use Rattle.blog_flash.specs.Measured.{HasSizes}
 use Rattle.blog_flash.specs.Texts.{group_events, laid_out_after}
 use Rattle.blog_flash.specs.Written.{Written, event_written, groups_written}
@@ -34,6 +38,10 @@ written-sizes pos ts ws sizes is has = subst (λ es. HasSizes pos es sizes) (sym
 pub whole-text : (front whole : List ℕ) (ts : List Transaction) (ws : List Written) (sizes : LogSizes) → front ++ text_from (length front) (group_events ts) ≡ whole → HasSizes (length front) (group_events ts) sizes
     → ws ≡ groups_written ts → (front ++ text_from (length front) (map event_written ws) ≡ whole) × (length whole ≤ 4294967295)
 whole-text front whole ts ws sizes text has is = (written-text front ts ws is ∙ text, omega (arith, ap length text, text-end front (group_events ts), has.len, has.short))
+
+-- a beginning of it is written where a write failed
+pub cut-broken : (had has : Option (List ℕ)) (text whole : List ℕ) (r : Result Unit RunFault) (f : RunFault) → r ≡ Err f → f ≡ run.Write → text ≡ whole → IsWritten had has text r → AppendsBeginning had has whole
+cut-broken had has text whole r f is fault same written = subst (AppendsBeginning had has) same (subst (IsWritten had has text) (is ∙ ap Err fault) written)
 
 -- of each accepted log
 pub splits : {A : Type 0} (limit : ℕ) (bytes : List ℕ) (r : Result (Vec ℕ A) SplitFault) → AreBytes bytes → IsAccepted bytes all → LaysOut bytes all (cut_groups limit (groups bytes all)) r

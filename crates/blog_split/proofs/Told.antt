@@ -2,14 +2,12 @@
 use Rattle.std.proofs.Common.{◌≡◌, ℕ, ◌+◌, ◌≤◌, List, Bool, true, length, length-append, arith, Option, Some, IfSome, option_map, sym, ap, ap₂, subst, ◌∙◌, take_at, refl}
 use Rattle.std.proofs.lemmas.Option.{same_Some}
 use Rattle.blog_event.specs.declared.event.Event as told
-use Rattle.blog_event.specs.Event.{event_size}
 use Rattle.blog_event.specs.File.{Placed}
 use Rattle.blog_row.specs.declared.kind.RowsKind.{RowsKind}
-use Rattle.blog_row.specs.declared.order.Order.TheVariants.{Forward}
 use Rattle.blog_row.specs.declared.rows_event.RowsEvent as seen
 use Rattle.blog_row.specs.RowsEvent.{RowsBody, table_id}
 use Rattle.blog_row.specs.RowsEventView.{rows_kind, rows_body, rows_content}
-use Rattle.blog_row.specs.RowsWriting.{content_of, content_in, written_body}
+use Rattle.blog_row.specs.RowsWriting.{content_of, written_body}
 use Rattle.blog_trans.specs.Groups.{PlacedRows, rows_value}
 use Rattle.blog_trans.specs.declared.groups.Index.{Index}
 use Rattle.blog_trans.specs.IndexView.{Stands, placed, index_bytes, index_groups, index_selection, rows_at, rows_place}

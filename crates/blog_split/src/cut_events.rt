@@ -258,9 +258,7 @@ impl<'i, 'a, 's, A: Allocator, B: Allocator> CutEvents<'i, 'a, 's, A, B> {
     {
         let r = self.row;
         self.row = r + 1;
-        let (_, len) = self
-            .index
-            .rows_sized(self.transaction, self.statement, r);
+        let (_, len) = self.index.rows_sized(self.transaction, self.statement, r);
         len
     }
 

@@ -1,4 +1,4 @@
-use Rattle.std.proofs.Common.{◌≡◌, ℕ, ◌+◌, ◌++◌, map, vec_len, sym, ap, ◌∙◌, arith, append-nil}
+use Rattle.std.proofs.Common.{◌≡◌, ℕ, ◌+◌, ◌++◌, map, vec_len, sym, ap, ◌∙◌, arith}
 use Rattle.blog_flash.specs.LaidOut.{text_from}
 use Rattle.blog_flash.specs.Written.{event_written}
 use Rattle.blog_flash.specs.WrittenView.{written_told}

@@ -1,4 +1,4 @@
-use Rattle.std.proofs.Common.{◌≡◌, ◌+◌, ◌≤◌, map, sym, ap, subst, arith}
+use Rattle.std.proofs.Common.{◌≤◌, map, sym, ap, subst, arith}
 use Rattle.std.specs.List.{AllByRecursion}
 use Rattle.blog_event.specs.Event.{event_size}
 use Rattle.blog_flash.specs.Measured.{IsLonger}

@@ -1,9 +1,6 @@
-use Rattle.std.proofs.Common.{length, subst, map, arith}
-use Rattle.std.specs.Prelude.{List}
+use Rattle.std.proofs.Common.{length, arith}
 use Rattle.blog_trans.specs.IndexView.{index_groups}
 use Rattle.blog_flash.specs.LaidOut.{transactions_of}
-use Rattle.blog_flash.specs.Measured.{HasSizes}
-use Rattle.blog_flash.specs.Written.{Written, event_written}
 use Rattle.blog_flash.proofs.InTurn.{written-end}
 use Rattle.blog_flash.proofs.modes.group_sizes.Goals as goal
 

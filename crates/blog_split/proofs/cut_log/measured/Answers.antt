@@ -1,4 +1,4 @@
-use Rattle.std.proofs.Common.{ℕ, ◌<◌, sym, subst}
+use Rattle.std.proofs.Common.{◌<◌, subst}
 use Rattle.blog_event.specs.File.{end_of}
 use Rattle.blog_trans.specs.Groups.{groups}
 use Rattle.blog_trans.specs.IndexView.{index_bytes, index_selection}

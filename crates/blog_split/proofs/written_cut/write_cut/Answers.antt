@@ -1,16 +1,13 @@
 use Rattle.std.proofs.Common.{ℕ, length, refl, sym, ap, subst, ◌∙◌, arith}
 use Rattle.std.specs.Io.KnownBytes.{Appends}
-use Rattle.blog_device.specs.Devices.{AppendsBeginning}
 use Rattle.blog_device.specs.Watched.{device_of}
-use Rattle.blog_event.specs.File.{end_of}
-use Rattle.blog_flash.specs.Measured.{HasSizes}
 use Rattle.blog_trans.specs.Groups.{groups}
 use Rattle.blog_trans.specs.IndexView.{index_bytes, index_selection}
 use Rattle.blog_flash.specs.Texts.{group_events}
 use Rattle.blog_flash.proofs.Lengths.{text-end}
 use Rattle.blog_split.specs.Greedy.{cut_groups}
 use Rattle.blog_split.specs.Putting.{Refuses}
-use Rattle.blog_split.proofs.Splitting.{whole-text, written-sizes}
+use Rattle.blog_split.proofs.Splitting.{cut-broken, whole-text, written-sizes}
 use Rattle.blog_split.proofs.written_cut.write_cut.Goals as goal
 
 pub returns-in-Err-clause-written : goal.returns-in-Err-clause-written
@@ -36,4 +33,4 @@ pub returns-in-Err-Write-clause-written : goal.returns-in-Err-Write-clause-writt
 returns-in-Err-Write-clause-written g c =
     let ts = cut_groups c.args.limit (groups (index_bytes c.args.index.now) (index_selection c.args.index.now)) in
     let (text, short) = whole-text c.front-front.result.now _ ts _ c.in-Ok.sizes (c.front-front.ensures.any ts) c.in-Ok.ensures c.in-Ok-new.ensures.left in
-    ?
+    (cut-broken _ _ _ _ c.write_out.result c.in-Err-Write.field-0 c.in-Err-Write.is c.in-Err-Write.field-0-is text c.write_out.ensures.written, short)

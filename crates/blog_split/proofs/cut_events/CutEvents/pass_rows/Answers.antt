@@ -1,4 +1,4 @@
-use Rattle.std.proofs.Common.{[], List, ◌≡◌, ◌∷◌, ◌++◌, ◌+◌, ◌-◌, length, map, drop, slice_get, nat_eq, refl, ap, ◌∙◌, arith}
+use Rattle.std.proofs.Common.{[], List, ◌≡◌, ◌++◌, ◌-◌, length, map, drop, slice_get, nat_eq, refl, ap, ◌∙◌, arith}
 use Rattle.std.specs.Option.{option_map_or}
 use Rattle.std.proofs.lemmas.List.{drop_all}
 use Rattle.blog_trans.specs.Entries.{statements_at}
@@ -6,7 +6,7 @@ use Rattle.blog_trans.specs.Groups.{PlacedRows, rows_value, transaction_value}
 use Rattle.blog_trans.specs.IndexView.{index_groups, maps_in, rows_in, rows_at, statement_at}
 use Rattle.blog_trans.proofs.IndexFacts.{some_found}
 use Rattle.blog_flash.specs.Written.{Written, Changes, groups_written}
-use Rattle.blog_split.specs.CutView.{end_behind, piece_left, pieces_behind, statements_behind}
+use Rattle.blog_split.specs.CutView.{end_behind, pieces_behind, statements_behind}
 use Rattle.blog_split.specs.Greedy.{cut_groups}
 use Rattle.blog_split.proofs.Between.{rows-there, some-from}
 use Rattle.blog_split.proofs.CutLeft.{row-left}
@@ -21,8 +21,8 @@ overflow_add-self g c =
     let y = some_found (statement_at ts before.transaction before.statement) (before.some (omega (arith, c.requires.some, before.within))) in
     omega (arith, c.requires.some, before.within, before.many (omega (arith, c.requires.some, before.within)) y.0 y.1, before.room_rows before.transaction before.statement y.0 y.1, before.used.ok)
 
-pub rows_sized-requires : goal.rows_sized-requires
-rows_sized-requires g c =
+pub rows_sized-len-requires : goal.rows_sized-len-requires
+rows_sized-len-requires g c =
     let before = c.args.self.now in
     let ts = index_groups before.index.now in
     let y = some_found (statement_at ts before.transaction before.statement) (before.some (omega (arith, c.requires.some, before.within))) in
@@ -46,5 +46,5 @@ returns g c =
     let others = pieces_behind before.limit maps rows before.piece_end before.rows ++ (statements_behind before.limit (drop before.next_statement (statements_at ts before.transaction)) ++ end_behind ts before.transaction) in
     let later = groups_written (cut_groups before.limit (map transaction_value (drop before.next_transaction ts))) in
     let left = row-left maps rows used before.row before.piece_end x.0 last others none c.requires.some (omega (arith, before.within, many, ap length rows_are)) (ap (λ (rs : List PlacedRows). slice_get rs before.row) rows_are ∙ x.2) refl in
-    let size = rows_event-size last (rows_value x.0) ∙ sized-told (rows_at ts before.transaction before.statement before.row) x.0 c.rows_sized.result.1 x.1 c.rows_sized.ensures.len in
+    let size = rows_event-size last (rows_value x.0) ∙ sized-told (rows_at ts before.transaction before.statement before.row) x.0 c.rows_sized-len.result.1 x.1 c.rows_sized-len.ensures.len in
     (Changes (rows_value x.0) last, rw c.requires.open (ap (λ (es : List Written). es ++ later) left), size)

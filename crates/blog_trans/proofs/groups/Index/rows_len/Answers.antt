@@ -31,9 +31,12 @@ written_len-requires g c =
     let (r, of) = c.requires in
     let event = own_event c.args.self.now c.args.n c.index.result.now c.event_at-event.result r of c.index.ensures c.event_at-event.ensures.event c.event_at-event.ensures.pos in
     let kind = kind_same r c.event_at-event.result c.in-Some.kind of.known.kind_is event c.in-Some.ensures in
-    let fields = fields-found (Stands (index_bytes c.args.self.now)) (index_selection c.args.self.now) of.maps r of.known in
-    (of.known.map.layout, r.body, subst (λ (k : RowsKind). IsRowsBody k of.known.map.layout c.event_at-event.result.body.now r.body) (sym kind)
-    (subst (λ (body : List ℕ). IsRowsBody r.kind of.known.map.layout body r.body) (sym (ap (λ (p : Placed). p.event.body) event)) fields))
+    let fields = fields-found (Stands (index_bytes c.args.self.now)) (index_selection c.args.self.now) of.maps r of.known in (
+      of.known.map.layout,
+      r.body,
+      subst (λ (k : RowsKind). IsRowsBody k of.known.map.layout c.event_at-event.result.body.now r.body) (sym kind)
+          (subst (λ (body : List ℕ). IsRowsBody r.kind of.known.map.layout body r.body) (sym (ap (λ (p : Placed). p.event.body) event)) fields),
+    )
 
 pub returns-clause-event : goal.returns-clause-event
 returns-clause-event g c r of = own_event c.args.self.now c.args.n c.index.result.now c.event_at-event.result r of c.index.ensures c.event_at-event.ensures.event c.event_at-event.ensures.pos
