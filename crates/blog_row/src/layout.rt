@@ -193,6 +193,7 @@ impl<'a> Layout<'a> {
 
     /// The layout behind the names of a table map, or the first check that fails
     /// (MySQL Internals manual, "Table_map_event").
+    #[tactic(auto, using(crate::proofs::LayoutCode::layout_parts))]
     pub(crate) fn at(bytes: &'a [u8]) -> Result<Layout<'a>, RowFault>
         ensures { layout_seen result ≡ layout_behind bytes.now }
     {
@@ -215,6 +216,7 @@ impl<'a> Layout<'a> {
     }
 
     /// The layout behind the names of a table map, where it is known that reading gives one.
+    #[tactic(auto, using(crate::proofs::LayoutCode::layout_parts), unfolding(crate::specs::LayoutReading::metadata_front))]
     fn known_at(bytes: &'a [u8]) -> Layout<'a>
         requires { IsOk (layout_behind bytes.now) }
         ensures { layout_behind bytes.now ≡ Ok (layout_columns result) }

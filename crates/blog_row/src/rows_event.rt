@@ -187,6 +187,7 @@ impl<'a> RowsEvent<'a> {
 
     /// The event of a body, where it is known that reading gives one. The images are not read again: it takes as long
     /// for many rows as for few.
+    #[tactic(auto, unfolding(crate::specs::RowsEvent::rows_of, crate::specs::RowsEventView::rows_front))]
     #[inline(always)]
     pub fn known(kind: RowsKind, body: &'a [u8], layout: &Layout<'a>) -> RowsEvent<'a>
         requires { IsOk (rows_of kind (layout_columns layout.now) body.now) }

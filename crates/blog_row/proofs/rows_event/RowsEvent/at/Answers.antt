@@ -1,13 +1,12 @@
-use Rattle.std.proofs.Common.{rules, arith, ◌≡◌, ◌<◌, ◌^◌, ◌%◌, ◌∙◌, true, false, [], length, eqb, unwrap_or, Ok, refl, sym, ap}
-use Rattle.std.proofs.lemmas.Bool.{eq-eqb, ne_eqb}
+use Rattle.std.proofs.Common.{rules, arith, ◌≡◌, ◌<◌, ◌^◌, ◌%◌, ◌∙◌, true, [], length, eqb, unwrap_or, Ok, refl, sym, ap}
+use Rattle.std.proofs.lemmas.Bool.{eq-eqb}
 use Rattle.blog_row.specs.Image.{bitmap_len, images_of}
 use Rattle.blog_row.specs.RowsKind.{images_a_row}
 use Rattle.blog_row.specs.RowsEvent.{bitmaps_by, rows_of}
 use Rattle.blog_row.specs.LayoutView.{layout_columns}
-use Rattle.blog_row.specs.RowsEventView.{front_seen, bitmaps_seen}
 use Rattle.blog_row.proofs.Cutting.{map_found}
 use Rattle.blog_row.proofs.Walking.{rounded_up}
-use Rattle.blog_row.proofs.RowsCode.{after_bitmaps, body_parts, uncounted, counted_are_there, some_columns, front_lengths, two_lengths, images_are_joined}
+use Rattle.blog_row.proofs.RowsCode.{body_parts, counted_are_there, some_columns, front_lengths, two_lengths, images_are_joined}
 use Rattle.blog_row.proofs.rows_event.RowsEvent.at.Goals as goal
 use Rattle.blog_row.proofs.rows_event.RowsEvent.at.Goals.{After-images_a_row}
 
