@@ -121,6 +121,7 @@ impl<'a> RowsEvent<'a> {
 
     /// Reads a body as `read` does, by its kind in place of its event type; beside the event it answers how many images
     /// that has.
+    #[tactic(auto, using(crate::proofs::RowsCode::event_found, crate::proofs::RowsCode::event_only, crate::proofs::RowsCode::some_columns))]
     pub fn read_counted(
         kind: RowsKind,
         body: &'a [u8],
@@ -263,6 +264,7 @@ impl<'a> RowsEvent<'a> {
     }
 
     /// The images of all rows, one after the other.
+    #[tactic(auto, using(crate::proofs::RowsCode::images_are_joined))]
     pub fn images(&self) -> &'a [u8]
         ensures joined { result.now ≡ concat (rows_body self.now).images }
         ensures read { images_of (layout_columns (rows_layout self.now)) result.now ≡ Some (rows_body self.now).images }
@@ -271,6 +273,7 @@ impl<'a> RowsEvent<'a> {
     }
 
     /// How many bytes the images have together.
+    #[tactic(auto, using(crate::proofs::RowsCode::images_are_joined))]
     pub fn rows_len(&self) -> usize
         ensures { result ≡ length (concat (rows_body self.now).images) }
     {
