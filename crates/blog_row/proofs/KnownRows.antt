@@ -1,5 +1,5 @@
 -- A rows event that is known to be there: its parts are found without reading the images again.
-use Rattle.std.proofs.Common.{◌≡◌, ◌<◌, ℕ, List, [], length, Some, None, Ok, Err, unwrap_or, is_some, is_ok, true, eqb, refl, sym, ap, ◌∙◌, ◌%◌}
+use Rattle.std.proofs.Common.{◌≡◌, ◌<◌, ℕ, List, [], length, Some, Ok, unwrap_or, is_some, is_ok, true, eqb, refl, sym, ap, ◌∙◌, ◌%◌}
 use Rattle.std.specs.List.{list_all}
 use Rattle.blog_row.specs.declared.kind.RowsKind.{RowsKind}
 use Rattle.blog_row.specs.declared.fault.RowFault.TheVariants.{BadBody, PartialImage}
@@ -18,25 +18,12 @@ use Rattle.blog_row.proofs.RowsCode.{FieldLengths, after_bitmaps, body_parts, fr
 abbrev pub fields_by : FrontParts → List ℕ → List (List ℕ) → List (List ℕ) → RowsBody
 fields_by front count bitmaps images = record { id = front.0; flags = front.1; extra_len = front.2; extra = front.3; count = count; bitmaps = bitmaps; images = images }
 
--- the fields up to the extra bytes are there
-pub known_front : {P : Type 0} (kind : RowsKind) (layout : Layout) (body : List ℕ) → is_ok (rows_of kind layout body) ≡ true → rows_front kind.version body ≡ None → P
-known_front kind layout body ok none = let bad : rows_of kind layout body ≡ Err BadBody = body_parts kind layout body ∙ rw none refl in let no = ap is_ok bad in absurd (cc)
-
--- the column count is there
-pub known_count : {P : Type 0} (kind : RowsKind) (layout : Layout) (body : List ℕ) (front : FrontParts) → is_ok (rows_of kind layout body) ≡ true → rows_front kind.version body ≡ Some front → packed_front front.4 ≡ None → P
-known_count kind layout body front ok e none = let bad : rows_of kind layout body ≡ Err BadBody = body_parts kind layout body ∙ rw (e, none) refl in let no = ap is_ok bad in absurd (cc)
-
 -- what stands behind the count
 behind_count : {P : Type 0} (kind : RowsKind) (layout : Layout) (body : List ℕ) (front : FrontParts) (n : ℕ × List ℕ × List ℕ) → is_ok (rows_of kind layout body) ≡ true → rows_front kind.version body ≡ Some front → packed_front front.4 ≡ Some n
     → ((fields : RowsBody) → rows_of kind layout body ≡ Ok fields → (pieces (images_a_row kind.action) (bitmap_len (length layout)) n.2 >>= after_bitmaps kind layout front n.1) ≡ Ok fields → P) → P
 behind_count kind layout body front n ok e f k =
     ok_there (rows_of kind layout body) ok (λ fields read.
     check_found (eqb n.0 (length layout)) BadBody _ fields (sym (body_parts kind layout body ∙ rw (e, f) refl) ∙ read) (λ own e1. k fields read e1))
-
--- the bitmaps are there
-pub known_bitmaps : {P : Type 0} (kind : RowsKind) (layout : Layout) (body : List ℕ) (front : FrontParts) (n : ℕ × List ℕ × List ℕ) → is_ok (rows_of kind layout body) ≡ true → rows_front kind.version body ≡ Some front → packed_front front.4 ≡ Some n
-    → pieces (images_a_row kind.action) (bitmap_len (length layout)) n.2 ≡ Err BadBody → P
-known_bitmaps kind layout body front n ok e f none = behind_count kind layout body front n ok e f (λ fields read e1. let bad = rw none at e1 in absurd (cc))
 
 -- what is known of the event that these parts make
 pub record KnownRows (kind : RowsKind) (layout : Layout) (body : List ℕ) (front : FrontParts) (count : List ℕ) (b : List (List ℕ) × List ℕ) : Type 0 where

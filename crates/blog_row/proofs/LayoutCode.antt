@@ -79,9 +79,6 @@ layout_parts bytes =
     let long : length types.0 ≡ counted.0 = (cut_found counted.0 counted.2 types.0 types.1 types_is).0 in
     by_end (bitmap_len counted.0) (bitmap_len (length types.0)) metadata.1 _ _ (columns_of types.0 metadata.0) (ap bitmap_len (sym long)) (λ x. refl)))))))))
 
-pub no_types : (bytes : List ℕ) → types_front bytes ≡ None → layout_behind bytes ≡ Err BadBody
-no_types bytes e = layout_parts bytes ∙ ap (λ o. or_bad o >>= behind_types) e
-
 -- ---- what the parts are
 
 -- a test that passed before an option
@@ -119,13 +116,6 @@ total_there types len e =
     let same : metadata_total types ≡ len = let h = test.1 in cc in
     (test.0, same)
 
-pub total_missing : (types : List ℕ) → total_of types ≡ None → are_known types ≡ false
-total_missing types e = by_case (are_known types) refl
-  where
-    by_case : (t : Bool) → are_known types ≡ t → are_known types ≡ false
-    by_case true h = none_is_not (metadata_total types) (sym e ∙ rw h)
-    by_case false h = h
-
 -- ---- a layout that is known to be there
 
 -- a reading that gives a value gives some value
@@ -140,10 +130,6 @@ cut_is n bytes a b e =
     let long : length bytes ≡ length a + length b = ap length found.1 ∙ length-append a b in
     (omega arith, ap (take n) found.1 ∙ take_at a b n found.0)
 
--- its types are there
-pub known_types : {P : Type 0} (bytes : List ℕ) → is_ok (layout_behind bytes) ≡ true → types_front bytes ≡ None → P
-known_types bytes ok none = let bad = ap is_ok (no_types bytes none) in absurd (cc)
-
 -- and so is its metadata
 known_metadata : {P : Type 0} (bytes types behind : List ℕ) → is_ok (layout_behind bytes) ≡ true → types_front bytes ≡ Some (types, behind)
     → ((layout : Layout) (metadata : List ℕ × List ℕ) → layout_behind bytes ≡ Ok layout → metadata_front (metadata_total types) behind ≡ Some metadata → behind_metadata types metadata ≡ Ok layout → P) → P
@@ -151,10 +137,6 @@ known_metadata bytes types behind ok e k =
     ok_there (layout_behind bytes) ok (λ layout read.
     check_found (are_known types) UnknownType _ layout (sym (layout_parts bytes ∙ rw e refl) ∙ read) (λ types_known e1.
     step_found (metadata_front (metadata_total types) behind) _ layout e1 (λ metadata metadata_is e2. k layout metadata read metadata_is e2)))
-
-pub known_unnumbered : {P : Type 0} (bytes types behind : List ℕ) → is_ok (layout_behind bytes) ≡ true → types_front bytes ≡ Some (types, behind) → packed_front behind ≡ None → P
-unfolding metadata_front
-known_unnumbered bytes types behind ok e none = known_metadata bytes types behind ok e (λ layout metadata read is e1. let bad = rw none at is in absurd (cc))
 
 -- what is known of a layout, by the number in front of its metadata
 pub record KnownBehind (bytes types behind : List ℕ) (n : ℕ × List ℕ × List ℕ) : Type 0 where

@@ -207,11 +207,6 @@ images_are_joined layout bytes are = by_case (images_of layout bytes) refl are
     by_case None e some = absurd (cc)
     by_case (Some images) e some = (images_found layout bytes images e).1
 
--- images that couldn't be counted aren't there
-pub uncounted : (o : Option (List (List ℕ))) → option_map length o ≡ None → o ≡ None
-uncounted None e = refl
-uncounted (Some images) e = absurd (cc)
-
 -- images that were counted are there
 pub counted_are_there : (o : Option (List (List ℕ))) (len : ℕ) → option_map length o ≡ Some len → is_some o ≡ true
 counted_are_there None len e = none_is_not len e

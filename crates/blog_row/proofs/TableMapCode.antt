@@ -1,8 +1,7 @@
 -- What the calls that read a table map and its layout give.
-use Rattle.std.proofs.Common.{◌≡◌, ℕ, ◌&&◌, List, length, Some, None, Result, Ok, Err, IfOk, is_ok, true, false, refl, sym, ap, ◌∙◌}
+use Rattle.std.proofs.Common.{◌≡◌, ℕ, ◌&&◌, List, length, Some, Result, Ok, Err, IfOk, refl, sym, ◌∙◌}
 use Rattle.std.specs.Prelude.{bytes_eq, IsOkAnd}
 use Rattle.blog_row.specs.declared.fault.RowFault.{RowFault}
-use Rattle.blog_row.specs.declared.fault.RowFault.TheVariants.{BadBody}
 use Rattle.blog_row.specs.declared.layout.Layout as told
 use Rattle.blog_row.specs.Column.{Layout, metadata_total, columns_of}
 use Rattle.blog_row.specs.TableMap.{Names, LayoutFields, HasLayout, names_of, layout_fields, layout_of, is_same_layout}
@@ -17,14 +16,6 @@ use Rattle.blog_row.proofs.Layouts.{layout_found, layout_again, types_of_columns
 pub layout_by_names : (body : List ℕ) (names : Names) → names_of body ≡ Some names → layout_of body ≡ layout_behind names.rest
 unfolding layout_of layout_behind
 layout_by_names body names e = rw e
-
--- a body that has a layout has names
-pub known_names : {P : Type 0} (body : List ℕ) → is_ok (layout_of body) ≡ true → names_of body ≡ None → P
-unfolding layout_of
-known_names body ok none =
-    let bad : layout_of body ≡ Err BadBody = rw none in
-    let is : is_ok (layout_of body) ≡ false = ap is_ok bad in
-    absurd (cc)
 
 pub layout_found_by : (bytes : List ℕ) (r : Result told.Layout RowFault) → layout_seen r ≡ layout_behind bytes → IfOk r (λ layout. (fields : LayoutFields) × HasLayout bytes fields × (fields.layout ≡ layout_columns layout))
 unfolding layout_behind

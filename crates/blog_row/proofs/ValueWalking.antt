@@ -49,10 +49,6 @@ pub none_read : (nulls : List ℕ) (i : ℕ) (bytes : List ℕ) → row_read (va
 unfolding values_front
 none_read nulls i bytes = refl
 
-pub none_imaged : (nulls : List ℕ) (i : ℕ) (bytes : List ℕ) → is_some (values_front [] nulls i bytes) ≡ true
-unfolding values_front
-none_imaged nulls i bytes = refl
-
 -- ---- how many values there are
 
 grown : (n : ℕ) (value : Option (List ℕ)) (others : Option (Row × List ℕ)) → length (row_read others) ≤ n → length (row_read (option_map (with_first value) others)) ≤ suc n

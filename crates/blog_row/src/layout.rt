@@ -129,6 +129,7 @@ impl Layout<'_> {
     ghost use Rattle.blog_row.specs.TableMap.{is_same_layout};
 
     /// The number of columns.
+    #[tactic(auto, using(crate::proofs::Layouts::length_of_columns))]
     pub fn columns(&self) -> usize
         ensures { result ≡ length (layout_columns self.now) }
     {
@@ -136,6 +137,7 @@ impl Layout<'_> {
     }
 
     /// Whether both have the same columns: equal types, and equal metadata.
+    #[tactic(auto, using(crate::proofs::TableMapCode::same_by_bytes))]
     pub fn same(&self, other: &Layout<'_>) -> bool
         ensures same { result ≡ is_same_layout (layout_columns self.now) (layout_columns other.now) }
     {
@@ -143,6 +145,7 @@ impl Layout<'_> {
     }
 
     /// How long the image is with which the bytes begin, in bytes; None where they begin with none.
+    #[tactic(auto, using(crate::proofs::PositionWalking::image_found_by, crate::proofs::Walking::image_only))]
     #[inline(always)]
     pub fn image_len(&self, bytes: &[u8]) -> Option<usize>
         ensures exact { result ≡ image_len_of (layout_columns self.now) bytes.now }
@@ -153,6 +156,7 @@ impl Layout<'_> {
     }
 
     /// How each column is stored, where there are at most 64; what stands behind them means nothing.
+    #[tactic(auto, using(crate::proofs::Layouts::length_of_columns))]
     #[inline(always)]
     pub(crate) fn storages(&self) -> [Storage; MOST_STORAGES]
         requires few { length (layout_columns self.now) ≤ 64 }
@@ -193,6 +197,7 @@ impl<'a> Layout<'a> {
 
     /// The layout behind the names of a table map, or the first check that fails
     /// (MySQL Internals manual, "Table_map_event").
+    #[tactic(auto, using(crate::proofs::LayoutCode::layout_parts))]
     pub(crate) fn at(bytes: &'a [u8]) -> Result<Layout<'a>, RowFault>
         ensures { layout_seen result ≡ layout_behind bytes.now }
     {
@@ -215,6 +220,7 @@ impl<'a> Layout<'a> {
     }
 
     /// The layout behind the names of a table map, where it is known that reading gives one.
+    #[tactic(auto, using(crate::proofs::LayoutCode::layout_parts), unfolding(crate::specs::LayoutReading::metadata_front))]
     fn known_at(bytes: &'a [u8]) -> Layout<'a>
         requires { IsOk (layout_behind bytes.now) }
         ensures { layout_behind bytes.now ≡ Ok (layout_columns result) }
@@ -231,6 +237,7 @@ impl<'a> Layout<'a> {
 
     /// The layout of a table map's body, where it is known that reading gives one. The columns are not read again: it
     /// takes as long for many as for few.
+    #[tactic(auto, using(crate::proofs::TableMapCode::layout_by_names), unfolding(crate::specs::TableMap::layout_of))]
     pub fn known(body: &'a [u8]) -> Layout<'a>
         requires { IsOk (layout_of body.now) }
         ensures { layout_of body.now ≡ Ok (layout_columns result) }
@@ -243,6 +250,7 @@ impl<'a> Layout<'a> {
 
     /// The values of the image with which the bytes begin, in the order of the columns; none where they begin with no
     /// image. Each byte of the image is read twice, however many columns there are.
+    #[tactic(auto, using(crate::proofs::ValueWalking::few_values, crate::proofs::ValueWalking::no_row, crate::proofs::Layouts::length_of_columns))]
     pub fn values<'b>(&self, image: &'b [u8]) -> Values<'a, 'b>
         ensures values { values_left result ≡ row_of (layout_columns self.now) image.now }
         ensures few { length (values_left result) ≤ 4096 }

@@ -122,6 +122,7 @@ impl<'a> RowsEvent<'a> {
 
     /// Reads a body as `read` does, by its kind in place of its event type; beside the event it answers how many images
     /// that has.
+    #[tactic(auto, using(crate::proofs::RowsCode::event_found, crate::proofs::RowsCode::event_only, crate::proofs::RowsCode::some_columns))]
     pub fn read_counted(
         kind: RowsKind,
         body: &'a [u8],
@@ -188,6 +189,7 @@ impl<'a> RowsEvent<'a> {
 
     /// The event of a body, where it is known that reading gives one. The images are not read again: it takes as long
     /// for many rows as for few.
+    #[tactic(auto, unfolding(crate::specs::RowsEvent::rows_of, crate::specs::RowsEventView::rows_front))]
     #[inline(always)]
     pub fn known(kind: RowsKind, body: &'a [u8], layout: &Layout<'a>) -> RowsEvent<'a>
         requires { IsOk (rows_of kind (layout_columns layout.now) body.now) }
@@ -263,6 +265,7 @@ impl<'a> RowsEvent<'a> {
     }
 
     /// The images of all rows, one after the other.
+    #[tactic(auto, using(crate::proofs::RowsCode::images_are_joined))]
     pub fn images(&self) -> &'a [u8]
         ensures joined { result.now ≡ concat (rows_body self.now).images }
         ensures read { images_of (layout_columns (rows_layout self.now)) result.now ≡ Some (rows_body self.now).images }
@@ -271,6 +274,7 @@ impl<'a> RowsEvent<'a> {
     }
 
     /// How many bytes the images have together.
+    #[tactic(auto, using(crate::proofs::RowsCode::images_are_joined))]
     pub fn rows_len(&self) -> usize
         ensures { result ≡ length (concat (rows_body self.now).images) }
     {

@@ -23,6 +23,7 @@ impl<'a> TableMap<'a> {
     ghost use Rattle.blog_row.specs.LayoutReading.{layout_behind};
 
     /// Reads a body up to its names: `BadBody` where it doesn't have them.
+    #[tactic(auto, using(crate::proofs::NameLemmas::names_found, crate::proofs::NameLemmas::names_again))]
     pub fn read(body: &'a [u8]) -> Result<TableMap<'a>, RowFault>
         ensures exact { map_seen result ≡ or_bad (names_of body.now) }
         ensures found { IfOk result (λ map. HasNames body.now (map_names map)) }
@@ -35,6 +36,7 @@ impl<'a> TableMap<'a> {
     }
 
     /// The table map of a body that is known to have names.
+    #[tactic(auto, using(crate::proofs::NameLemmas::names_found))]
     pub fn known(body: &'a [u8]) -> TableMap<'a>
         requires { IsSome (names_of body.now) }
         ensures { names_of body.now ≡ Some (map_names result) }
@@ -68,6 +70,7 @@ impl<'a> TableMap<'a> {
 
     /// The columns behind the names, or the first check that fails: `UnknownType` for a column type that the profile
     /// lacks, and otherwise `BadBody`.
+    #[tactic(auto, using(crate::proofs::TableMapCode::layout_by_names, crate::proofs::TableMapCode::layout_found_by, crate::proofs::TableMapCode::layout_only_by))]
     pub fn layout(&self) -> Result<Layout<'a>, RowFault>
         ensures exact { layout_seen result ≡ layout_behind (map_names self.now).rest }
         ensures body { (body : List ℕ) → names_of body ≡ Some (map_names self.now) → layout_seen result ≡ layout_of body }

@@ -71,6 +71,7 @@ static DIGITS_WIDTHS: [u8; 256] = [
 
 /// How many bytes of metadata a type has; 0 where the profile lacks it.
 #[inline(always)]
+#[tactic(auto, using(crate::proofs::TypeTables::own_len_at))]
 pub(crate) fn own_len(kind: u8) -> usize
     ensures { result ≡ own_metadata_len kind }
 {
@@ -79,6 +80,7 @@ pub(crate) fn own_len(kind: u8) -> usize
 
 /// How many bytes each value of a type has, where its metadata says no more of that.
 #[inline(always)]
+#[tactic(auto, using(crate::proofs::TypeTables::width_at))]
 pub(crate) fn plain_width(kind: u8) -> Option<u16>
     ensures { IfSome result (λ width. (metadata : List ℕ) → is_column (column_here kind metadata) ≡ true → storage_of (column_here kind metadata) ≡ Some (Fixed width)) }
 {
@@ -92,6 +94,7 @@ pub(crate) fn plain_width(kind: u8) -> Option<u16>
 
 /// The bytes of a decimal's digits.
 #[inline(always)]
+#[tactic(auto, using(crate::proofs::TypeTables::digits_at))]
 pub(crate) fn digits_bytes(digits: u8) -> u16
     ensures { result ≡ digits_width digits }
 {

@@ -49,6 +49,7 @@ impl<'l, 'b> Values<'l, 'b> {
     }
 
     /// No values.
+    #[tactic(auto, unfolding(crate::specs::Image::values_front))]
     pub(crate) fn none() -> Values<'l, 'b>
         ensures { values_left result ≡ [] }
     {
@@ -73,6 +74,7 @@ impl<'l, 'b> Iterator for Values<'l, 'b> {
 
     ghost remaining = { λ values. at_most (columns_left values) };
 
+    #[tactic(auto, using(crate::proofs::ValueWalking::null_first, crate::proofs::ValueWalking::value_first, crate::proofs::ValueWalking::value_there, crate::proofs::Walking::front_is))]
     fn next(&mut self) -> Option<Option<&'b [u8]>> {
         let column = self.column;
         if column >= self.kinds.len() {
@@ -103,6 +105,7 @@ impl<'l, 'b> Iterator for Values<'l, 'b> {
     }
 
     /// How many values are left: one for each column that is left.
+    #[tactic(auto, using(crate::proofs::ValueWalking::as_many_read, crate::proofs::Layouts::length_of_columns))]
     fn size_hint(&self) -> (usize, Option<usize>)
         ensures exact { result ≡ (length (values_left self.now), Some (length (values_left self.now))) }
         ensures lower { IsWithinCount result.0 (at_most (columns_left self.now)) }

@@ -1,10 +1,6 @@
 use Rattle.std.proofs.Common.{◌∙◌}
 use Rattle.blog_row.proofs.Walking.{image_only}
-use Rattle.blog_row.proofs.PositionWalking.{image_found_by}
 use Rattle.blog_row.proofs.layout.Layout.image_len.Goals as goal
-
-pub returns-clause-found : goal.returns-clause-found
-returns-clause-found c = image_found_by _ c.args.bytes.now c.len_by_types.result c.len_by_types.ensures
 
 pub returns-clause-only : goal.returns-clause-only
 returns-clause-only c m h is = c.len_by_types.ensures ∙ image_only _ _ m h is

@@ -1,10 +1,7 @@
 use Rattle.std.proofs.Common.{◌≡◌, Some, is_ok, option_map, sym, ap, ◌∙◌}
 use Rattle.blog_row.specs.TableMap.{names_of, names_seen}
-use Rattle.blog_row.proofs.TableMapCode.{known_names, layout_by_names}
+use Rattle.blog_row.proofs.TableMapCode.{layout_by_names}
 use Rattle.blog_row.proofs.layout.Layout.known.Goals as goal
-
-pub unreachable-requires : goal.unreachable-requires
-unreachable-requires c = known_names c.args.body.now c.requires (sym c.names_at.ensures ∙ ap (option_map names_seen) c.in_default.is)
 
 pub known_at-requires : goal.known_at-requires
 known_at-requires c =

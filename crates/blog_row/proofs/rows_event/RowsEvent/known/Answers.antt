@@ -6,7 +6,7 @@ use Rattle.blog_row.specs.RowsEvent.{pieces}
 use Rattle.blog_row.specs.RowsEventView.{front_seen, bitmaps_seen}
 use Rattle.blog_row.proofs.Walking.{rounded_up}
 use Rattle.blog_row.proofs.RowsCode.{some_columns, two_lengths, images_are_joined}
-use Rattle.blog_row.proofs.KnownRows.{KnownRows, known_front, known_count, known_bitmaps, known_rows}
+use Rattle.blog_row.proofs.KnownRows.{KnownRows, known_rows}
 use Rattle.blog_row.proofs.rows_event.RowsEvent.known.Goals as goal
 use Rattle.blog_row.proofs.rows_event.RowsEvent.known.Goals.{In-Some-bitmaps_at}
 
@@ -14,17 +14,6 @@ known : (c : In-Some-bitmaps_at) → KnownRows c.args.kind (layout_columns c.arg
 known c =
     let len = ap bitmap_len (sym c.columns.ensures) ∙ sym (c.div_ceil-len.ensures ∙ rounded_up _) in
     known_rows _ _ _ _ _ _ (some_columns c.args.layout.now) c.requires (sym c.in-Some.ensures) (sym c.in-Some-packed_at.ensures) (ap (λ (k : ℕ). pieces (images_a_row c.args.kind.action) k c.in-Some-packed_at.count.rest.now) len ∙ sym c.in-Some-bitmaps_at.ensures.exact)
-
-pub unreachable-requires : goal.unreachable-requires
-unreachable-requires c = known_front _ _ _ c.requires (sym c.in_default.ensures)
-
-pub unreachable-requires-in_default-packed_at : goal.unreachable-requires-in_default-packed_at
-unreachable-requires-in_default-packed_at c = known_count _ _ _ _ c.requires (sym c.in-Some.ensures) (sym c.in_default-packed_at.ensures)
-
-pub unreachable-requires-in_default-bitmaps_at : goal.unreachable-requires-in_default-bitmaps_at
-unreachable-requires-in_default-bitmaps_at c =
-    let len = ap bitmap_len (sym c.columns.ensures) ∙ sym (c.div_ceil-len.ensures ∙ rounded_up _) in
-    known_bitmaps _ _ _ _ _ c.requires (sym c.in-Some.ensures) (sym c.in-Some-packed_at.ensures) (ap (λ (k : ℕ). pieces (images_a_row c.args.kind.action) k c.in-Some-packed_at.count.rest.now) len ∙ sym c.in_default-bitmaps_at.ensures.exact)
 
 pub invariant_of-result : goal.invariant_of-result
 invariant_of-result c =
@@ -40,6 +29,3 @@ invariant_of-result c =
       two = c.in-Some-bitmaps_at.ensures.two;
       imaged = known.imaged;
     }
-
-pub returns-clause-body : goal.returns-clause-body
-returns-clause-body c = (known (goal.at.returns-clause-body c).In-Some-bitmaps_at).read

@@ -22,13 +22,6 @@ invariant_of-self c =
     let first = null_first _ _ v.nulls.now v.column v.rest.now marked (rw c.column_at-storage.ensures.columns at v.imaged) in
     record { known = c.column_at-storage.ensures.known; long = v.long; imaged = first.imaged }
 
-pub returns-then-is_set-clause-steps : goal.returns-then-is_set-clause-steps
-returns-then-is_set-clause-steps c =
-    let v = c.args.self.now in
-    let marked : is_marked v.nulls.now v.column ≡ true = sym c.is_set.ensures ∙ c.if-is_set.true in
-    let first = null_first _ _ v.nulls.now v.column v.rest.now marked (rw c.column_at-storage.ensures.columns at v.imaged) in
-    ap (λ (columns : Layout). row_read (values_front columns v.nulls.now v.column v.rest.now)) c.column_at-storage.ensures.columns ∙ first.row
-
 pub unreachable-requires : goal.unreachable-requires
 unreachable-requires c =
     let v = c.args.self.now in
@@ -43,11 +36,3 @@ invariant_of-self-2 c =
     let front : value_front (column_here (get_or v.kinds.now v.column 0) v.metadata.now) v.rest.now ≡ Some (c.in-Some.value.now, c.in-Some.rest.now) = front_is _ _ _ c.column_at-storage.ensures.stored ∙ sym c.in-Some.ensures in
     let first = value_first _ _ v.nulls.now v.column v.rest.now c.in-Some.value.now c.in-Some.rest.now marked front (rw c.column_at-storage.ensures.columns at v.imaged) in
     record { known = c.column_at-storage.ensures.known; long = v.long; imaged = first.imaged }
-
-pub returns-clause-steps : goal.returns-clause-steps
-returns-clause-steps c =
-    let v = c.args.self.now in
-    let marked : is_marked v.nulls.now v.column ≡ false = sym c.is_set.ensures ∙ c.if-is_set.false in
-    let front : value_front (column_here (get_or v.kinds.now v.column 0) v.metadata.now) v.rest.now ≡ Some (c.in-Some.value.now, c.in-Some.rest.now) = front_is _ _ _ c.column_at-storage.ensures.stored ∙ sym c.in-Some.ensures in
-    let first = value_first _ _ v.nulls.now v.column v.rest.now c.in-Some.value.now c.in-Some.rest.now marked front (rw c.column_at-storage.ensures.columns at v.imaged) in
-    ap (λ (columns : Layout). row_read (values_front columns v.nulls.now v.column v.rest.now)) c.column_at-storage.ensures.columns ∙ first.row
