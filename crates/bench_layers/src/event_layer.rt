@@ -2,7 +2,7 @@
 
 ghost use Rattle.std.specs.Prelude.{◌≡◌, length, IfOk, OnOk, vec_len};
 ghost use Rattle.blog_event.specs.Items.{items_from};
-ghost use Rattle.blog_event.specs.LogView.{log_bytes};
+ghost use Rattle.blog_event.specs.code.LogView.{log_bytes};
 
 use crate::failure::Failure;
 use crate::stopwatch::{Best, Stopwatch};

@@ -11,7 +11,7 @@ use Rattle.blog_event.specs.Event.{Event, event_size, event_text, IsEvent, event
 use Rattle.blog_event.specs.File.{magic, file_text, placed_from, end_of, is_below, BeginsWith, StartBelow, IsFront, events_from, read, AreBytes}
 use Rattle.blog_event.specs.Opening.{opening_fault}
 use Rattle.blog_event.specs.Items.{items_of, items_from}
-use Rattle.blog_event.specs.Going.{EndsAt, AreRead, IsLeft, ReadsOn, FrontsGrow}
+use Rattle.blog_event.specs.code.Going.{EndsAt, AreRead, IsLeft, ReadsOn, FrontsGrow}
 use Rattle.blog_event.proofs.Headers.{event-at-short}
 use Rattle.blog_event.proofs.Framing.{bytes-drop, chosen-cases, event-at-gives, event-found, front-more, read-first, read-further, stand-none, texts-length}
 use Rattle.blog_event.proofs.Openings.{opened-log}

@@ -11,7 +11,7 @@ use Rattle.blog_event.specs.Event.{Event, event_size, event_at, event_of}
 use Rattle.blog_event.specs.File.{events_from}
 use Rattle.blog_event.specs.Items.{item_of, items_of, items_from}
 use Rattle.blog_event.proofs.Headers.{event-at-short}
-use Rattle.blog_event.specs.Going.{AreRead}
+use Rattle.blog_event.specs.code.Going.{AreRead}
 use Rattle.blog_event.proofs.Going.{are-read, are-read-only, left-more, left-none}
 
 -- the events that are left of a log

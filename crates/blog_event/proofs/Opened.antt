@@ -5,10 +5,10 @@ use Rattle.std.proofs.lemmas.Option.{none-some, same_Some}
 use Rattle.blog_event.specs.declared.log.Log.{Log}
 use Rattle.blog_event.specs.Event.{Event, event_of, event_at, event_size}
 use Rattle.blog_event.specs.File.{read}
-use Rattle.blog_event.specs.Going.{IsLeft}
+use Rattle.blog_event.specs.code.Going.{IsLeft}
 use Rattle.blog_event.specs.Fault.{fault_at}
 use Rattle.blog_event.specs.Opening.{opening_fault}
-use Rattle.blog_event.specs.LogView.{log_bytes}
+use Rattle.blog_event.specs.code.LogView.{log_bytes}
 use Rattle.blog_event.proofs.Openings.{opening-format}
 use Rattle.blog_event.proofs.Going.{opened-reads-on}
 

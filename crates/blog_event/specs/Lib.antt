@@ -2,9 +2,7 @@ pub mod Fault
 pub mod Event
 pub mod File
 pub mod Format
-pub mod Reading
 pub mod Writing
 pub mod Opening
-pub mod Going
-pub mod LogView
 pub mod Items
+pub mod code

@@ -19,7 +19,7 @@ pub struct Events<'a> {
 
 impl<'a> Log<'a> {
     ghost use Rattle.blog_event.specs.Items.{items_from};
-    ghost use Rattle.blog_event.specs.LogView.{log_bytes, items_left, most_left};
+    ghost use Rattle.blog_event.specs.code.LogView.{log_bytes, items_left, most_left};
 
     /// The events that follow each other from the byte position `from` on, each where the one before ends. If they end
     /// before the log does, or `from` lies past the log's end, one last item is the fault `CutEvent` at that position.
@@ -39,7 +39,7 @@ impl<'a> Iterator for Events<'a> {
 
     ghost use Rattle.std.specs.Iterator.{UpTo, at_most};
     ghost use Rattle.std.specs.Iterator.SizeHint.{IsWithinCount};
-    ghost use Rattle.blog_event.specs.LogView.{GivesItem, items_left, most_left};
+    ghost use Rattle.blog_event.specs.code.LogView.{GivesItem, items_left, most_left};
 
     ghost next_gives = { GivesItem };
 

@@ -3,7 +3,7 @@
 ghost use Rattle.std.specs.Prelude.{◌≡◌, ℕ, List, length, Option, None};
 ghost use Rattle.blog_event.specs.Event.{Event};
 ghost use Rattle.blog_event.specs.File.{AreBytes, ReadsEvent, ReadsLongest};
-ghost use Rattle.blog_event.specs.Going.{AreRead, IsLeft, ReadsOn, FrontsGrow};
+ghost use Rattle.blog_event.specs.code.Going.{AreRead, IsLeft, ReadsOn, FrontsGrow};
 ghost use Rattle.blog_event.specs.Items.{items_from, items_of};
 ghost use Rattle.blog_event.specs.Opening.{opening_fault, OpensLogs};
 

@@ -82,7 +82,7 @@ impl<'a> Log<'a> {
     ghost use Rattle.std.specs.Result.{result_ok};
     ghost use Rattle.blog_event.specs.declared.fault.Fault.TheVariants.{CutEvent};
     ghost use Rattle.blog_event.specs.Opening.{opening_fault};
-    ghost use Rattle.blog_event.specs.LogView.{log_bytes};
+    ghost use Rattle.blog_event.specs.code.LogView.{log_bytes};
 
     /// Opens the bytes of a file as a log. Fails at the first of these that holds: with `TooLong` at 0 if there are more
     /// than 4,294,967,295; with `NotABinlog` at 0 if they don't begin with the magic number; with `CutEvent` at 4 if no event

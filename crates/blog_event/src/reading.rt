@@ -2,7 +2,7 @@
 
 ghost use Rattle.std.specs.Prelude.{◌≡◌, ◌≤◌, ◌+◌, length, drop, IfSome, option_map};
 ghost use Rattle.blog_event.specs.Event.{event_of, event_at, event_size};
-ghost use Rattle.blog_event.specs.Reading.{header_of};
+ghost use Rattle.blog_event.specs.code.Reading.{header_of};
 
 use crate::event::{Event, Header};
 use byteorder::{ByteOrder, LittleEndian};
@@ -11,7 +11,7 @@ use byteorder::{ByteOrder, LittleEndian};
 pub const HEADER_LEN: usize = 19;
 
 /// The header in the first 19 bytes (MySQL Internals manual, "Binary Log Event Header").
-#[tactic(auto, using(std::proofs::lemmas::Slice::between_to_end), unfolding(crate::specs::Reading::header_of))]
+#[tactic(auto, using(std::proofs::lemmas::Slice::between_to_end), unfolding(crate::specs::code::Reading::header_of))]
 fn header_at(bytes: &[u8]) -> Header
     requires { 19 ≤ length bytes.now }
     ensures { result ≡ header_of bytes.now }
@@ -28,7 +28,7 @@ fn header_at(bytes: &[u8]) -> Header
 
 /// The event whose header begins at the byte position `at` of a file, if one stands there: a header of 19 bytes
 /// whose size is at least 19 and doesn't reach past the file's end.
-#[tactic(auto, unfolding(crate::specs::Event::event_at, crate::specs::Reading::header_of))]
+#[tactic(auto, unfolding(crate::specs::Event::event_at, crate::specs::code::Reading::header_of))]
 pub fn event_at(bytes: &[u8], at: u32) -> Option<Event<'_>>
     ensures event { option_map event_of result ≡ event_at (drop at bytes.now) }
     ensures pos { IfSome result (λ e. e.pos ≡ at) }

@@ -17,7 +17,7 @@ use Rattle.blog_row.specs.declared.order.Order.{Order}
 use Rattle.blog_flash.specs.declared.modes.Mode.{Mode}
 use Rattle.blog_flash.specs.declared.modes.Mode.TheVariants.{FlashbackSql}
 use Rattle.blog_row.specs.declared.order.Order.TheVariants as order
-use Rattle.blog_flash.specs.LaidOut.{groups_in}
+use Rattle.blog_flash.specs.code.LaidOut.{groups_in}
 use Rattle.blog_flash.specs.Outputs.{output_of, MeetsHeadline}
 use Rattle.blog_flash.specs.Printed.{sql_text}
 use Rattle.blog_flash.specs.Texts.{normal_text, flashback_text, laid_out_after}

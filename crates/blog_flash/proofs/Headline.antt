@@ -11,7 +11,7 @@ use Rattle.blog_trans.specs.Acceptance.{IsAccepted}
 use Rattle.blog_trans.specs.Groups.{Transaction, groups}
 use Rattle.blog_trans.specs.Changes.{changes, changes_of}
 use Rattle.blog_flash.specs.States.{apply_all, inverse_all}
-use Rattle.blog_flash.specs.LaidOut.{groups_in}
+use Rattle.blog_flash.specs.code.LaidOut.{groups_in}
 use Rattle.blog_flash.specs.Reversal.{reversed}
 use Rattle.blog_flash.proofs.Formed.{AreGroups}
 use Rattle.blog_row.specs.declared.order.Order.{Order}

@@ -9,8 +9,8 @@ use Rattle.blog_row.specs.declared.order.Order.TheVariants.{Forward, Backward}
 use Rattle.blog_event.specs.Event.{Event}
 use Rattle.blog_event.specs.File.{end_of}
 use Rattle.blog_trans.specs.Groups.{PlacedRows, PlacedStatement, PlacedTransaction, RowsEvent, Statement, Transaction, event_value, rows_value, statement_value, transaction_value}
-use Rattle.blog_trans.specs.InTurn.{Maps, Changes, Ends, in_order, in_turn, rows_in_turn, statement_in_turn, transaction_in_turn}
-use Rattle.blog_flash.specs.LaidOut.{text_from, turned, groups_in, rows_in, statement_in, transaction_in, written_event, written_in}
+use Rattle.blog_trans.specs.code.InTurn.{Maps, Changes, Ends, in_order, in_turn, rows_in_turn, statement_in_turn, transaction_in_turn}
+use Rattle.blog_flash.specs.code.LaidOut.{text_from, turned, groups_in, rows_in, statement_in, transaction_in, written_event, written_in}
 use Rattle.blog_flash.specs.Reversal.{reversed_rows, reversed_statement, reversed_transaction}
 use Rattle.blog_flash.specs.Texts.{group_events, rows_events, statement_events, transaction_events}
 use Rattle.blog_flash.specs.Written as written

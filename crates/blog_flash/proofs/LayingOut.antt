@@ -11,9 +11,9 @@ use Rattle.blog_row.specs.declared.order.Order.{Order}
 use Rattle.blog_trans.specs.Selection.{Selection}
 use Rattle.blog_trans.specs.Acceptance.{IsAccepted}
 use Rattle.blog_trans.specs.declared.groups.Index.{Index}
-use Rattle.blog_trans.specs.IndexView.{index_bytes, index_selection}
+use Rattle.blog_trans.specs.code.IndexView.{index_bytes, index_selection}
 use Rattle.blog_trans.specs.Groups.{Transaction, placed_groups, groups}
-use Rattle.blog_flash.specs.LaidOut.{text_from, groups_in, transactions_of}
+use Rattle.blog_flash.specs.code.LaidOut.{text_from, groups_in, transactions_of}
 use Rattle.blog_flash.specs.Texts.{group_events, laid_out, laid_out_after}
 use Rattle.blog_flash.proofs.Lengths.{total, laid-out-length}
 use Rattle.blog_flash.proofs.Totals.{no-longer}

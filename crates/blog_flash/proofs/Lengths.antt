@@ -6,7 +6,7 @@ use Rattle.blog_event.specs.File.{magic, end_of}
 use Rattle.blog_event.proofs.Framing.{text-length, texts-length}
 use Rattle.blog_trans.specs.Groups.{Transaction}
 use Rattle.blog_trans.proofs.Sums.{sum_of}
-use Rattle.blog_flash.specs.LaidOut.{text_from}
+use Rattle.blog_flash.specs.code.LaidOut.{text_from}
 use Rattle.blog_flash.specs.Texts.{group_events, with_log_pos, laid_out}
 
 -- ---- events

@@ -1,7 +1,7 @@
 -- Events that are appended to a file one after another: what it holds and what is left.
 use Rattle.std.proofs.Common.{◌≡◌, ℕ, ◌+◌, List, [], ◌∷◌, ◌++◌, ap, ap₂, ◌∙◌, append-nil, append_assoc}
 use Rattle.blog_event.specs.Event.{Event, event_size, event_text}
-use Rattle.blog_flash.specs.LaidOut.{text_from}
+use Rattle.blog_flash.specs.code.LaidOut.{text_from}
 
 -- one of those that are left is appended
 pub event-put : (items more : List ℕ) (pos next : ℕ) (e : Event) (rest : List Event) → more ≡ items ++ text_from pos (e ∷ []) → next ≡ pos + event_size e

@@ -9,9 +9,9 @@ use Rattle.blog_row.specs.declared.order.Order.TheVariants.{Forward}
 use Rattle.blog_trans.specs.Changes.{changes_of_rows, changes_of_statement}
 use Rattle.blog_trans.specs.Groups.{PlacedRows, PlacedStatement, PlacedTransaction, rows_value, statement_value, transaction_value, placed_groups, groups}
 use Rattle.blog_trans.specs.Selection.{Selection}
-use Rattle.blog_trans.specs.InTurn.{Maps, Ends, in_turn, rows_in_turn, statement_in_turn, transaction_in_turn}
+use Rattle.blog_trans.specs.code.InTurn.{Maps, Ends, in_turn, rows_in_turn, statement_in_turn, transaction_in_turn}
 use Rattle.blog_flash.specs.Printed.{line, change_lines, transaction_lines, sql_text}
-use Rattle.blog_flash.specs.PrintedRows.{event_lines}
+use Rattle.blog_flash.specs.code.PrintedRows.{event_lines}
 
 -- parts one after the other, each as it is printed
 parts-printed : {A B C : Type 0} (f : B → List C) (g : A → List B) (h : A → List C) → ((x : A) → flat_map f (g x) ≡ h x) → (xs : List A) → flat_map f (flat_map g xs) ≡ flat_map h xs

@@ -10,19 +10,19 @@ use Rattle.blog_row.specs.declared.kind.RowsAction.{RowsAction}
 use Rattle.blog_row.specs.declared.kind.RowsAction.TheVariants.{Write, Update, Delete}
 use Rattle.blog_row.specs.Column.{Layout}
 use Rattle.blog_row.specs.Image.{row_of}
-use Rattle.blog_row.specs.LayoutView.{layout_columns}
+use Rattle.blog_row.specs.code.LayoutView.{layout_columns}
 use Rattle.blog_row.specs.RowsEvent.{updated_rows, rows_by}
-use Rattle.blog_row.specs.RowsEventView.{rows_body}
+use Rattle.blog_row.specs.code.RowsEventView.{rows_body}
 use Rattle.blog_row.specs.TableMap.{Table, Names, layout_of, map_names}
 use Rattle.blog_trans.specs.declared.group_events.GroupRows.{GroupRows}
 use Rattle.blog_trans.specs.declared.group_events.GroupEvent.TheVariants as given
 use Rattle.blog_trans.specs.Changes.{counts_of, Inserted, Deleted, Updated, updates, row_by, changes_by_action}
 use Rattle.blog_trans.specs.Groups.{PlacedTransaction, Transaction, statement_value, transaction_value, placed_groups, groups}
-use Rattle.blog_trans.specs.GroupEventsView.{event_seen, IsByMap}
+use Rattle.blog_trans.specs.code.GroupEventsView.{event_seen, IsByMap}
 use Rattle.blog_trans.specs.Selection.{Selection}
-use Rattle.blog_trans.specs.Entries.{statements_in}
+use Rattle.blog_trans.specs.code.Entries.{statements_in}
 use Rattle.blog_flash.specs.Printed.{line, change_lines, count_line, summary_text}
-use Rattle.blog_flash.specs.PrintedRows.{event_lines, images_lines}
+use Rattle.blog_flash.specs.code.PrintedRows.{event_lines, images_lines}
 
 -- ---- a rows event
 

@@ -7,7 +7,7 @@ use Rattle.blog_event.specs.Writing.{appended}
 use Rattle.blog_row.specs.declared.order.Order.{Order}
 use Rattle.blog_row.specs.declared.order.Order.TheVariants.{Forward, Backward}
 use Rattle.blog_row.specs.RowsWriting.{RowsContent, content_in, kind_in}
-use Rattle.blog_flash.specs.LaidOut.{text_from}
+use Rattle.blog_flash.specs.code.LaidOut.{text_from}
 
 -- the kind of content in an order
 pub content-kind : (order : Order) (c : RowsContent) → (content_in order c).kind ≡ kind_in order c.kind

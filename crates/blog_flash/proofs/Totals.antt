@@ -12,13 +12,13 @@ use Rattle.blog_row.proofs.WrittenBody.{body-len, written-fits}
 use Rattle.blog_trans.specs.Selection.{Selection}
 use Rattle.blog_trans.specs.Acceptance.{IsAccepted}
 use Rattle.blog_trans.specs.Groups.{PlacedRows, PlacedStatement, PlacedTransaction, placed_groups, groups}
-use Rattle.blog_trans.specs.InTurn.{GroupEvent, Maps, Changes, Ends, in_order, in_turn, rows_in_turn, statement_in_turn, transaction_in_turn}
+use Rattle.blog_trans.specs.code.InTurn.{GroupEvent, Maps, Changes, Ends, in_order, in_turn, rows_in_turn, statement_in_turn, transaction_in_turn}
 use Rattle.blog_trans.specs.PlacedFacts.{IsPlacedRows, IsPlacedStatement, IsPlacedTransaction}
 use Rattle.blog_trans.specs.Shown.{largest, statement_shown, transaction_shown, shown, events_in_range}
 use Rattle.blog_trans.proofs.PlacedFacts.{groups-among}
 use Rattle.blog_trans.proofs.Shown.{own_size, shown-sizes}
 use Rattle.blog_trans.proofs.Sums.{sum_of, sum-append, sum-map, sum-joined, sum-reverse}
-use Rattle.blog_flash.specs.LaidOut.{groups_in, transactions_of, written_event}
+use Rattle.blog_flash.specs.code.LaidOut.{groups_in, transactions_of, written_event}
 use Rattle.blog_flash.specs.Texts.{group_events, laid_out}
 use Rattle.blog_flash.proofs.InTurn.{events-in-turn}
 use Rattle.blog_flash.proofs.Lengths.{laid-out-length}

@@ -6,7 +6,7 @@ use Rattle.blog_event.specs.Event.{Event, event_size}
 use Rattle.blog_device.specs.Devices.{AppendsBeginning}
 use Rattle.blog_device.specs.declared.fault.RunFault.{RunFault}
 use Rattle.blog_device.specs.declared.fault.RunFault.TheVariants.{Write}
-use Rattle.blog_flash.specs.LaidOut.{text_from}
+use Rattle.blog_flash.specs.code.LaidOut.{text_from}
 use Rattle.blog_flash.specs.Runs.{IsWritten}
 use Rattle.blog_flash.proofs.Placing.{event-put}
 

@@ -1,16 +1,12 @@
 pub mod States
 pub mod Texts
 pub mod Written
-pub mod WrittenView
-pub mod WrittenGroupsView
-pub mod Measured
 pub mod Reversal
 pub mod Printed
-pub mod LaidOut
-pub mod PrintedRows
 pub mod Theorems
 pub mod Shown
 pub mod Agreement
 pub mod Outputs
 pub mod Answers
 pub mod Runs
+pub mod code

@@ -4,9 +4,9 @@ ghost use Rattle.std.specs.Prelude.{◌≡◌, ◌≤◌, List, ◌++◌, length
 ghost use Rattle.blog_event.specs.File.{end_of, read};
 ghost use Rattle.blog_row.specs.declared.order.Order.{Order};
 ghost use Rattle.blog_trans.specs.Groups.{Transaction};
-ghost use Rattle.blog_trans.specs.IndexView.{index_bytes, index_selection, index_groups};
-ghost use Rattle.blog_flash.specs.LaidOut.{text_from, transactions_of};
-ghost use Rattle.blog_flash.specs.Measured.{HasSizes};
+ghost use Rattle.blog_trans.specs.code.IndexView.{index_bytes, index_selection, index_groups};
+ghost use Rattle.blog_flash.specs.code.LaidOut.{text_from, transactions_of};
+ghost use Rattle.blog_flash.specs.code.Measured.{HasSizes};
 ghost use Rattle.blog_flash.specs.Texts.{group_events, laid_out_after};
 ghost use Rattle.blog_flash.specs.Written.{event_written};
 

@@ -1,7 +1,7 @@
 //! How long a log is before it is written: from sizes alone, so that no row is read.
 
 ghost use Rattle.std.specs.Prelude.{◌≤◌, map};
-ghost use Rattle.blog_flash.specs.Measured.{GetsLonger, Measures};
+ghost use Rattle.blog_flash.specs.code.Measured.{GetsLonger, Measures};
 ghost use Rattle.blog_flash.specs.Written.{event_written};
 
 use crate::written_events::WrittenEvents;

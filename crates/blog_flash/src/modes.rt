@@ -5,12 +5,12 @@ ghost use Rattle.blog_event.specs.File.{end_of, read};
 ghost use Rattle.blog_trans.specs.Selection.{selection_of};
 ghost use Rattle.blog_trans.specs.Acceptance.{IsAccepted, fault, IsRefusal};
 ghost use Rattle.blog_trans.specs.Groups.{groups};
-ghost use Rattle.blog_trans.specs.IndexView.{index_bytes, index_groups, index_selection};
+ghost use Rattle.blog_trans.specs.code.IndexView.{index_bytes, index_groups, index_selection};
 ghost use Rattle.blog_flash.specs.Answers.{Answers};
-ghost use Rattle.blog_flash.specs.LaidOut.{groups_in, transactions_of};
+ghost use Rattle.blog_flash.specs.code.LaidOut.{groups_in, transactions_of};
 ghost use Rattle.blog_flash.specs.Printed.{sql_text, summary_text};
 ghost use Rattle.blog_flash.specs.Texts.{group_events, laid_out_after};
-ghost use Rattle.blog_flash.specs.Measured.{HasSizes};
+ghost use Rattle.blog_flash.specs.code.Measured.{HasSizes};
 ghost use Rattle.blog_flash.specs.Written.{event_written, groups_written};
 
 use crate::laid_out::{front, lay_out};

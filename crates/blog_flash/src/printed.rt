@@ -4,10 +4,10 @@ ghost use Rattle.std.specs.Prelude.{◌≡◌, ◌+◌, ◌*◌, ◌≤◌, ◌�
 ghost use Rattle.std.specs.Fmt.{decimal};
 ghost use Rattle.hex.specs.Hex.{encode_upper};
 ghost use Rattle.blog_row.specs.Image.{row_of};
-ghost use Rattle.blog_row.specs.LayoutView.{layout_columns};
+ghost use Rattle.blog_row.specs.code.LayoutView.{layout_columns};
 ghost use Rattle.blog_row.specs.TableMap.{map_names};
 ghost use Rattle.blog_flash.specs.Printed.{line, between_backticks, quoted, quoted_table, value_text, value_lines, row_lines, change_lines};
-ghost use Rattle.blog_flash.specs.PrintedRows.{value_line, table_line, image_lines};
+ghost use Rattle.blog_flash.specs.code.PrintedRows.{value_line, table_line, image_lines};
 ghost use Rattle.blog_trans.specs.Changes.{Inserted, Deleted, Updated};
 
 use blog_row::{Layout, RowChange, TableMap};

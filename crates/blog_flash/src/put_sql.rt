@@ -3,10 +3,10 @@
 ghost use Rattle.std.specs.Prelude.{◌≡◌, ◌+◌, ◌≤◌, ◌++◌, length, IfOk, OnOk, IsOk, vec_len, vec_capacity};
 ghost use Rattle.blog_trans.specs.declared.group_events.GroupEvent.TheVariants as GroupEvent;
 ghost use Rattle.blog_trans.specs.Groups.{groups};
-ghost use Rattle.blog_trans.specs.GroupEventsView.{event_seen, IsByMap, IsWhole};
-ghost use Rattle.blog_trans.specs.IndexView.{index_bytes, index_selection};
+ghost use Rattle.blog_trans.specs.code.GroupEventsView.{event_seen, IsByMap, IsWhole};
+ghost use Rattle.blog_trans.specs.code.IndexView.{index_bytes, index_selection};
 ghost use Rattle.blog_flash.specs.Printed.{sql_text};
-ghost use Rattle.blog_flash.specs.PrintedRows.{event_lines};
+ghost use Rattle.blog_flash.specs.code.PrintedRows.{event_lines};
 
 use crate::printed::{put_change, put_line};
 use blog_row::Order;

@@ -2,9 +2,9 @@
 
 ghost use Rattle.std.specs.Prelude.{◌≡◌, ◌+◌, ◌≤◌, List, [], ◌∷◌, ◌++◌, length, take, vec_len, vec_capacity};
 ghost use Rattle.blog_event.specs.Event.{event_of, event_size, unplaced};
-ghost use Rattle.blog_row.specs.RowsEventView.{rows_content};
+ghost use Rattle.blog_row.specs.code.RowsEventView.{rows_content};
 ghost use Rattle.blog_row.specs.RowsWriting.{content_in, written_body};
-ghost use Rattle.blog_flash.specs.LaidOut.{text_from};
+ghost use Rattle.blog_flash.specs.code.LaidOut.{text_from};
 
 use blog_event::{Event, HEADER_LEN, Header, open_event_from, put_event_from};
 use blog_row::{Order, RowsEvent};
@@ -67,7 +67,7 @@ fn put_body_at<A: Allocator>(
 
 impl<'a> WrittenRows<'a> {
     ghost use Rattle.blog_flash.specs.Texts.{rows_event};
-    ghost use Rattle.blog_flash.specs.WrittenView.{rows_told};
+    ghost use Rattle.blog_flash.specs.code.WrittenView.{rows_told};
 
     /// Appends the rows event: without extra bytes, with its rows in their order, and with the end flag where it is the last of
     /// its statement.
@@ -90,7 +90,7 @@ impl<'a> WrittenRows<'a> {
 
 impl<'a> WrittenEvent<'a> {
     ghost use Rattle.blog_flash.specs.Written.{event_written};
-    ghost use Rattle.blog_flash.specs.WrittenView.{written_told};
+    ghost use Rattle.blog_flash.specs.code.WrittenView.{written_told};
 
     /// How many bytes its body has.
     #[inline(always)]

@@ -11,7 +11,7 @@ use std::alloc::{Allocator, Global};
 pub trait WrittenEvents<'a> {
     ghost use Rattle.std.specs.Iterator.{YieldsFirstBy};
     ghost use Rattle.blog_flash.specs.Written.{Passes, Written};
-    ghost use Rattle.blog_flash.specs.WrittenView.{written_told};
+    ghost use Rattle.blog_flash.specs.code.WrittenView.{written_told};
 
     // The events that are still to come, as values.
     ghost to_come: { Self → List Written };
@@ -33,10 +33,10 @@ pub struct WrittenGroups<'i, 'a, 's, A: Allocator = Global> {
 }
 
 impl<'i, 'a, 's, A: Allocator> WrittenGroups<'i, 'a, 's, A> {
-    ghost use Rattle.blog_trans.specs.IndexView.{index_groups};
-    ghost use Rattle.blog_flash.specs.LaidOut.{transactions_of};
+    ghost use Rattle.blog_trans.specs.code.IndexView.{index_groups};
+    ghost use Rattle.blog_flash.specs.code.LaidOut.{transactions_of};
     ghost use Rattle.blog_flash.specs.Written.{groups_written};
-    ghost use Rattle.blog_flash.specs.WrittenGroupsView.{groups_to_come};
+    ghost use Rattle.blog_flash.specs.code.WrittenGroupsView.{groups_to_come};
 
     /// The groups as they stand in the log (forward), or as they undo these (backward).
     pub fn new(index: &'i Index<'a, 's, A>, order: Order) -> WrittenGroups<'i, 'a, 's, A>
@@ -50,7 +50,7 @@ impl<'i, 'a, 's, A: Allocator> WrittenGroups<'i, 'a, 's, A> {
 }
 
 impl<'i, 'a, 's, A: Allocator> WrittenEvents<'a> for WrittenGroups<'i, 'a, 's, A> {
-    ghost use Rattle.blog_flash.specs.WrittenGroupsView.{groups_to_come};
+    ghost use Rattle.blog_flash.specs.code.WrittenGroupsView.{groups_to_come};
 
     ghost to_come = { groups_to_come };
 

@@ -8,9 +8,9 @@ ghost use Rattle.blog_event.specs.File.{end_of};
 ghost use Rattle.blog_device.specs.declared.fault.RunFault.TheVariants as RunFault;
 ghost use Rattle.blog_device.specs.Watched.{device_of, has_failed};
 ghost use Rattle.blog_device.specs.Devices.{AppendsBeginning, is_write_fault};
-ghost use Rattle.blog_flash.specs.LaidOut.{text_from};
+ghost use Rattle.blog_flash.specs.code.LaidOut.{text_from};
 ghost use Rattle.blog_flash.specs.Runs.{IsWritten, ends_before_writing};
-ghost use Rattle.blog_flash.specs.Measured.{AreWithin};
+ghost use Rattle.blog_flash.specs.code.Measured.{AreWithin};
 ghost use Rattle.blog_flash.specs.Written.{event_written};
 
 use crate::log_sizes::LogSizes;

@@ -4,9 +4,9 @@ ghost use Rattle.std.specs.Prelude.{◌≡◌, option_map};
 ghost use Rattle.std.specs.List.{list_any};
 ghost use Rattle.blog_trans.specs.Changes.{counts_of};
 ghost use Rattle.blog_trans.specs.Groups.{groups};
-ghost use Rattle.blog_trans.specs.IndexView.{index_bytes, index_selection, table_counted};
+ghost use Rattle.blog_trans.specs.code.IndexView.{index_bytes, index_selection, table_counted};
 ghost use Rattle.blog_trans.specs.Selection.{is_wanted};
-ghost use Rattle.blog_list.specs.Wanted.{has_names, is_before, is_from, is_of_wanted_tables, is_wanted_unit};
+ghost use Rattle.blog_list.specs.code.Wanted.{has_names, is_before, is_from, is_of_wanted_tables, is_wanted_unit};
 
 use blog_trans::{Index, TableCount};
 use blog_units::Unit;

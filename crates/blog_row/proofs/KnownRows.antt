@@ -9,7 +9,7 @@ use Rattle.blog_row.specs.Packed.{packed_front}
 use Rattle.blog_row.specs.Column.{Layout}
 use Rattle.blog_row.specs.Image.{bitmap_len, images_of}
 use Rattle.blog_row.specs.RowsEvent.{RowsBody, are_marked, pieces, rows_of}
-use Rattle.blog_row.specs.RowsEventView.{FrontParts, rows_front}
+use Rattle.blog_row.specs.code.RowsEventView.{FrontParts, rows_front}
 use Rattle.blog_row.proofs.Results.{step_found, check_found}
 use Rattle.blog_row.proofs.LayoutCode.{ok_there}
 use Rattle.blog_row.proofs.RowsCode.{FieldLengths, after_bitmaps, body_parts, front_lengths}

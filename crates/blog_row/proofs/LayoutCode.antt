@@ -10,7 +10,7 @@ use Rattle.blog_row.specs.Packed.{packed_front}
 use Rattle.blog_row.specs.Column.{Layout, is_column, metadata_total, columns_of}
 use Rattle.blog_row.specs.Image.{bitmap_len}
 use Rattle.blog_row.specs.TableMap.{layout_fields}
-use Rattle.blog_row.specs.LayoutReading.{are_known, total_of, types_front, metadata_front, layout_behind}
+use Rattle.blog_row.specs.code.LayoutReading.{are_known, total_of, types_front, metadata_front, layout_behind}
 use Rattle.blog_row.proofs.Results.{step_found, check_found}
 use Rattle.blog_row.proofs.Cutting.{none_is_not, and_then_found, cut_found}
 

@@ -5,8 +5,8 @@ use Rattle.std.proofs.lemmas.Bool.{cond-true, cond-false, lt-leb, eq-eqb}
 use Rattle.blog_row.specs.Checks.{cut}
 use Rattle.blog_row.specs.Column.{Column, Layout, Storage, storage_of, value_stored, value_front}
 use Rattle.blog_row.specs.Image.{Row, bitmap_len, is_marked, IsImage, IsSomeImage, values_front, image_front, image_len_of}
-use Rattle.blog_row.specs.ImageView.{AreNull}
-use Rattle.blog_row.specs.PositionView.{from_position, EndsAt, behind_from}
+use Rattle.blog_row.specs.code.ImageView.{AreNull}
+use Rattle.blog_row.specs.code.PositionView.{from_position, EndsAt, behind_from}
 use Rattle.blog_row.proofs.Cutting.{map_found}
 use Rattle.blog_row.proofs.Images.{image_found}
 use Rattle.blog_row.proofs.Walking.{first_null, first_there, front_is, nulls_cut}

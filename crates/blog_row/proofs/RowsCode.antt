@@ -11,7 +11,7 @@ use Rattle.blog_row.specs.declared.fault.RowFault.{RowFault}
 use Rattle.blog_row.specs.declared.fault.RowFault.TheVariants.{BadBody, PartialImage}
 use Rattle.blog_row.specs.declared.rows_event.RowsEvent as told
 use Rattle.blog_row.specs.declared.layout.Layout as columns
-use Rattle.blog_row.specs.LayoutView.{layout_columns}
+use Rattle.blog_row.specs.code.LayoutView.{layout_columns}
 use Rattle.blog_row.specs.RowsKind.{images_a_row}
 use Rattle.blog_row.specs.Checks.{◌>>=◌, check, or_bad, cut}
 use Rattle.blog_row.specs.Packed.{packed_front}
@@ -19,7 +19,7 @@ use Rattle.blog_row.specs.Column.{Layout}
 use Rattle.blog_row.specs.Image.{Row, bitmap_len, is_marked, IsImage, image_front, image_len_of, images_up_to, images_of}
 use Rattle.blog_row.specs.RowsEvent.{RowsBody, HasExtra, IsRowsBody, are_marked, bitmaps_by, two_bitmaps, extra_of, pieces, rows_of}
 use Rattle.blog_row.specs.RowsWriting.{no_extra}
-use Rattle.blog_row.specs.RowsEventView.{FrontParts, rows_front, rows_body, counted_seen}
+use Rattle.blog_row.specs.code.RowsEventView.{FrontParts, rows_front, rows_body, counted_seen}
 use Rattle.blog_row.proofs.Cutting.{none_is_not, map_found, nothing_then, then_of}
 use Rattle.blog_row.proofs.Images.{image_found, image_positive, images_found, images_again}
 use Rattle.blog_row.proofs.Layouts.{length_of_columns}

@@ -6,9 +6,9 @@ use Rattle.blog_row.specs.declared.column.Storage as told
 use Rattle.blog_row.specs.declared.column.Storage.TheVariants as variants
 use Rattle.blog_row.specs.Column.{Column, Layout, storage_of, is_column, columns_of, value_stored, value_front}
 use Rattle.blog_row.specs.Image.{bitmap_len, is_marked}
-use Rattle.blog_row.specs.StorageView.{AreStored, storage_seen}
+use Rattle.blog_row.specs.code.StorageView.{AreStored, storage_seen}
 use Rattle.blog_row.proofs.PositionWalking.{past_null, past_value, past_all, column_ends}
-use Rattle.blog_row.specs.PositionView.{from_position, EndsAt, behind_from}
+use Rattle.blog_row.specs.code.PositionView.{from_position, EndsAt, behind_from}
 use Rattle.blog_row.proofs.Walking.{rounded_up}
 
 -- ---- the column in front

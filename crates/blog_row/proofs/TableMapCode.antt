@@ -5,8 +5,8 @@ use Rattle.blog_row.specs.declared.fault.RowFault.{RowFault}
 use Rattle.blog_row.specs.declared.layout.Layout as told
 use Rattle.blog_row.specs.Column.{Layout, metadata_total, columns_of}
 use Rattle.blog_row.specs.TableMap.{Names, LayoutFields, HasLayout, names_of, layout_fields, layout_of, is_same_layout}
-use Rattle.blog_row.specs.LayoutView.{layout_columns, layout_seen}
-use Rattle.blog_row.specs.LayoutReading.{layout_behind}
+use Rattle.blog_row.specs.code.LayoutView.{layout_columns, layout_seen}
+use Rattle.blog_row.specs.code.LayoutReading.{layout_behind}
 use Rattle.blog_row.proofs.Results.{reading_found, reading_again, same_ok}
 use Rattle.blog_row.proofs.Layouts.{layout_found, layout_again, types_of_columns, metadata_of_columns}
 

@@ -4,7 +4,7 @@ use Rattle.std.proofs.Math.Seq.{drop-cons}
 use Rattle.std.proofs.lemmas.Bool.{and_parts}
 use Rattle.std.specs.List.{list_all}
 use Rattle.blog_row.specs.Column.{metadata_len_of, is_column, own_metadata_len, metadata_total, columns_of}
-use Rattle.blog_row.specs.LayoutReading.{column_here, are_known}
+use Rattle.blog_row.specs.code.LayoutReading.{column_here, are_known}
 use Rattle.blog_row.proofs.ColumnTypes.{column_len}
 
 -- the type at i, and those after it

@@ -4,7 +4,7 @@ use Rattle.std.proofs.lemmas.Bool.{eqb-true, and_parts}
 use lib.Ieee.Fits.{and_l, and_r}
 use Rattle.blog_row.specs.declared.type_tables.TheConstants.{METADATA_LENS, PLAIN_WIDTHS, DIGITS_WIDTHS}
 use Rattle.blog_row.specs.Column.{Storage, Fixed, Counted, Rule, ByByte, when, column_types, digits_width, rule_of, rule_storage, metadata_len_of, own_metadata_len, storage_by, storage_of, is_column}
-use Rattle.blog_row.specs.LayoutReading.{column_here}
+use Rattle.blog_row.specs.code.LayoutReading.{column_here}
 
 -- each entry passes a test, with its number
 abbrev are_right : (ℕ → ℕ → Bool) → ℕ → List ℕ → Bool

@@ -4,7 +4,7 @@ use Rattle.std.proofs.lemmas.Bool.{cond-true, cond-false, eq-eqb, cases_order}
 use Rattle.blog_row.specs.Checks.{cut}
 use Rattle.blog_row.specs.Column.{Column, Layout, Storage, storage_of, value_stored, value_front}
 use Rattle.blog_row.specs.Image.{Row, bitmap_len, is_marked, IsSomeImage, values_front, image_front, image_len_of}
-use Rattle.blog_row.specs.ImageView.{AreNull}
+use Rattle.blog_row.specs.code.ImageView.{AreNull}
 use Rattle.blog_row.proofs.Images.{image_again}
 
 -- ---- one more value

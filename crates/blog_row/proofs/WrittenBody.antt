@@ -10,7 +10,7 @@ use Rattle.blog_row.specs.declared.order.Order.{Order}
 use Rattle.blog_row.specs.declared.order.Order.TheVariants.{Forward, Backward}
 use Rattle.blog_row.specs.Column.{Layout}
 use Rattle.blog_row.specs.RowsEvent.{HasExtra, RowsBody, IsRowsBody}
-use Rattle.blog_row.specs.RowsEventView.{written_front}
+use Rattle.blog_row.specs.code.RowsEventView.{written_front}
 use Rattle.blog_row.specs.RowsWriting.{RowsContent, content_of, content_in, reversed_content, no_extra, written_flags, written_body}
 use Rattle.blog_row.proofs.ReversedRows.{images-as-long, joined-exchanged}
 use Rattle.blog_row.proofs.RowsCode.{extra-long}

@@ -7,12 +7,5 @@ pub mod Image
 pub mod TableMap
 pub mod RowsEvent
 pub mod Laws
-pub mod StorageView
-pub mod ImageView
-pub mod LayoutReading
-pub mod LayoutView
-pub mod RowsEventView
-pub mod RowsView
 pub mod RowsWriting
-pub mod ValuesView
-pub mod PositionView
+pub mod code

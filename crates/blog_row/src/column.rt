@@ -2,7 +2,7 @@
 
 ghost use Rattle.std.specs.Prelude.{◌≡◌, ◌≤◌, ◌==◌, [], ◌∷◌, option_map, IfSome};
 ghost use Rattle.blog_row.specs.Column.{Fixed, when, with_fraction, counted_in, counted_up_to, decimal_storage, string_storage, metadata_len_of, storage_by};
-ghost use Rattle.blog_row.specs.StorageView.{prefix_seen, storage_seen};
+ghost use Rattle.blog_row.specs.code.StorageView.{prefix_seen, storage_seen};
 
 use crate::constants::{
     MYSQL_TYPE_BIT, MYSQL_TYPE_BLOB, MYSQL_TYPE_DATE, MYSQL_TYPE_DATETIME, MYSQL_TYPE_DATETIME2,

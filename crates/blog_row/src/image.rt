@@ -5,9 +5,9 @@ ghost use Rattle.byteorder.specs.Endian.{little_number};
 ghost use Rattle.blog_row.specs.Checks.{cut, cut_seen};
 ghost use Rattle.blog_row.specs.Column.{value_stored};
 ghost use Rattle.blog_row.specs.Image.{is_marked};
-ghost use Rattle.blog_row.specs.PositionView.{EndsAt};
-ghost use Rattle.blog_row.specs.StorageView.{prefix_seen, storage_seen};
-ghost use Rattle.blog_row.specs.ImageView.{AreNull};
+ghost use Rattle.blog_row.specs.code.PositionView.{EndsAt};
+ghost use Rattle.blog_row.specs.code.StorageView.{prefix_seen, storage_seen};
+ghost use Rattle.blog_row.specs.code.ImageView.{AreNull};
 
 use crate::column::{Prefix, Storage};
 use byteorder::{ByteOrder, LittleEndian};

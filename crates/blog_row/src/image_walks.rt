@@ -3,8 +3,8 @@
 ghost use Rattle.std.specs.Prelude.{◌≡◌, ◌≤◌, true, length, is_some, option_map, unwrap_or, reverse, [], IfSome};
 ghost use Rattle.std.specs.List.{concat};
 ghost use Rattle.blog_row.specs.Image.{images_of};
-ghost use Rattle.blog_row.specs.LayoutView.{layout_columns};
-ghost use Rattle.blog_row.specs.StorageView.{AreStored};
+ghost use Rattle.blog_row.specs.code.LayoutView.{layout_columns};
+ghost use Rattle.blog_row.specs.code.StorageView.{AreStored};
 
 use crate::column::Storage;
 use crate::layout::Layout;

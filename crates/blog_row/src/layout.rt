@@ -4,8 +4,8 @@ ghost use Rattle.std.specs.Prelude.{◌≡◌, ◌<◌, ◌≤◌, ◌+◌, ◌�
 ghost use Rattle.std.specs.List.{list_all};
 ghost use Rattle.blog_row.specs.Checks.{cut_seen};
 ghost use Rattle.blog_row.specs.Column.{metadata_total, columns_of, storage_of, is_column};
-ghost use Rattle.blog_row.specs.LayoutReading.{column_here, are_known, total_of, types_front, metadata_front};
-ghost use Rattle.blog_row.specs.StorageView.{storage_seen};
+ghost use Rattle.blog_row.specs.code.LayoutReading.{column_here, are_known, total_of, types_front, metadata_front};
+ghost use Rattle.blog_row.specs.code.StorageView.{storage_seen};
 
 use crate::column::{Storage, metadata_len, stored_as};
 use crate::fault::RowFault;
@@ -85,7 +85,7 @@ pub(crate) fn column_at<'a>(kinds: &[u8], i: usize, metadata: &'a [u8]) -> (Stor
 const MOST_COLUMNS: u64 = 4096;
 
 /// The types behind their packed count, and the bytes behind them, where there are 1 to 4,096 types.
-#[tactic(auto, unfolding(crate::specs::LayoutReading::types_front))]
+#[tactic(auto, unfolding(crate::specs::code::LayoutReading::types_front))]
 fn types_at(bytes: &[u8]) -> Option<(&[u8], &[u8])>
     ensures { option_map cut_seen result ≡ types_front bytes.now }
 {
@@ -97,7 +97,7 @@ fn types_at(bytes: &[u8]) -> Option<(&[u8], &[u8])>
 }
 
 /// The `len` bytes of metadata behind their packed length, and the bytes behind them, where that is the length.
-#[tactic(auto, unfolding(crate::specs::LayoutReading::metadata_front))]
+#[tactic(auto, unfolding(crate::specs::code::LayoutReading::metadata_front))]
 fn metadata_at(len: usize, bytes: &[u8]) -> Option<(&[u8], &[u8])>
     ensures { option_map cut_seen result ≡ metadata_front len bytes.now }
 {
@@ -123,9 +123,9 @@ pub struct Layout<'a> {
 impl Layout<'_> {
     ghost use Rattle.std.specs.Prelude.{ℕ, take, IfSome};
     ghost use Rattle.blog_row.specs.Image.{IsSomeImage, image_len_of, value_of};
-    ghost use Rattle.blog_row.specs.ImageView.{value_seen};
-    ghost use Rattle.blog_row.specs.LayoutView.{layout_columns};
-    ghost use Rattle.blog_row.specs.StorageView.{AreStored};
+    ghost use Rattle.blog_row.specs.code.ImageView.{value_seen};
+    ghost use Rattle.blog_row.specs.code.LayoutView.{layout_columns};
+    ghost use Rattle.blog_row.specs.code.StorageView.{AreStored};
     ghost use Rattle.blog_row.specs.TableMap.{is_same_layout};
 
     /// The number of columns.
@@ -190,9 +190,9 @@ impl Layout<'_> {
 impl<'a> Layout<'a> {
     ghost use Rattle.std.specs.Prelude.{IsOk};
     ghost use Rattle.blog_row.specs.Image.{row_of};
-    ghost use Rattle.blog_row.specs.ValuesView.{values_left};
-    ghost use Rattle.blog_row.specs.LayoutReading.{layout_behind};
-    ghost use Rattle.blog_row.specs.LayoutView.{layout_columns, layout_seen};
+    ghost use Rattle.blog_row.specs.code.ValuesView.{values_left};
+    ghost use Rattle.blog_row.specs.code.LayoutReading.{layout_behind};
+    ghost use Rattle.blog_row.specs.code.LayoutView.{layout_columns, layout_seen};
     ghost use Rattle.blog_row.specs.TableMap.{layout_of};
 
     /// The layout behind the names of a table map, or the first check that fails
@@ -220,7 +220,7 @@ impl<'a> Layout<'a> {
     }
 
     /// The layout behind the names of a table map, where it is known that reading gives one.
-    #[tactic(auto, using(crate::proofs::LayoutCode::layout_parts), unfolding(crate::specs::LayoutReading::metadata_front))]
+    #[tactic(auto, using(crate::proofs::LayoutCode::layout_parts), unfolding(crate::specs::code::LayoutReading::metadata_front))]
     fn known_at(bytes: &'a [u8]) -> Layout<'a>
         requires { IsOk (layout_behind bytes.now) }
         ensures { layout_behind bytes.now ≡ Ok (layout_columns result) }

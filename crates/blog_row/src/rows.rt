@@ -2,7 +2,7 @@
 
 ghost use Rattle.std.specs.Prelude.{◌≡◌, ◌≤◌, ◌+◌, is_some, true, length, option_to_list, Some, IfSome};
 ghost use Rattle.blog_row.specs.Image.{images_of};
-ghost use Rattle.blog_row.specs.LayoutView.{layout_columns};
+ghost use Rattle.blog_row.specs.code.LayoutView.{layout_columns};
 
 use crate::kind::RowsAction;
 use crate::layout::Layout;
@@ -30,8 +30,8 @@ pub struct Rows<'a> {
 impl<'a> RowsEvent<'a> {
     ghost use Rattle.std.specs.List.{concat};
     ghost use Rattle.blog_row.specs.RowsEvent.{rows_by};
-    ghost use Rattle.blog_row.specs.RowsEventView.{rows_kind, rows_body};
-    ghost use Rattle.blog_row.specs.RowsView.{rows_left, most_left};
+    ghost use Rattle.blog_row.specs.code.RowsEventView.{rows_kind, rows_body};
+    ghost use Rattle.blog_row.specs.code.RowsView.{rows_left, most_left};
 
     /// The rows, in order: of an insert each image after, of a delete each image before, and of an update the images
     /// before and after, each two of which are a row. It takes no memory, and reads each image once.
@@ -49,7 +49,7 @@ impl<'a> RowsEvent<'a> {
 
 impl<'a> Rows<'a> {
     ghost use Rattle.std.specs.Iterator.{YieldsFirstRef};
-    ghost use Rattle.blog_row.specs.RowsView.{images_left};
+    ghost use Rattle.blog_row.specs.code.RowsView.{images_left};
 
     /// The next image.
     fn image(&mut self) -> Option<&'a [u8]>
@@ -69,7 +69,7 @@ impl<'a> Iterator for Rows<'a> {
 
     ghost use Rattle.std.specs.Iterator.{UpTo, YieldsFirstBy, at_most};
     ghost use Rattle.std.specs.Iterator.SizeHint.{IsWithinCount};
-    ghost use Rattle.blog_row.specs.RowsView.{rows_left, most_left, row_seen};
+    ghost use Rattle.blog_row.specs.code.RowsView.{rows_left, most_left, row_seen};
 
     ghost next_gives = { YieldsFirstBy row_seen rows_left };
 

@@ -5,7 +5,7 @@ ghost use Rattle.std.specs.Prelude.{◌≡◌, ◌+◌, ◌≤◌, ◌<◌, ◌%
 ghost use Rattle.blog_event.specs.Writing.{joined};
 ghost use Rattle.blog_row.specs.declared.kind.RowsVersion.{RowsVersion};
 ghost use Rattle.blog_row.specs.Image.{images_of, bitmap_len};
-ghost use Rattle.blog_row.specs.LayoutView.{layout_columns};
+ghost use Rattle.blog_row.specs.code.LayoutView.{layout_columns};
 ghost use Rattle.blog_row.specs.Column.{Layout as Columns};
 ghost use Rattle.blog_row.specs.RowsEvent.{IsRowsBody, RowsBody, bitmaps_by, fixed_len, two_bitmaps};
 ghost use Rattle.blog_row.specs.RowsWriting.{content_of, no_extra, written_body};
@@ -40,7 +40,7 @@ impl RowsHead {
     ghost use Rattle.std.specs.Prelude.{List, ℕ, Ok};
     ghost use Rattle.blog_row.specs.RowsEvent.{has_end_flag, table_id};
     ghost use Rattle.byteorder.specs.Endian.{little_number};
-    ghost use Rattle.blog_row.specs.RowsEventView.{head_of, head_table, head_flags};
+    ghost use Rattle.blog_row.specs.code.RowsEventView.{head_of, head_table, head_flags};
 
     /// Reads the table id and the flags: `BadBody` where the body is shorter than the fixed part, of eight bytes in version
     /// 1 and of ten in version 2.
@@ -101,7 +101,7 @@ impl<'a> RowsEvent<'a> {
     ghost use Rattle.byteorder.specs.Endian.{little_number};
     ghost use Rattle.blog_row.specs.RowsKind.{rows_kind_of};
     ghost use Rattle.blog_row.specs.RowsEvent.{RowsBody, IsRowsBody, rows_of};
-    ghost use Rattle.blog_row.specs.RowsEventView.{rows_kind, rows_layout, rows_body, rows_seen, counted_seen};
+    ghost use Rattle.blog_row.specs.code.RowsEventView.{rows_kind, rows_layout, rows_body, rows_seen, counted_seen};
 
     /// Reads a body by its event type, a number of a kind of rows events, and by the layout of its table, or gives the
     /// first check that fails: `PartialImage` where a column isn't in the images, and otherwise `BadBody`.
@@ -139,7 +139,7 @@ impl<'a> RowsEvent<'a> {
     }
 
     /// The event of a body with the number of its images, or the first check that fails.
-    #[tactic(auto, unfolding(crate::specs::RowsEventView::rows_front, crate::specs::RowsEvent::rows_of))]
+    #[tactic(auto, unfolding(crate::specs::code::RowsEventView::rows_front, crate::specs::RowsEvent::rows_of))]
     fn at(
         kind: RowsKind,
         body: &'a [u8],
@@ -189,7 +189,7 @@ impl<'a> RowsEvent<'a> {
 
     /// The event of a body, where it is known that reading gives one. The images are not read again: it takes as long
     /// for many rows as for few.
-    #[tactic(auto, unfolding(crate::specs::RowsEvent::rows_of, crate::specs::RowsEventView::rows_front))]
+    #[tactic(auto, unfolding(crate::specs::RowsEvent::rows_of, crate::specs::code::RowsEventView::rows_front))]
     #[inline(always)]
     pub fn known(kind: RowsKind, body: &'a [u8], layout: &Layout<'a>) -> RowsEvent<'a>
         requires { IsOk (rows_of kind (layout_columns layout.now) body.now) }
@@ -364,7 +364,7 @@ impl<'a> RowsEvent<'a> {
     ghost use Rattle.byteorder.specs.Endian.{little_bytes};
     ghost use Rattle.blog_row.specs.declared.order.Order.{Order};
     ghost use Rattle.blog_row.specs.RowsEvent.{rows_text};
-    ghost use Rattle.blog_row.specs.RowsEventView.{rows_body, rows_content, written_front};
+    ghost use Rattle.blog_row.specs.code.RowsEventView.{rows_body, rows_content, written_front};
     ghost use Rattle.blog_row.specs.RowsWriting.{content_in, written_body, written_flags};
 
     /// Writes the images from the last to the first into room of their size, `rows_len` bytes. That puts the rows in

@@ -6,7 +6,7 @@ ghost use Rattle.blog_row.specs.Checks.{or_bad};
 ghost use Rattle.blog_row.specs.RowsKind.{images_a_row};
 ghost use Rattle.blog_row.specs.Image.{bitmap_len, is_marked};
 ghost use Rattle.blog_row.specs.RowsEvent.{are_marked, pieces, bitmaps_by, extra_of, two_bitmaps};
-ghost use Rattle.blog_row.specs.RowsEventView.{extra_seen, front_seen, rows_front, bitmaps_seen};
+ghost use Rattle.blog_row.specs.code.RowsEventView.{extra_seen, front_seen, rows_front, bitmaps_seen};
 ghost use Rattle.blog_row.specs.declared.kind.RowsVersion.TheVariants.{Two};
 
 use crate::image::{cut_at, is_set};
@@ -70,7 +70,7 @@ pub(crate) fn extra_at(version: RowsVersion, bytes: &[u8]) -> Option<Extra<'_>>
 }
 
 /// The fields up to the extra bytes, where the body has them.
-#[tactic(auto, unfolding(crate::specs::RowsEventView::rows_front))]
+#[tactic(auto, unfolding(crate::specs::code::RowsEventView::rows_front))]
 pub(crate) fn front_at(version: RowsVersion, body: &[u8]) -> Option<Front<'_>>
     ensures { option_map front_seen result ≡ rows_front version body.now }
 {

@@ -4,8 +4,8 @@ ghost use Rattle.std.specs.Prelude.{◌≡◌, ◌≤◌, ◌*◌, true, length,
 ghost use Rattle.std.specs.List.{list_all};
 ghost use Rattle.blog_row.specs.Column.{Layout, columns_of, is_column};
 ghost use Rattle.blog_row.specs.Image.{image_len_of};
-ghost use Rattle.blog_row.specs.PositionView.{behind_from, from_position};
-ghost use Rattle.blog_row.specs.StorageView.{AreStored};
+ghost use Rattle.blog_row.specs.code.PositionView.{behind_from, from_position};
+ghost use Rattle.blog_row.specs.code.StorageView.{AreStored};
 
 use crate::column::Storage;
 use crate::image::{cut_at, is_set, stored_end};

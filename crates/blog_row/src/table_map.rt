@@ -19,8 +19,8 @@ impl<'a> TableMap<'a> {
     ghost use Rattle.byteorder.specs.Endian.{little_number};
     ghost use Rattle.blog_row.specs.Checks.{or_bad};
     ghost use Rattle.blog_row.specs.TableMap.{Names as NameFields, LayoutFields, HasNames, HasLayout, names_of, layout_of, map_names, map_seen};
-    ghost use Rattle.blog_row.specs.LayoutView.{layout_columns, layout_seen};
-    ghost use Rattle.blog_row.specs.LayoutReading.{layout_behind};
+    ghost use Rattle.blog_row.specs.code.LayoutView.{layout_columns, layout_seen};
+    ghost use Rattle.blog_row.specs.code.LayoutReading.{layout_behind};
 
     /// Reads a body up to its names: `BadBody` where it doesn't have them.
     #[tactic(auto, using(crate::proofs::NameLemmas::names_found, crate::proofs::NameLemmas::names_again))]

@@ -3,7 +3,7 @@
 
 ghost use Rattle.std.specs.Prelude.{◌≡◌, ℕ, List, Some, IfSome, true};
 ghost use Rattle.blog_row.specs.Column.{Fixed, digits_width, own_metadata_len, storage_of, is_column};
-ghost use Rattle.blog_row.specs.LayoutReading.{column_here};
+ghost use Rattle.blog_row.specs.code.LayoutReading.{column_here};
 
 /// How many bytes of metadata each type has; 0 where the profile lacks it.
 #[rattlefmt::skip]

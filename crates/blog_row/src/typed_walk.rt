@@ -5,9 +5,9 @@ ghost use Rattle.std.specs.Prelude.{◌≡◌, ◌<◌, ◌≤◌, ◌+◌, ◌*
 ghost use Rattle.std.specs.List.{list_all};
 ghost use Rattle.blog_row.specs.Column.{columns_of, is_column, storage_of, value_front};
 ghost use Rattle.blog_row.specs.Image.{image_len_of};
-ghost use Rattle.blog_row.specs.LayoutReading.{column_here};
-ghost use Rattle.blog_row.specs.PositionView.{EndsAt, behind_from, from_position};
-ghost use Rattle.blog_row.specs.StorageView.{storage_seen};
+ghost use Rattle.blog_row.specs.code.LayoutReading.{column_here};
+ghost use Rattle.blog_row.specs.code.PositionView.{EndsAt, behind_from, from_position};
+ghost use Rattle.blog_row.specs.code.StorageView.{storage_seen};
 
 use crate::column::Storage;
 use crate::constants::MYSQL_TYPE_VARCHAR;

@@ -28,7 +28,7 @@ pub struct Values<'l, 'b> {
 impl<'l, 'b> Values<'l, 'b> {
     ghost use Rattle.std.specs.Prelude.{[]};
     ghost use Rattle.blog_row.specs.Image.{image_front, row_of};
-    ghost use Rattle.blog_row.specs.ValuesView.{values_left};
+    ghost use Rattle.blog_row.specs.code.ValuesView.{values_left};
 
     /// The values of the image with which the bytes begin.
     pub(crate) fn of(kinds: &'l [u8], metadata: &'l [u8], image: &'b [u8]) -> Values<'l, 'b>
@@ -68,7 +68,7 @@ impl<'l, 'b> Iterator for Values<'l, 'b> {
 
     ghost use Rattle.std.specs.Iterator.{UpTo, YieldsFirstBy, at_most};
     ghost use Rattle.std.specs.Iterator.SizeHint.{IsWithinCount};
-    ghost use Rattle.blog_row.specs.ValuesView.{values_left, columns_left, value_bytes};
+    ghost use Rattle.blog_row.specs.code.ValuesView.{values_left, columns_left, value_bytes};
 
     ghost next_gives = { YieldsFirstBy value_bytes values_left };
 

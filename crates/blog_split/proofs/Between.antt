@@ -6,11 +6,11 @@ use Rattle.std.proofs.lemmas.Option.{same_Some, slice_get_within, get_or_from_sl
 use Rattle.blog_event.specs.Event.{event_size}
 use Rattle.blog_event.specs.File.{Placed}
 use Rattle.blog_trans.specs.Groups.{PlacedRows, PlacedStatement, PlacedTransaction, rows_value}
-use Rattle.blog_trans.specs.IndexView.{statement_at, map_at, rows_at}
+use Rattle.blog_trans.specs.code.IndexView.{statement_at, map_at, rows_at}
 use Rattle.blog_trans.proofs.Turns.{drop-at}
 use Rattle.blog_flash.specs.Texts.{rows_event}
 use Rattle.blog_split.specs.Cuts.{rows_bytes}
-use Rattle.blog_split.specs.Greedy.{pieces_on, pieces_of, rows_between, HasLength, IsPieceEnd}
+use Rattle.blog_split.specs.code.Greedy.{pieces_on, pieces_of, rows_between, HasLength, IsPieceEnd}
 use Rattle.blog_split.proofs.Small.{rows_bytes-append}
 
 -- ---- by number

@@ -5,14 +5,14 @@ use Rattle.std.specs.List.{flat_map}
 use Rattle.std.proofs.lemmas.List.Concat.{flat_map-append}
 use Rattle.std.proofs.Math.Seq.{take-length}
 use Rattle.blog_event.specs.File.{Placed}
-use Rattle.blog_trans.specs.Entries.{statements_at}
+use Rattle.blog_trans.specs.code.Entries.{statements_at}
 use Rattle.blog_trans.specs.Groups.{PlacedRows, PlacedStatement, PlacedTransaction, RowsEvent, event_value, rows_value, statement_value, transaction_value}
 use Rattle.blog_trans.proofs.Turns.{drop-at}
 use Rattle.blog_flash.specs.Written.{Written, Changes, Maps, Same, groups_written, rows_written, statement_written}
 use Rattle.blog_split.specs.Cuts.{piece_statement}
-use Rattle.blog_split.specs.Greedy.{IsPieceEnd, cut_groups, cut_statement, pieces_of, rows_between}
-use Rattle.blog_split.specs.Marks.{AreUsed, numbered}
-use Rattle.blog_split.specs.CutView.{end_behind, piece_left, pieces_behind, statements_behind}
+use Rattle.blog_split.specs.code.Greedy.{IsPieceEnd, cut_groups, cut_statement, pieces_of, rows_between}
+use Rattle.blog_split.specs.code.Marks.{AreUsed, numbered}
+use Rattle.blog_split.specs.code.CutView.{end_behind, piece_left, pieces_behind, statements_behind}
 use Rattle.blog_split.proofs.Between.{between-none}
 use Rattle.blog_split.proofs.Marks.{piece-events}
 use Rattle.blog_split.proofs.Steps.{row-first}

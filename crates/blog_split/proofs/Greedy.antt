@@ -4,7 +4,7 @@ use Rattle.std.specs.List.{AllByRecursion, flat_map}
 use Rattle.std.proofs.lemmas.Bool.{leb-true, leb-false}
 use Rattle.blog_trans.specs.Groups.{RowsEvent, Statement, Transaction}
 use Rattle.blog_split.specs.Cuts.{rows_bytes, IsPiece, AreFull, IsCut, AreCut, IsCutInto}
-use Rattle.blog_split.specs.Greedy.{pieces_on, pieces_of, cut_statement, cut_groups}
+use Rattle.blog_split.specs.code.Greedy.{pieces_on, pieces_of, cut_statement, cut_groups}
 
 -- ---- joined
 

@@ -19,13 +19,13 @@ use Rattle.blog_row.specs.RowsEvent.{table_id}
 use Rattle.blog_row.proofs.NameLemmas.{names_found}
 use Rattle.blog_trans.specs.Groups.{PlacedStatement, RowsEvent}
 use Rattle.blog_trans.specs.declared.groups.Index.{Index}
-use Rattle.blog_trans.specs.IndexView.{Stands, index_bytes, index_groups, index_selection, map_at, statement_at}
+use Rattle.blog_trans.specs.code.IndexView.{Stands, index_bytes, index_groups, index_selection, map_at, statement_at}
 use Rattle.blog_trans.specs.PlacedFacts.{IsPlacedStatement, IsPlacedTransaction}
 use Rattle.blog_trans.proofs.IndexFacts.{groups_known, map_known}
 use Rattle.blog_trans.proofs.PlacedParts.{all-at}
 use Rattle.blog_split.proofs.Between.{at-some}
 use Rattle.blog_split.specs.declared.used_maps.MapId.{MapId}
-use Rattle.blog_split.specs.Marks.{IsId, id_number, IsOfMap, AreListed, IsTable, IsFound, goes_by, IsMapNumber}
+use Rattle.blog_split.specs.code.Marks.{IsId, id_number, IsOfMap, AreListed, IsTable, IsFound, goes_by, IsMapNumber}
 
 -- ---- table ids
 

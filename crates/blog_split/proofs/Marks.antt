@@ -20,8 +20,8 @@ use Rattle.blog_trans.specs.Groups.{PlacedRows, PlacedStatement, RowsEvent, even
 use Rattle.blog_trans.proofs.Turns.{drop-at}
 use Rattle.blog_flash.specs.Written.{Maps, rows_written, statement_written}
 use Rattle.blog_split.specs.Cuts.{is_used_by, piece_statement}
-use Rattle.blog_split.specs.Greedy.{rows_between}
-use Rattle.blog_split.specs.Marks.{goes_by, is_number, IsMapNumber, AreMarks, AreUsed, numbered}
+use Rattle.blog_split.specs.code.Greedy.{rows_between}
+use Rattle.blog_split.specs.code.Marks.{goes_by, is_number, IsMapNumber, AreMarks, AreUsed, numbered}
 use Rattle.blog_split.proofs.MapIds.{differs}
 use Rattle.blog_split.proofs.Between.{at-some, between-none, between-more}
 

@@ -4,7 +4,7 @@ use Rattle.std.specs.Prelude.{nat_eq}
 use Rattle.std.proofs.lemmas.Bool.{eqb-true, eqb-false}
 use Rattle.blog_trans.specs.Groups.{PlacedStatement}
 use Rattle.blog_split.specs.declared.most.Most.{Most}
-use Rattle.blog_split.specs.Sizes.{IsAmongMost}
+use Rattle.blog_split.specs.code.Sizes.{IsAmongMost}
 
 -- what holds below a number and at it holds below the next
 pub below-next : (P : ℕ → Type 0) (n : ℕ) → ((k : ℕ) → k < n → P k) → P n → (k : ℕ) → k < n + 1 → P k

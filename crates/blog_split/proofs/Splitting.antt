@@ -4,9 +4,9 @@ use Rattle.blog_event.specs.File.{AreBytes, read}
 use Rattle.blog_device.specs.Devices.{AppendsBeginning}
 use Rattle.blog_device.specs.declared.fault.RunFault.{RunFault}
 use Rattle.blog_device.specs.declared.fault.RunFault.TheVariants as run
-use Rattle.blog_flash.specs.LaidOut.{text_from}
+use Rattle.blog_flash.specs.code.LaidOut.{text_from}
 use Rattle.blog_flash.specs.Runs.{IsWritten}
-use Rattle.blog_flash.specs.Measured.{HasSizes}
+use Rattle.blog_flash.specs.code.Measured.{HasSizes}
 use Rattle.blog_flash.specs.Texts.{group_events, laid_out_after}
 use Rattle.blog_flash.specs.Written.{Written, event_written, groups_written}
 use Rattle.blog_flash.specs.declared.log_sizes.LogSizes.{LogSizes}
@@ -17,7 +17,7 @@ use Rattle.blog_trans.specs.Acceptance.{IsAccepted}
 use Rattle.blog_trans.specs.Groups.{Transaction, groups}
 use Rattle.blog_split.specs.declared.fault.SplitFault.{SplitFault}
 use Rattle.blog_split.specs.declared.fault.SplitFault.TheVariants.{Log, TooLong}
-use Rattle.blog_split.specs.Greedy.{cut_groups}
+use Rattle.blog_split.specs.code.Greedy.{cut_groups}
 use Rattle.blog_split.specs.Laws.{IsSplit}
 use Rattle.blog_split.specs.Splitting.{LaysOut, Splits}
 use Rattle.blog_split.specs.declared.fault.SplitRunFault.{SplitRunFault}

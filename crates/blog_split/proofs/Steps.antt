@@ -3,7 +3,7 @@ use Rattle.std.proofs.Common.{◌≡◌, ℕ, ◌+◌, ◌-◌, ◌≤◌, ◌<�
 use Rattle.std.proofs.lemmas.Bool.{eqb-true, eqb-false}
 use Rattle.blog_trans.specs.Groups.{PlacedRows, rows_value}
 use Rattle.blog_flash.specs.Written.{Written, Changes, rows_written}
-use Rattle.blog_split.specs.Greedy.{rows_between}
+use Rattle.blog_split.specs.code.Greedy.{rows_between}
 use Rattle.blog_split.proofs.Between.{at-some, between-none, between-first}
 
 -- what is left of a list, split in two

@@ -6,15 +6,15 @@ use Rattle.blog_event.specs.File.{Placed}
 use Rattle.blog_row.specs.declared.kind.RowsKind.{RowsKind}
 use Rattle.blog_row.specs.declared.rows_event.RowsEvent as seen
 use Rattle.blog_row.specs.RowsEvent.{RowsBody, table_id}
-use Rattle.blog_row.specs.RowsEventView.{rows_kind, rows_body, rows_content}
+use Rattle.blog_row.specs.code.RowsEventView.{rows_kind, rows_body, rows_content}
 use Rattle.blog_row.specs.RowsWriting.{content_of, written_body}
 use Rattle.blog_trans.specs.Groups.{PlacedRows, rows_value}
 use Rattle.blog_trans.specs.declared.groups.Index.{Index}
-use Rattle.blog_trans.specs.IndexView.{Stands, placed, index_bytes, index_groups, index_selection, rows_at, rows_place}
+use Rattle.blog_trans.specs.code.IndexView.{Stands, placed, index_bytes, index_groups, index_selection, rows_at, rows_place}
 use Rattle.blog_trans.proofs.IndexFacts.{rows_read}
 use Rattle.blog_flash.specs.Written.{Changes}
 use Rattle.blog_trans.proofs.RowsFields.{fields-found}
-use Rattle.blog_split.specs.Greedy.{HasLength}
+use Rattle.blog_split.specs.code.Greedy.{HasLength}
 use Rattle.blog_split.proofs.Between.{some-from}
 
 -- a rows event as it was read, and the body of its map

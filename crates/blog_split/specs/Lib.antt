@@ -1,9 +1,6 @@
 pub mod Cuts
 pub mod Laws
-pub mod Greedy
-pub mod Marks
-pub mod CutView
-pub mod Sizes
 pub mod Putting
 pub mod Splitting
 pub mod SplittingTo
+pub mod code

@@ -4,8 +4,8 @@ ghost use Rattle.std.specs.Prelude.{◌≡◌, ◌+◌, ◌<◌, ◌≤◌, ℕ,
 ghost use Rattle.std.proofs.Props.{props};
 ghost use Rattle.blog_trans.specs.Groups.{PlacedStatement, PlacedTransaction};
 ghost use Rattle.std.specs.Option.{ForSome};
-ghost use Rattle.blog_trans.specs.IndexView.{Stands, index_bytes, index_groups, placed, statement_at};
-ghost use Rattle.blog_split.specs.Marks.{IsTable};
+ghost use Rattle.blog_trans.specs.code.IndexView.{Stands, index_bytes, index_groups, placed, statement_at};
+ghost use Rattle.blog_split.specs.code.Marks.{IsTable};
 
 use crate::fault::SplitFault;
 use crate::most::most_of;
@@ -70,11 +70,11 @@ pub(crate) struct CutEvents<'i, 'a, 's, A: Allocator, B: Allocator> {
 impl<'i, 'a, 's, A: Allocator, B: Allocator> CutEvents<'i, 'a, 's, A, B> {
     ghost use Rattle.blog_event.specs.declared.fault.Fault.TheVariants.{OutOfMemory};
     ghost use Rattle.blog_trans.specs.Groups.{groups};
-    ghost use Rattle.blog_trans.specs.IndexView.{index_selection};
+    ghost use Rattle.blog_trans.specs.code.IndexView.{index_selection};
     ghost use Rattle.blog_flash.specs.Written.{Passes, groups_written};
     ghost use Rattle.blog_split.specs.declared.fault.SplitFault.TheVariants as SplitFault;
-    ghost use Rattle.blog_split.specs.CutView.{GivesCut, IsReady, cut_to_come};
-    ghost use Rattle.blog_split.specs.Greedy.{cut_groups};
+    ghost use Rattle.blog_split.specs.code.CutView.{GivesCut, IsReady, cut_to_come};
+    ghost use Rattle.blog_split.specs.code.Greedy.{cut_groups};
 
     /// The events of the groups of an index, their statements cut. `Log(OutOfMemory)` where one of the two lists that it takes
     /// is refused: a number and a table id for each map of the statement with the most, and a number for each rows event of the
@@ -277,7 +277,7 @@ impl<'i, 'a, 's, A: Allocator, B: Allocator> CutEvents<'i, 'a, 's, A, B> {
 }
 
 impl<'i, 'a, 's, A: Allocator, B: Allocator> WrittenEvents<'a> for CutEvents<'i, 'a, 's, A, B> {
-    ghost use Rattle.blog_split.specs.CutView.{cut_to_come};
+    ghost use Rattle.blog_split.specs.code.CutView.{cut_to_come};
 
     ghost to_come = { cut_to_come };
 

@@ -3,9 +3,9 @@
 ghost use Rattle.std.specs.Prelude.{◌≡◌, ◌≤◌};
 ghost use Rattle.blog_flash.specs.Texts.{group_events};
 ghost use Rattle.blog_trans.specs.Groups.{groups};
-ghost use Rattle.blog_trans.specs.IndexView.{index_bytes, index_selection};
-ghost use Rattle.blog_split.specs.Greedy.{cut_groups};
-ghost use Rattle.blog_split.specs.Sizes.{IsMeasured};
+ghost use Rattle.blog_trans.specs.code.IndexView.{index_bytes, index_selection};
+ghost use Rattle.blog_split.specs.code.Greedy.{cut_groups};
+ghost use Rattle.blog_split.specs.code.Sizes.{IsMeasured};
 ghost use Rattle.blog_split.specs.Splitting.{LaysOut, Splits};
 
 use crate::cut_events::CutEvents;

@@ -2,8 +2,8 @@
 
 ghost use Rattle.std.specs.Prelude.{◌≡◌, ◌<◌, ◌≤◌, ℕ, Some, length};
 ghost use Rattle.blog_trans.specs.Groups.{PlacedStatement};
-ghost use Rattle.blog_trans.specs.IndexView.{index_groups, statement_at};
-ghost use Rattle.blog_split.specs.Sizes.{IsAmongMost};
+ghost use Rattle.blog_trans.specs.code.IndexView.{index_groups, statement_at};
+ghost use Rattle.blog_split.specs.code.Sizes.{IsAmongMost};
 
 use blog_trans::Index;
 use std::alloc::Allocator;

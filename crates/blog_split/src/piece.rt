@@ -2,9 +2,9 @@
 
 ghost use Rattle.std.specs.Prelude.{◌≡◌, ◌<◌, ◌≤◌, [], Some, IsSome, length, slice_get, vec_capacity};
 ghost use Rattle.blog_trans.specs.Groups.{PlacedRows, PlacedStatement, rows_value};
-ghost use Rattle.blog_trans.specs.IndexView.{index_groups, rows_at, statement_at};
-ghost use Rattle.blog_split.specs.Greedy.{HasLength, IsPieceEnd, rows_between};
-ghost use Rattle.blog_split.specs.Marks.{AreMarks, AreUsed, IsMapNumber, IsTable};
+ghost use Rattle.blog_trans.specs.code.IndexView.{index_groups, rows_at, statement_at};
+ghost use Rattle.blog_split.specs.code.Greedy.{HasLength, IsPieceEnd, rows_between};
+ghost use Rattle.blog_split.specs.code.Marks.{AreMarks, AreUsed, IsMapNumber, IsTable};
 
 use crate::used_maps::{MapId, id_of, mark, number_of};
 use blog_event::HEADER_LEN;

@@ -5,9 +5,9 @@ ghost use Rattle.std.specs.List.Sorted.{IsNonDecreasingBy};
 ghost use Rattle.blog_event.specs.File.{AreBytes};
 ghost use Rattle.blog_row.specs.RowsEvent.{table_id};
 ghost use Rattle.blog_trans.specs.Groups.{PlacedRows, PlacedStatement, rows_value};
-ghost use Rattle.blog_trans.specs.IndexView.{index_groups, rows_at, statement_at};
-ghost use Rattle.blog_split.specs.Greedy.{rows_between};
-ghost use Rattle.blog_split.specs.Marks.{AreListed, AreMarks, AreUsed, IsFound, IsMapNumber, IsTable, id_number};
+ghost use Rattle.blog_trans.specs.code.IndexView.{index_groups, rows_at, statement_at};
+ghost use Rattle.blog_split.specs.code.Greedy.{rows_between};
+ghost use Rattle.blog_split.specs.code.Marks.{AreListed, AreMarks, AreUsed, IsFound, IsMapNumber, IsTable, id_number};
 
 use blog_trans::Index;
 use byteorder::{ByteOrder, LittleEndian};

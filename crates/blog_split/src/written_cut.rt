@@ -4,9 +4,9 @@ ghost use Rattle.std.specs.Prelude.{◌≡◌, ◌||◌, true};
 ghost use Rattle.blog_event.specs.File.{read};
 ghost use Rattle.blog_device.specs.Watched.{device_of, has_failed};
 ghost use Rattle.blog_trans.specs.Groups.{groups};
-ghost use Rattle.blog_trans.specs.IndexView.{index_bytes, index_selection};
+ghost use Rattle.blog_trans.specs.code.IndexView.{index_bytes, index_selection};
 ghost use Rattle.blog_flash.specs.Texts.{laid_out_after};
-ghost use Rattle.blog_split.specs.Greedy.{cut_groups};
+ghost use Rattle.blog_split.specs.code.Greedy.{cut_groups};
 ghost use Rattle.blog_split.specs.SplittingTo.{IsCutWritten, SplitsTo, ends_before_writing, is_writing_fault};
 
 use crate::cut_events::CutEvents;

@@ -23,7 +23,7 @@ use Rattle.blog_sum.specs.declared.fault.SumFault.TheVariants.{Log, UnknownAlgor
 use Rattle.blog_sum.specs.Crc.{crc32_of}
 use Rattle.blog_sum.specs.Sums.{ends_in_its_sum, unless, sum_check, summed, not_in_use, algorithm_of, has_sums, sum_fault}
 use Rattle.blog_sum.specs.Plain.{without_sum, format_with, plain_format, ended_from, plain_events, plain_of}
-use Rattle.blog_sum.specs.Left.{events_left, end_check, left_fault}
+use Rattle.blog_sum.specs.code.Left.{events_left, end_check, left_fault}
 use Rattle.blog_sum.proofs.Formats.{described-long, plain-described, plain-none}
 use Rattle.blog_sum.proofs.Texts.{format-size}
 use Rattle.blog_sum.proofs.Walk.{read-is, fault-summed}

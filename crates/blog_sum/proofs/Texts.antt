@@ -12,7 +12,7 @@ use Rattle.blog_event.proofs.Framing.{bytes-drop, event-found, text-length}
 use Rattle.blog_sum.specs.Crc.{crc32_of}
 use Rattle.blog_sum.specs.Sums.{ends_in_its_sum, not_in_use}
 use Rattle.blog_sum.specs.Plain.{without_sum, format_with, plain_format}
-use Rattle.blog_sum.specs.Left.{flag_cleared, plain_text}
+use Rattle.blog_sum.specs.code.Left.{flag_cleared, plain_text}
 
 -- ---- headers
 

@@ -21,7 +21,7 @@ use Rattle.blog_sum.specs.declared.fault.SumFault.{SumFault}
 use Rattle.blog_sum.specs.declared.fault.SumFault.TheVariants.{Log, WrongSum, OutOfMemory}
 use Rattle.blog_sum.specs.Sums.{ends_in_its_sum, unless, sum_check, not_in_use, algorithm_of, has_sums, sum_fault}
 use Rattle.blog_sum.specs.Plain.{plain_format, plain_of}
-use Rattle.blog_sum.specs.Left.{events_left, end_check, left_fault, next_fault, plain_text}
+use Rattle.blog_sum.specs.code.Left.{events_left, end_check, left_fault, next_fault, plain_text}
 use Rattle.blog_sum.proofs.Formats.{described-long}
 use Rattle.blog_sum.proofs.Texts.{text-more}
 

@@ -1,4 +1,4 @@
 pub mod Crc
 pub mod Sums
 pub mod Plain
-pub mod Left
+pub mod code

@@ -8,7 +8,7 @@ ghost use Rattle.blog_event.specs.Opening.{front_fault};
 ghost use Rattle.blog_sum.specs.declared.fault.SumFault.TheVariants.{OutOfMemory};
 ghost use Rattle.blog_sum.specs.Sums.{sum_fault, has_sums, algorithm_of};
 ghost use Rattle.blog_sum.specs.Plain.{plain_format, plain_of};
-ghost use Rattle.blog_sum.specs.Left.{events_left, end_check, plain_text};
+ghost use Rattle.blog_sum.specs.code.Left.{events_left, end_check, plain_text};
 
 use crate::fault::SumFault;
 use crate::sums::{SUM_LEN, check_format_sum, crc_not_in_use, summed_event};

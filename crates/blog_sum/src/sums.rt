@@ -5,7 +5,7 @@ ghost use Rattle.std.specs.Result.{result_err};
 ghost use Rattle.blog_event.specs.Event.{event_of, event_at, event_size};
 ghost use Rattle.blog_sum.specs.Crc.{crc32_of};
 ghost use Rattle.blog_sum.specs.Sums.{ends_in_its_sum, not_in_use, sum_check};
-ghost use Rattle.blog_sum.specs.Left.{flag_cleared, next_fault};
+ghost use Rattle.blog_sum.specs.code.Left.{flag_cleared, next_fault};
 
 use crate::crc::{Crc, crc32};
 use crate::fault::SumFault;

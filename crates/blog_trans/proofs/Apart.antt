@@ -6,7 +6,7 @@ use Rattle.blog_event.specs.File.{Placed}
 use Rattle.blog_row.specs.RowsEvent.{table_id}
 use Rattle.blog_trans.specs.Selection.{Selection}
 use Rattle.blog_trans.specs.Groups.{PlacedRows, PlacedStatement, PlacedTransaction, kept_rows, first_maps, statement_if, transaction_if}
-use Rattle.blog_trans.specs.Progress.{Open, appended_if}
+use Rattle.blog_trans.specs.code.Progress.{Open, appended_if}
 use Rattle.blog_trans.specs.Shown.{statement_shown, transaction_shown}
 use Rattle.blog_trans.proofs.Sums.{sum_of, sum-append, sum-map, sum-joined}
 use Rattle.blog_trans.proofs.KeptRows.{kept-facts}

@@ -11,12 +11,12 @@ use Rattle.blog_trans.specs.declared.counts.Counts.{Counts}
 use Rattle.blog_trans.specs.Selection.{Selection}
 use Rattle.blog_trans.specs.Groups.{PlacedRows, PlacedStatement, PlacedTransaction, rows_value, transaction_if}
 use Rattle.blog_trans.specs.Changes.{Change, table_of, changes_of_rows}
-use Rattle.blog_trans.specs.Progress.{Open, appended_if, with_rows, ended}
-use Rattle.blog_trans.specs.StatementMaps.{MapFacts, used_maps, used_of}
-use Rattle.blog_trans.specs.ListsView.{open_behind, between_statements, closed_by}
-use Rattle.blog_trans.specs.CheckerView.{HasChecked}
-use Rattle.blog_trans.specs.CountsView.{AreCounts}
-use Rattle.blog_trans.specs.BuilderView.{statements_changes, progress_changes, statements_tables, progress_tables}
+use Rattle.blog_trans.specs.code.Progress.{Open, appended_if, with_rows, ended}
+use Rattle.blog_trans.specs.code.StatementMaps.{MapFacts, used_maps, used_of}
+use Rattle.blog_trans.specs.code.ListsView.{open_behind, between_statements, closed_by}
+use Rattle.blog_trans.specs.code.CheckerView.{HasChecked}
+use Rattle.blog_trans.specs.code.CountsView.{AreCounts}
+use Rattle.blog_trans.specs.code.BuilderView.{statements_changes, progress_changes, statements_tables, progress_tables}
 use Rattle.blog_trans.proofs.Columns.{flat_push}
 
 -- ---- the changes and the tables of what is kept

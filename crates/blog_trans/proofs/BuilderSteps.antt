@@ -17,12 +17,12 @@ use Rattle.blog_trans.specs.Selection.{Selection}
 use Rattle.blog_trans.specs.Places.{kind_at, is_map, leads_to, place, is_inside, since}
 use Rattle.blog_trans.specs.Acceptance.{checks, end_checks, event_fault, HavePassed}
 use Rattle.blog_trans.specs.Groups.{PlacedRows, PlacedStatement, PlacedTransaction, kept_rows, first_maps}
-use Rattle.blog_trans.specs.Progress.{Open, Progress, with_rows, closed, ended_if, rows_taken, advance_by, advance, progress}
-use Rattle.blog_trans.specs.StatementMaps.{used_of}
-use Rattle.blog_trans.specs.TablesView.{tables_known, HaveGrown}
-use Rattle.blog_trans.specs.CheckerView.{IsKept, HasChecked}
-use Rattle.blog_trans.specs.ListsView.{all_ended, open_behind, between_statements, closed_by}
-use Rattle.blog_trans.specs.BuilderView.{HasTaken, Keeps, progress_changes, progress_tables}
+use Rattle.blog_trans.specs.code.Progress.{Open, Progress, with_rows, closed, ended_if, rows_taken, advance_by, advance, progress}
+use Rattle.blog_trans.specs.code.StatementMaps.{used_of}
+use Rattle.blog_trans.specs.code.TablesView.{tables_known, HaveGrown}
+use Rattle.blog_trans.specs.code.CheckerView.{IsKept, HasChecked}
+use Rattle.blog_trans.specs.code.ListsView.{all_ended, open_behind, between_statements, closed_by}
+use Rattle.blog_trans.specs.code.BuilderView.{HasTaken, Keeps, progress_changes, progress_tables}
 use Rattle.blog_trans.proofs.Growing.{counts-grown}
 use Rattle.blog_trans.proofs.Checking.{knows-quiet}
 use Rattle.blog_trans.proofs.ProgressState.{open-inside, open-no-rows, since-rows, since-last}

@@ -10,7 +10,7 @@ use Rattle.blog_event.specs.declared.fault.Fault.TheVariants.{BadBody, MapClash}
 use Rattle.blog_event.specs.Fault.{needs, first_failing}
 use Rattle.blog_event.specs.File.{Placed, AreBytes}
 use Rattle.blog_row.specs.Checks.{or_bad}
-use Rattle.blog_row.specs.LayoutView.{layout_columns}
+use Rattle.blog_row.specs.code.LayoutView.{layout_columns}
 use Rattle.blog_row.specs.TableMap.{Names, HasNames, names_of, layout_of}
 use Rattle.blog_row.specs.RowsEvent.{table_id}
 use Rattle.blog_row.specs.declared.event_kinds.EventKind.{EventKind}
@@ -24,9 +24,9 @@ use Rattle.blog_trans.specs.declared.place.Place.TheVariants.{Outside}
 use Rattle.blog_trans.specs.Selection.{Selection}
 use Rattle.blog_trans.specs.Acceptance.{clashes_by_id, end_checks, event_fault, is_selected}
 use Rattle.blog_trans.specs.Places.{kind_at, is_begin, is_map, is_rows, is_map_of, leads_to, is_inside, place, since}
-use Rattle.blog_trans.specs.TablesView.{tables_known, HaveGrown, IsNumbered}
-use Rattle.blog_trans.specs.StatementMaps.{MapFacts, first_of_ids, facts_of, facts_held}
-use Rattle.blog_trans.specs.CheckerView.{HasChecked, LayoutsAgree, IsPassed, IsPassedStatement, IsMapCompared, columns_known, column_checks}
+use Rattle.blog_trans.specs.code.TablesView.{tables_known, HaveGrown, IsNumbered}
+use Rattle.blog_trans.specs.code.StatementMaps.{MapFacts, first_of_ids, facts_of, facts_held}
+use Rattle.blog_trans.specs.code.CheckerView.{HasChecked, LayoutsAgree, IsPassed, IsPassedStatement, IsMapCompared, columns_known, column_checks}
 use Rattle.blog_trans.proofs.ProgressFirsts.{and-false}
 use Rattle.blog_trans.proofs.CheckingStatement.{facts-quiet, facts-kept, passed-quiet, passed-map}
 use Rattle.blog_row.proofs.ReversedRows.{all-append}

@@ -13,14 +13,14 @@ use Rattle.blog_event.specs.File.{Placed}
 use Rattle.blog_row.specs.declared.layout.Layout as told
 use Rattle.blog_row.specs.declared.fault.RowFault.{RowFault}
 use Rattle.blog_row.specs.Column.{Layout, types_of, metadata_of}
-use Rattle.blog_row.specs.LayoutView.{layout_columns}
+use Rattle.blog_row.specs.code.LayoutView.{layout_columns}
 use Rattle.blog_row.specs.TableMap.{Names, names_of, layout_of, is_same_layout}
 use Rattle.blog_trans.specs.declared.table_name.TableName.{TableName}
 use Rattle.blog_trans.specs.Selection.{Selection, is_wanted}
 use Rattle.blog_trans.specs.Places.{is_map}
 use Rattle.blog_trans.specs.Acceptance.{is_selected, clashes_by_layout, is_same_table, have_same_layout, selected_map_checks}
-use Rattle.blog_trans.specs.TablesView.{table_named}
-use Rattle.blog_trans.specs.CheckerView.{LayoutsAgree, has_other_layout, is_same_name}
+use Rattle.blog_trans.specs.code.TablesView.{table_named}
+use Rattle.blog_trans.specs.code.CheckerView.{LayoutsAgree, has_other_layout, is_same_name}
 use Rattle.blog_trans.proofs.ProgressFirsts.{bytes-same}
 use Rattle.blog_trans.proofs.EntriesFound.{mapped}
 

@@ -18,7 +18,7 @@ use Rattle.std.proofs.lemmas.Slice.Eq.{bytes_eq-Decides}
 use Rattle.byteorder.specs.Endian.{little_number}
 use Rattle.blog_event.specs.File.{Placed, AreBytes}
 use Rattle.blog_event.proofs.Framing.{bytes-take, number-bytes}
-use Rattle.blog_row.specs.LayoutView.{layout_columns}
+use Rattle.blog_row.specs.code.LayoutView.{layout_columns}
 use Rattle.blog_row.specs.TableMap.{Names, HasNames, layout_of}
 use Rattle.blog_row.specs.Column.{Layout}
 use Rattle.blog_row.specs.declared.fault.RowFault.{RowFault}
@@ -29,8 +29,8 @@ use Rattle.blog_trans.specs.declared.checker.MapSeen.{MapSeen}
 use Rattle.blog_trans.specs.Selection.{Selection}
 use Rattle.blog_trans.specs.Places.{is_map, is_rows, is_map_of, map_in}
 use Rattle.blog_trans.specs.Acceptance.{is_selected, clashes_by_id}
-use Rattle.blog_trans.specs.StatementMaps.{MapFacts, first_of_ids, facts_of, facts_held}
-use Rattle.blog_trans.specs.CheckerView.{HasChecked, IsPassed, IsPassedStatement}
+use Rattle.blog_trans.specs.code.StatementMaps.{MapFacts, first_of_ids, facts_of, facts_held}
+use Rattle.blog_trans.specs.code.CheckerView.{HasChecked, IsPassed, IsPassedStatement}
 use Rattle.blog_trans.specs.declared.checker.Checker.{Checker}
 use Rattle.blog_trans.proofs.EntriesFound.{mapped}
 use Rattle.blog_trans.proofs.CheckingStatement.{map-first, map-there, or-none, facts-kept}

@@ -17,11 +17,11 @@ use Rattle.blog_row.specs.declared.kind.RowsVersion.{RowsVersion}
 use Rattle.blog_row.specs.declared.rows_event.RowsHead.{RowsHead}
 use Rattle.blog_row.specs.Column.{Layout}
 use Rattle.blog_row.specs.Image.{IsSomeImage}
-use Rattle.blog_row.specs.LayoutView.{layout_columns}
+use Rattle.blog_row.specs.code.LayoutView.{layout_columns}
 use Rattle.blog_row.specs.TableMap.{Table}
 use Rattle.blog_row.specs.RowsEvent.{RowsBody, IsRowsBody, rows_of, table_id, fixed_len}
 use Rattle.blog_row.specs.declared.rows_event.RowsEvent.{RowsEvent}
-use Rattle.blog_row.specs.RowsEventView.{counted_seen, head_of}
+use Rattle.blog_row.specs.code.RowsEventView.{counted_seen, head_of}
 use Rattle.blog_row.proofs.Images.{image_positive}
 use Rattle.blog_row.specs.declared.event_kinds.EventKind.TheVariants as kind
 use Rattle.blog_trans.specs.declared.checker.Checker.{Checker}
@@ -31,9 +31,9 @@ use Rattle.blog_trans.specs.Selection.{Selection}
 use Rattle.blog_trans.specs.Places.{kind_at, is_map, is_rows, is_map_of, map_in, is_inside, since}
 use Rattle.blog_trans.specs.Acceptance.{cause_of_row, rows_check, event_fault}
 use Rattle.blog_trans.specs.Groups.{kept_rows}
-use Rattle.blog_trans.specs.TablesView.{tables_known, IsNumbered}
-use Rattle.blog_trans.specs.StatementMaps.{MapFacts, first_of_ids}
-use Rattle.blog_trans.specs.CheckerView.{IsKept, HasChecked, IsMapHeld}
+use Rattle.blog_trans.specs.code.TablesView.{tables_known, IsNumbered}
+use Rattle.blog_trans.specs.code.StatementMaps.{MapFacts, first_of_ids}
+use Rattle.blog_trans.specs.code.CheckerView.{IsKept, HasChecked, IsMapHeld}
 use Rattle.blog_trans.proofs.PlacedParts.{all-found}
 use Rattle.blog_trans.proofs.CheckingStatement.{map-there, passed-rows}
 use Rattle.blog_trans.proofs.CheckingMaps.{IsId, body-id, held-map, IsPassedMap, first-passed, find-first, held-some, maps-marked}

@@ -13,8 +13,8 @@ use Rattle.blog_row.specs.RowsEvent.{table_id}
 use Rattle.blog_trans.specs.Selection.{Selection}
 use Rattle.blog_trans.specs.Places.{is_map, is_rows, is_map_of, map_in}
 use Rattle.blog_trans.specs.Acceptance.{clashes_by_id}
-use Rattle.blog_trans.specs.StatementMaps.{MapFacts, first_of_ids, facts_of}
-use Rattle.blog_trans.specs.CheckerView.{IsPassed, IsPassedStatement, is_rows_of, differs}
+use Rattle.blog_trans.specs.code.StatementMaps.{MapFacts, first_of_ids, facts_of}
+use Rattle.blog_trans.specs.code.CheckerView.{IsPassed, IsPassedStatement, is_rows_of, differs}
 
 -- ---- the first map of an id
 

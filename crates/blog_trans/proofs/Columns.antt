@@ -4,7 +4,7 @@ use Rattle.std.specs.List.{flat_map}
 use Rattle.std.proofs.lemmas.Grind.{flat_map-append}
 use Rattle.std.proofs.lemmas.List.{append-nil, length-map}
 use Rattle.blog_trans.specs.Groups.{PlacedStatement, PlacedTransaction}
-use Rattle.blog_trans.specs.Entries.{statement_entries, transaction_entries, entries_of, transaction_start, statement_start, transaction_starts, starts_in, statement_starts, statements_in}
+use Rattle.blog_trans.specs.code.Entries.{statement_entries, transaction_entries, entries_of, transaction_start, statement_start, transaction_starts, starts_in, statement_starts, statements_in}
 
 -- a list of lists joined, and one more of them
 pub flat_push : {X A : Type 0} (f : X → List A) (xs : List X) (x : X) → flat_map f (xs ++ x ∷ []) ≡ flat_map f xs ++ f x

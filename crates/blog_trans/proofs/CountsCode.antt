@@ -18,8 +18,8 @@ use Rattle.blog_trans.specs.declared.checker.MapSeen.{MapSeen}
 use Rattle.blog_trans.specs.Acceptance.{is_same_table}
 use Rattle.blog_trans.specs.Groups.{RowsEvent}
 use Rattle.blog_trans.specs.Changes.{Change, Inserted, Deleted, Updated, TableCount, count_of, is_insert_into, is_update_of, is_delete_from, updates, changes_by_action, changes_of_rows, table_of, row_by, first_tables}
-use Rattle.blog_trans.specs.CountsView.{with_images, AreCounts, counted, is_kept, told_of, facts_of}
-use Rattle.blog_trans.specs.StatementMaps.{used_maps}
+use Rattle.blog_trans.specs.code.CountsView.{with_images, AreCounts, counted, is_kept, told_of, facts_of}
+use Rattle.blog_trans.specs.code.StatementMaps.{used_maps}
 use Rattle.blog_trans.proofs.Tables.{same-table, own-table, table-laws, first_tables-more}
 use Rattle.blog_trans.proofs.PlacedParts.{all-at}
 use Rattle.blog_trans.proofs.EntriesFound.{mapped}

@@ -7,8 +7,8 @@ use Rattle.std.proofs.lemmas.Option.{option_and_then_some, none-some, same_Some,
 use Rattle.blog_event.specs.File.{Placed}
 use Rattle.blog_trans.specs.declared.lists.Entry.{Entry}
 use Rattle.blog_trans.specs.Groups.{PlacedRows, PlacedStatement, PlacedTransaction}
-use Rattle.blog_trans.specs.Entries.{event_entry, rows_entry, statement_entries, transaction_entries, entries_of, transaction_start, transaction_starts, statement_start, starts_in, statement_starts, statements_in, statements_at, transaction_place, statement_place}
-use Rattle.blog_trans.specs.IndexView.{statement_at, map_at, rows_at, maps_in, rows_place}
+use Rattle.blog_trans.specs.code.Entries.{event_entry, rows_entry, statement_entries, transaction_entries, entries_of, transaction_start, transaction_starts, statement_start, starts_in, statement_starts, statements_in, statements_at, transaction_place, statement_place}
+use Rattle.blog_trans.specs.code.IndexView.{statement_at, map_at, rows_at, maps_in, rows_place}
 use Rattle.blog_trans.proofs.Columns.{flat_push, entries_cons, statements_cons, statement_len, starts_len}
 
 -- ---- lists of what there may be

@@ -8,9 +8,9 @@ use Rattle.blog_trans.specs.declared.lists.Entry.{Entry}
 use Rattle.blog_trans.specs.declared.lists.IndexLists.{IndexLists}
 use Rattle.blog_trans.specs.declared.checker.MapSeen.{MapSeen}
 use Rattle.blog_trans.specs.Groups.{PlacedRows, PlacedStatement, PlacedTransaction}
-use Rattle.blog_trans.specs.Progress.{Open, ended}
-use Rattle.blog_trans.specs.Entries.{entry_at, event_entry, rows_entry, statement_entries, transaction_entries, entries_of, map_entries, transaction_start, statement_start, statement_starts, statements_in, Shows}
-use Rattle.blog_trans.specs.ListsView.{HasKept, all_ended, open_behind, between_statements, closed_by, statement_behind}
+use Rattle.blog_trans.specs.code.Progress.{Open, ended}
+use Rattle.blog_trans.specs.code.Entries.{entry_at, event_entry, rows_entry, statement_entries, transaction_entries, entries_of, map_entries, transaction_start, statement_start, statement_starts, statements_in, Shows}
+use Rattle.blog_trans.specs.code.ListsView.{HasKept, all_ended, open_behind, between_statements, closed_by, statement_behind}
 use Rattle.blog_trans.proofs.Columns.{flat_push, transaction_starts_push, statement_starts_push, starts_push, starts_len, statements_len}
 
 -- ---- lengths

@@ -6,8 +6,8 @@ use Rattle.blog_row.specs.TableMap.{Table}
 use Rattle.blog_trans.specs.declared.counts.Counts.{Counts}
 use Rattle.blog_trans.specs.Acceptance.{is_same_table}
 use Rattle.blog_trans.specs.Changes.{Change}
-use Rattle.blog_trans.specs.CountsView.{AreCounts}
-use Rattle.blog_trans.specs.TablesView.{HaveGrown}
+use Rattle.blog_trans.specs.code.CountsView.{AreCounts}
+use Rattle.blog_trans.specs.code.TablesView.{HaveGrown}
 use Rattle.blog_trans.proofs.Tables.{table-laws}
 use Rattle.blog_trans.proofs.EntriesFound.{get_front}
 

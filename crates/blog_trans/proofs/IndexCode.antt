@@ -10,12 +10,12 @@ use Rattle.blog_trans.specs.Places.{place, is_outside}
 use Rattle.blog_trans.specs.Acceptance.{range, first_read_fault, is_cut, lines, fault, IsAccepted, HavePassed, IsRefusal}
 use Rattle.blog_trans.specs.declared.place.Place.{Place}
 use Rattle.blog_trans.specs.Groups.{placed_groups}
-use Rattle.blog_trans.specs.Progress.{progress}
+use Rattle.blog_trans.specs.code.Progress.{progress}
 use Rattle.blog_trans.proofs.ProgressGroups.{none-open}
 use Rattle.blog_trans.proofs.Opening.{opening-lines}
 use Rattle.blog_trans.proofs.CheckingRows.{alone}
 use Rattle.blog_trans.proofs.ProgressAccepted.{accepted-groups, accepted-outside}
-use Rattle.blog_trans.specs.WalkView.{walk_fault, end_fault}
+use Rattle.blog_trans.specs.code.WalkView.{walk_fault, end_fault}
 
 -- checks that pass in front of others change nothing
 front-passes : (n : ℕ) (checks : List (Option Fault)) → first_failing (take n checks) ≡ None → first_failing checks ≡ first_failing (drop n checks)

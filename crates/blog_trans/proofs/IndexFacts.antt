@@ -5,15 +5,15 @@ use Rattle.std.proofs.lemmas.Option.{slice_get_within, option_and_then_some}
 use Rattle.blog_event.specs.declared.event.Event as told
 use Rattle.blog_event.specs.Event.{Event, event_at, event_of, event_size}
 use Rattle.blog_event.specs.File.{Placed, placed_from, read}
-use Rattle.blog_event.specs.Going.{AreRead}
+use Rattle.blog_event.specs.code.Going.{AreRead}
 use Rattle.blog_event.proofs.Going.{opened-reads-on}
 use Rattle.blog_trans.specs.declared.groups.Index.{Index}
 use Rattle.blog_trans.specs.Selection.{Selection}
 use Rattle.blog_trans.specs.Acceptance.{IsAccepted}
 use Rattle.blog_trans.specs.Groups.{PlacedRows, PlacedStatement, PlacedTransaction, placed_groups}
 use Rattle.blog_trans.specs.PlacedFacts.{IsPlacedMap, IsPlacedStatement, IsPlacedTransaction}
-use Rattle.blog_trans.specs.IndexView.{Stands, IsOfEntry, IsRowsOfEntry, index_bytes, index_groups, index_selection, placed, statement_at, map_at, rows_at, maps_in, rows_in, rows_place}
-use Rattle.blog_trans.specs.Entries.{event_entry, transaction_start, statement_start, statements_in, transaction_place, statement_place}
+use Rattle.blog_trans.specs.code.IndexView.{Stands, IsOfEntry, IsRowsOfEntry, index_bytes, index_groups, index_selection, placed, statement_at, map_at, rows_at, maps_in, rows_in, rows_place}
+use Rattle.blog_trans.specs.code.Entries.{event_entry, transaction_start, statement_start, statements_in, transaction_place, statement_place}
 use Rattle.blog_trans.proofs.PlacedParts.{all-at, all-by, all-filter}
 use Rattle.blog_trans.proofs.PlacedFacts.{groups-placed}
 use Rattle.blog_trans.proofs.Shown.{accepted-opens}

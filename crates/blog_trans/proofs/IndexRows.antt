@@ -20,8 +20,8 @@ use Rattle.blog_trans.specs.declared.groups.Index.{Index}
 use Rattle.blog_trans.specs.Places.{kind_at}
 use Rattle.blog_trans.specs.Acceptance.{rows_by_map}
 use Rattle.blog_trans.specs.Groups.{PlacedRows}
-use Rattle.blog_trans.specs.Entries.{rows_entry}
-use Rattle.blog_trans.specs.IndexView.{IsRowsOfEntry, index_bytes, placed}
+use Rattle.blog_trans.specs.code.Entries.{rows_entry}
+use Rattle.blog_trans.specs.code.IndexView.{IsRowsOfEntry, index_bytes, placed}
 use Rattle.blog_trans.proofs.EntriesFound.{own_item}
 use Rattle.blog_trans.proofs.IndexFacts.{placed_is}
 

@@ -9,7 +9,7 @@ use Rattle.blog_row.specs.TableMap.{Table}
 use Rattle.blog_trans.specs.Selection.{Selection}
 use Rattle.blog_trans.specs.Groups.{PlacedTransaction, Transaction, placed_groups, groups, transaction_value}
 use Rattle.blog_trans.specs.Changes.{TableCount, table_of, changes_of, count_of, first_tables, tables_of, counts_of}
-use Rattle.blog_trans.specs.BuilderView.{statements_changes, statements_tables, placed_changes, placed_tables}
+use Rattle.blog_trans.specs.code.BuilderView.{statements_changes, statements_tables, placed_changes, placed_tables}
 
 -- ---- the changes and the tables of values
 

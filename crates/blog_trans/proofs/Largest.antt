@@ -10,7 +10,7 @@ use Rattle.blog_trans.specs.Selection.{Selection}
 use Rattle.blog_trans.specs.Acceptance.{IsAccepted}
 use Rattle.blog_trans.specs.Groups.{placed_groups}
 use Rattle.blog_trans.specs.PlacedFacts.{IsPlacedTransaction}
-use Rattle.blog_trans.specs.IndexView.{Stands, IsOfEntry, index_bytes, index_selection}
+use Rattle.blog_trans.specs.code.IndexView.{Stands, IsOfEntry, index_bytes, index_selection}
 use Rattle.blog_trans.specs.Shown.{shown, transaction_shown}
 use Rattle.blog_trans.proofs.EntriesFound.{mapped}
 use Rattle.blog_trans.proofs.IndexFacts.{found, groups_known}

@@ -8,7 +8,7 @@ use Rattle.blog_trans.specs.Selection.{Selection}
 use Rattle.blog_trans.specs.Places.{place, is_inside}
 use Rattle.blog_trans.specs.Acceptance.{event_fault, range, is_in_range, first_read_fault, lines, fault, IsAccepted, Passes}
 use Rattle.blog_trans.specs.Groups.{placed_groups}
-use Rattle.blog_trans.specs.Progress.{progress}
+use Rattle.blog_trans.specs.code.Progress.{progress}
 use Rattle.blog_trans.proofs.ProgressGroups.{progress-is-groups}
 
 -- where no check fails, each passes

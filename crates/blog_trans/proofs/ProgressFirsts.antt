@@ -12,7 +12,7 @@ use Rattle.blog_row.specs.RowsEvent.{table_id}
 use Rattle.blog_row.proofs.ReversedRows.{all-append}
 use Rattle.blog_trans.specs.Places.{is_map, is_map_of, map_in}
 use Rattle.blog_trans.specs.Groups.{PlacedRows, first_maps}
-use Rattle.blog_trans.specs.StatementMaps.{first_of_ids}
+use Rattle.blog_trans.specs.code.StatementMaps.{first_of_ids}
 use Rattle.blog_trans.proofs.PlacedParts.{all-by}
 use Rattle.blog_trans.proofs.ProgressSteps.{reverse-latest}
 use Rattle.blog_trans.proofs.ProgressRows.{found-stays}

@@ -5,7 +5,7 @@ use Rattle.blog_event.specs.File.{Placed}
 use Rattle.blog_trans.specs.Selection.{Selection}
 use Rattle.blog_trans.specs.Places.{place, is_inside}
 use Rattle.blog_trans.specs.Groups.{placed_groups_in}
-use Rattle.blog_trans.specs.Progress.{progress}
+use Rattle.blog_trans.specs.code.Progress.{progress}
 use Rattle.blog_trans.specs.Acceptance.{HavePassed, Passes}
 use Rattle.blog_trans.proofs.ProgressSteps.{reverse-behind}
 use Rattle.blog_trans.proofs.ProgressState.{groups-follow, open-inside}

@@ -8,8 +8,8 @@ use Rattle.blog_trans.specs.Selection.{Selection}
 use Rattle.blog_trans.specs.Places.{is_rows, since, map_in}
 use Rattle.blog_trans.specs.Acceptance.{is_selected, HavePassed}
 use Rattle.blog_trans.specs.Groups.{PlacedRows, PlacedStatement, kept_rows, first_maps, statement_if}
-use Rattle.blog_trans.specs.Progress.{Open, appended_if, with_rows, closed, progress}
-use Rattle.blog_trans.specs.StatementMaps.{first_of_ids, is_used}
+use Rattle.blog_trans.specs.code.Progress.{Open, appended_if, with_rows, closed, progress}
+use Rattle.blog_trans.specs.code.StatementMaps.{first_of_ids, is_used}
 use Rattle.blog_trans.proofs.ProgressSteps.{reverse-behind, IsChecked}
 use Rattle.blog_trans.proofs.ProgressRows.{AreChecked, kept_so_far, with-checked, found-stays}
 use Rattle.blog_trans.proofs.ProgressState.{open-kept}

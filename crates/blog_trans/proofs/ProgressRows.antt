@@ -10,7 +10,7 @@ use Rattle.blog_trans.specs.Selection.{Selection}
 use Rattle.blog_trans.specs.Places.{is_rows, since, is_map_of, map_in}
 use Rattle.blog_trans.specs.Acceptance.{HavePassed}
 use Rattle.blog_trans.specs.Groups.{PlacedRows, kept_rows}
-use Rattle.blog_trans.specs.Progress.{appended_if}
+use Rattle.blog_trans.specs.code.Progress.{appended_if}
 use Rattle.blog_trans.proofs.KeptRows.{kept-facts}
 use Rattle.blog_trans.proofs.ProgressSteps.{reverse-latest, reverse-behind, IsChecked, rows-checked}
 

@@ -7,7 +7,7 @@ use Rattle.blog_row.specs.RowsEvent.{has_end_flag}
 use Rattle.blog_trans.specs.Selection.{Selection}
 use Rattle.blog_trans.specs.Places.{is_begin, is_end, is_rows, is_last_rows, place, is_inside, since}
 use Rattle.blog_trans.specs.Groups.{PlacedRows, PlacedStatement, PlacedTransaction, cons_if, statements_of, kept_rows, statement_if, kept_statement, transaction_if, placed_groups_in}
-use Rattle.blog_trans.specs.Progress.{Open, Progress, appended_if, with_rows, advance, progress}
+use Rattle.blog_trans.specs.code.Progress.{Open, Progress, appended_if, with_rows, advance, progress}
 use Rattle.blog_trans.specs.Acceptance.{HavePassed, event_fault}
 use Rattle.blog_trans.proofs.ProgressSteps.{reverse-behind}
 use Rattle.blog_trans.proofs.ProgressRows.{AreChecked, kept_so_far, kept-before, no-rows-kept, none-kept, statement-keeps, with-checked}

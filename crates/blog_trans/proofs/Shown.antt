@@ -8,7 +8,7 @@ use Rattle.std.proofs.lemmas.Simd.{map-map}
 use Rattle.std.proofs.lemmas.List.Recursion.{is_sum_by}
 use Rattle.blog_event.specs.Event.{Event, event_size}
 use Rattle.blog_event.specs.File.{Placed, placed_from, end_of, read}
-use Rattle.blog_event.specs.Going.{ReadsOn}
+use Rattle.blog_event.specs.code.Going.{ReadsOn}
 use Rattle.blog_event.specs.Opening.{opening_fault}
 use Rattle.blog_event.proofs.Going.{opened-reads-on}
 use Rattle.blog_row.proofs.ReversedRows.{all-append}
@@ -17,7 +17,7 @@ use Rattle.blog_trans.specs.Acceptance.{is_in_range, IsAccepted}
 use Rattle.blog_trans.specs.Groups.{PlacedRows, PlacedStatement, PlacedTransaction, placed_groups_in, placed_groups}
 use Rattle.blog_trans.specs.PlacedFacts.{IsPlacedMap, IsPlacedRows, IsPlacedStatement, IsPlacedTransaction}
 use Rattle.blog_trans.specs.declared.lists.Entry.{Entry}
-use Rattle.blog_trans.specs.Entries.{entries_of}
+use Rattle.blog_trans.specs.code.Entries.{entries_of}
 use Rattle.blog_trans.specs.Shown.{statement_shown, transaction_shown, shown, shown_positions, events_in_range, ShowsEachOnce}
 use Rattle.blog_trans.proofs.Sums.{sum_of, sum-joined, sum-filter, sum-reverse, sum-ones}
 use Rattle.blog_trans.proofs.Apart.{transaction_sum}

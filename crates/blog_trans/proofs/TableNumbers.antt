@@ -13,8 +13,8 @@ use Rattle.blog_row.specs.TableMap.{Table, Names, names_of}
 use Rattle.blog_trans.specs.declared.checker.MapSeen.{MapSeen}
 use Rattle.blog_trans.specs.declared.table_name.TableName.{TableName}
 use Rattle.blog_trans.specs.Acceptance.{is_same_table}
-use Rattle.blog_trans.specs.CheckerView.{is_same_name}
-use Rattle.blog_trans.specs.TablesView.{table_named, tables_known, HaveGrown, IsNumbered}
+use Rattle.blog_trans.specs.code.CheckerView.{is_same_name}
+use Rattle.blog_trans.specs.code.TablesView.{table_named, tables_known, HaveGrown, IsNumbered}
 use Rattle.blog_trans.proofs.Growing.{get-behind}
 use Rattle.blog_trans.proofs.PlacedParts.{any-map}
 use Rattle.blog_trans.proofs.EntriesFound.{get_front}

@@ -9,8 +9,8 @@ use Rattle.blog_row.specs.declared.order.Order.{Order}
 use Rattle.blog_row.specs.declared.order.Order.TheVariants.{Forward, Backward}
 use Rattle.std.specs.declared.ops.Range.{Range}
 use Rattle.blog_trans.specs.Groups.{PlacedRows}
-use Rattle.blog_trans.specs.InTurn.{Changes, TakesNumber, in_order, rows_in_turn}
-use Rattle.blog_trans.specs.GroupEventsView.{among}
+use Rattle.blog_trans.specs.code.InTurn.{Changes, TakesNumber, in_order, rows_in_turn}
+use Rattle.blog_trans.specs.code.GroupEventsView.{among}
 use Rattle.std.specs.Option.{option_map_or}
 use Rattle.blog_trans.proofs.EntriesFound.{take_next, inner, counted}
 use Rattle.blog_trans.proofs.IndexFacts.{found, some_found}

@@ -9,7 +9,7 @@ use Rattle.blog_event.specs.declared.fault.Fault.TheVariants.{CutEvent, NoEventA
 use Rattle.blog_event.specs.Fault.{needs, first_failing, fault_at}
 use Rattle.blog_event.specs.Event.{Event, event_at, event_size}
 use Rattle.blog_event.specs.File.{Placed, placed_from, end_of, is_below, read}
-use Rattle.blog_event.specs.Going.{EndsAt, AreRead}
+use Rattle.blog_event.specs.code.Going.{EndsAt, AreRead}
 use Rattle.blog_event.specs.Opening.{opening_fault}
 use Rattle.blog_event.proofs.Headers.{event-at-short}
 use Rattle.blog_event.proofs.Going.{event-within, left-more, left-none}
@@ -18,9 +18,9 @@ use Rattle.blog_trans.specs.declared.builder.IndexBuilder.{IndexBuilder}
 use Rattle.blog_trans.specs.Selection.{Selection}
 use Rattle.blog_trans.specs.Acceptance.{event_fault, is_in_range, range, is_start_inside, read_fault, first_read_fault, fault, IsAccepted, IsRefusal}
 use Rattle.blog_trans.specs.Groups.{placed_groups}
-use Rattle.blog_trans.specs.ListsView.{all_ended}
-use Rattle.blog_trans.specs.BuilderView.{HasTaken, IsWithin, Keeps}
-use Rattle.blog_trans.specs.WalkView.{walk_fault, IsPassedBy, Lead, IsReached, IsThrough, end_fault}
+use Rattle.blog_trans.specs.code.ListsView.{all_ended}
+use Rattle.blog_trans.specs.code.BuilderView.{HasTaken, IsWithin, Keeps}
+use Rattle.blog_trans.specs.code.WalkView.{walk_fault, IsPassedBy, Lead, IsReached, IsThrough, end_fault}
 use Rattle.blog_trans.proofs.IndexCode.{end-refused, last-is, progress-is}
 use Rattle.blog_trans.proofs.CheckingRows.{alone}
 use Rattle.blog_trans.proofs.ProgressSteps.{reverse-latest, reverse-behind}

@@ -11,9 +11,9 @@ ghost use Rattle.blog_row.specs.TableMap.{HasNames, map_names};
 ghost use Rattle.blog_row.specs.declared.event_kinds.EventKind.TheVariants as told;
 ghost use Rattle.blog_row.specs.Kinds.{kind_of, is_end_kind};
 ghost use Rattle.blog_trans.specs.Acceptance.{end_checks};
-ghost use Rattle.blog_trans.specs.CheckerView.{HasChecked, IsChecked, IsCheckedBy, AreChecked, IsReadBy, IsMapCompared, images_of};
+ghost use Rattle.blog_trans.specs.code.CheckerView.{HasChecked, IsChecked, IsCheckedBy, AreChecked, IsReadBy, IsMapCompared, images_of};
 ghost use Rattle.blog_trans.specs.Places.{since};
-ghost use Rattle.blog_trans.specs.TablesView.{tables_known, HaveGrown};
+ghost use Rattle.blog_trans.specs.code.TablesView.{tables_known, HaveGrown};
 ghost use Rattle.blog_trans.specs.Selection.{Selection as Sel, selection_of};
 
 use crate::layouts::{Layouts, SelectedTable, in_body, take_table};

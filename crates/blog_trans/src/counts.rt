@@ -1,7 +1,7 @@
 //! Counting the rows of the groups by table.
 
 ghost use Rattle.std.proofs.Props.{props};
-ghost use Rattle.blog_trans.specs.Few.{AreFew};
+ghost use Rattle.blog_trans.specs.code.Few.{AreFew};
 
 use crate::checker::{KeptRows, Maps};
 use blog_event::Fault;
@@ -32,7 +32,7 @@ pub(crate) struct Counts<A: Allocator> {
 
 impl Count {
     ghost use Rattle.std.specs.Prelude.{◌≡◌, ◌+◌, ◌<◌, ◌^◌, ◌/◌};
-    ghost use Rattle.blog_trans.specs.CountsView.{with_images};
+    ghost use Rattle.blog_trans.specs.code.CountsView.{with_images};
 
     /// Adds the rows of one more rows event, which has so many images.
     fn add(&mut self, action: RowsAction, images: u64)
@@ -57,9 +57,9 @@ impl<A: Allocator + Copy> Counts<A> {
     ghost use Rattle.blog_row.specs.TableMap.{Table};
     ghost use Rattle.blog_trans.specs.Groups.{RowsEvent};
     ghost use Rattle.blog_trans.specs.Changes.{Change, table_of, changes_of_rows};
-    ghost use Rattle.blog_trans.specs.TablesView.{IsNumbered};
-    ghost use Rattle.blog_trans.specs.StatementMaps.{used_maps};
-    ghost use Rattle.blog_trans.specs.CountsView.{AreCounts};
+    ghost use Rattle.blog_trans.specs.code.TablesView.{IsNumbered};
+    ghost use Rattle.blog_trans.specs.code.StatementMaps.{used_maps};
+    ghost use Rattle.blog_trans.specs.code.CountsView.{AreCounts};
 
     /// Nothing is kept yet.
     pub(crate) fn new(alloc: A) -> Self
@@ -140,7 +140,7 @@ impl<A: Allocator> Counts<A> {
     ghost use Rattle.std.specs.Prelude.{◌≡◌, ◌<◌, ◌≤◌, ℕ, List, [], Some, length, slice_get, option_map, vec_len};
     ghost use Rattle.blog_row.specs.TableMap.{Table};
     ghost use Rattle.blog_trans.specs.Changes.{Change, count_of, first_tables};
-    ghost use Rattle.blog_trans.specs.CountsView.{AreCounts, counted};
+    ghost use Rattle.blog_trans.specs.code.CountsView.{AreCounts, counted};
 
     /// How many tables there are.
     pub(crate) fn len(&self) -> usize

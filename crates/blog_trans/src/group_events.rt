@@ -3,8 +3,8 @@
 ghost use Rattle.std.specs.Prelude.{◌≡◌, ◌<◌, ◌≤◌, ℕ, true, false, drop, length, Some, IsSome, MatchOption};
 ghost use Rattle.std.specs.Option.{ForSome};
 ghost use Rattle.blog_event.specs.Event.{event_at, event_of};
-ghost use Rattle.blog_trans.specs.InTurn.{TakesNumber};
-ghost use Rattle.blog_trans.specs.IndexView.{index_bytes, index_groups, map_at, rows_at, rows_place, statement_at};
+ghost use Rattle.blog_trans.specs.code.InTurn.{TakesNumber};
+ghost use Rattle.blog_trans.specs.code.IndexView.{index_bytes, index_groups, map_at, rows_at, rows_place, statement_at};
 
 use crate::groups::{Index, MapRead};
 use blog_event::Event;
@@ -80,8 +80,8 @@ fn take(numbers: &mut Range<usize>, order: Order) -> Option<usize>
 }
 
 impl<'a, 's, A: Allocator> Index<'a, 's, A> {
-    ghost use Rattle.blog_trans.specs.InTurn.{in_turn};
-    ghost use Rattle.blog_trans.specs.GroupEventsView.{events_left};
+    ghost use Rattle.blog_trans.specs.code.InTurn.{in_turn};
+    ghost use Rattle.blog_trans.specs.code.GroupEventsView.{events_left};
 
     /// The events of the groups one after the other, in the order in which they are written: forward that of the log;
     /// backward transactions, statements and rows events go from the last to the first, and the maps of a statement stand
@@ -106,7 +106,7 @@ impl<'a, 's, A: Allocator> Index<'a, 's, A> {
 }
 
 impl<'i, 'a, 's, A: Allocator> GroupEvents<'i, 'a, 's, A> {
-    ghost use Rattle.blog_trans.specs.GroupEventsView.{GivesEvent};
+    ghost use Rattle.blog_trans.specs.code.GroupEventsView.{GivesEvent};
 
     /// Begins the next transaction, if any is left.
     #[inline(always)]
@@ -148,7 +148,7 @@ impl<'i, 'a, 's, A: Allocator> Iterator for GroupEvents<'i, 'a, 's, A> {
     type Item = GroupEvent<'a>;
 
     ghost use Rattle.std.specs.Iterator.{at_most};
-    ghost use Rattle.blog_trans.specs.GroupEventsView.{GivesEvent, events_left};
+    ghost use Rattle.blog_trans.specs.code.GroupEventsView.{GivesEvent, events_left};
 
     ghost next_gives = { GivesEvent };
 

@@ -3,16 +3,16 @@
 ghost use Rattle.std.specs.Prelude.{◌≡◌, ◌+◌, Ok, Some, length, map, take, None};
 ghost use Rattle.std.proofs.Props.{props};
 ghost use Rattle.blog_event.specs.Event.{event_size};
-ghost use Rattle.blog_event.specs.LogView.{log_bytes};
-ghost use Rattle.blog_row.specs.LayoutView.{layout_columns};
+ghost use Rattle.blog_event.specs.code.LogView.{log_bytes};
+ghost use Rattle.blog_row.specs.code.LayoutView.{layout_columns};
 ghost use Rattle.blog_row.specs.TableMap.{names_of, layout_of, map_names};
 ghost use Rattle.blog_trans.specs.Selection.{selection_of};
 ghost use Rattle.blog_trans.specs.Acceptance.{fault};
 ghost use Rattle.blog_trans.specs.Groups.{placed_groups};
-ghost use Rattle.blog_trans.specs.BuilderView.{placed_changes, placed_tables};
-ghost use Rattle.blog_trans.specs.CountsView.{AreCounts};
-ghost use Rattle.blog_trans.specs.TablesView.{tables_known};
-ghost use Rattle.blog_trans.specs.Entries.{entries_of, statement_starts, statements_in, transaction_starts};
+ghost use Rattle.blog_trans.specs.code.BuilderView.{placed_changes, placed_tables};
+ghost use Rattle.blog_trans.specs.code.CountsView.{AreCounts};
+ghost use Rattle.blog_trans.specs.code.TablesView.{tables_known};
+ghost use Rattle.blog_trans.specs.code.Entries.{entries_of, statement_starts, statements_in, transaction_starts};
 
 use crate::counts::Counts;
 use crate::layouts::Layouts;
@@ -77,12 +77,12 @@ impl<'a, 's, A: Allocator> Index<'a, 's, A> {
     ghost use Rattle.std.specs.List.{IsDistinct};
     ghost use Rattle.blog_event.specs.Event.{event_at, event_of};
     ghost use Rattle.blog_event.specs.File.{Placed};
-    ghost use Rattle.blog_row.specs.RowsEventView.{rows_kind, rows_layout, rows_body};
+    ghost use Rattle.blog_row.specs.code.RowsEventView.{rows_kind, rows_layout, rows_body};
     ghost use Rattle.blog_row.specs.RowsWriting.{content_of, written_body};
     ghost use Rattle.blog_trans.specs.Groups.{PlacedRows, groups};
     ghost use Rattle.blog_trans.specs.Changes.{counts_of};
-    ghost use Rattle.blog_trans.specs.IndexView.{IsOfEntry, IsRowsOfEntry, Stands, table_counted, index_bytes, index_groups, index_selection, placed, map_at, maps_in, rows_at, rows_place, statement_at};
-    ghost use Rattle.blog_trans.specs.Entries.{ShowsGroups, statement_place, transaction_place};
+    ghost use Rattle.blog_trans.specs.code.IndexView.{IsOfEntry, IsRowsOfEntry, Stands, table_counted, index_bytes, index_groups, index_selection, placed, map_at, maps_in, rows_at, rows_place, statement_at};
+    ghost use Rattle.blog_trans.specs.code.Entries.{ShowsGroups, statement_place, transaction_place};
     ghost use Rattle.blog_trans.specs.Shown.{events_in_range, largest, shown, shown_positions};
 
     /// The log.

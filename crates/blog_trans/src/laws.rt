@@ -11,8 +11,8 @@ ghost use Rattle.blog_trans.specs.Selection.{Selection};
 ghost use Rattle.blog_trans.specs.Places.{place, is_inside, is_begin, is_last_rows, since};
 ghost use Rattle.blog_trans.specs.Acceptance.{range, lines, fault, IsAccepted, HavePassed, Passes};
 ghost use Rattle.blog_trans.specs.Groups.{statements_of, kept_rows, first_maps, placed_groups_in, placed_groups};
-ghost use Rattle.blog_trans.specs.Progress.{Open, with_rows, progress};
-ghost use Rattle.blog_trans.specs.StatementMaps.{first_of_ids, is_used};
+ghost use Rattle.blog_trans.specs.code.Progress.{Open, with_rows, progress};
+ghost use Rattle.blog_trans.specs.code.StatementMaps.{first_of_ids, is_used};
 ghost use Rattle.blog_trans.specs.PlacedFacts.{IsPlacedTransaction};
 
 /// Under every selection, what opening a log refuses is what the first four lines of the log's fault refuse, and so it is

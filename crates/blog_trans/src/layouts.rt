@@ -8,9 +8,9 @@ ghost use Rattle.blog_row.specs.TableMap.{names_of, map_names};
 ghost use Rattle.blog_row.specs.declared.event_kinds.EventKind.TheVariants as kind;
 ghost use Rattle.blog_row.specs.Kinds.{kind_of};
 ghost use Rattle.blog_trans.specs.Acceptance.{cause_of_row};
-ghost use Rattle.blog_trans.specs.CheckerView.{LayoutsAgree, AreColumns};
+ghost use Rattle.blog_trans.specs.code.CheckerView.{LayoutsAgree, AreColumns};
 ghost use Rattle.blog_trans.specs.Selection.{selection_of, is_wanted};
-ghost use Rattle.blog_trans.specs.TablesView.{table_named, tables_known, HaveGrown};
+ghost use Rattle.blog_trans.specs.code.TablesView.{table_named, tables_known, HaveGrown};
 
 use crate::selection::Selection;
 use crate::table_name::{TableName, TableNameHasher};

@@ -6,9 +6,9 @@ ghost use Rattle.indexmap.specs.IndexMap.{index_map_len, values};
 ghost use Rattle.blog_event.specs.declared.fault.Fault.TheVariants.{OutOfMemory};
 ghost use Rattle.blog_event.specs.File.{Placed};
 ghost use Rattle.blog_trans.specs.Groups.{PlacedRows, PlacedStatement, PlacedTransaction};
-ghost use Rattle.blog_trans.specs.Progress.{Open, ended, with_rows};
-ghost use Rattle.blog_trans.specs.StatementMaps.{used_maps};
-ghost use Rattle.blog_trans.specs.Entries.{map_entries};
+ghost use Rattle.blog_trans.specs.code.Progress.{Open, ended, with_rows};
+ghost use Rattle.blog_trans.specs.code.StatementMaps.{used_maps};
+ghost use Rattle.blog_trans.specs.code.Entries.{map_entries};
 
 use crate::checker::Maps;
 use blog_event::Fault;
@@ -67,7 +67,7 @@ impl Entry {
 }
 
 impl<A: Allocator + Copy> IndexLists<A> {
-    ghost use Rattle.blog_trans.specs.ListsView.{HasKept, all_ended, between_statements, closed_by, open_behind};
+    ghost use Rattle.blog_trans.specs.code.ListsView.{HasKept, all_ended, between_statements, closed_by, open_behind};
 
     /// Nothing is kept yet.
     pub(crate) fn new(alloc: A) -> Self

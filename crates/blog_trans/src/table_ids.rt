@@ -16,7 +16,7 @@ pub(crate) struct TableIdHasher {
 }
 
 impl Hasher for TableIdHasher {
-    ghost use Rattle.blog_trans.specs.TableIdHash.{written, hash_of};
+    ghost use Rattle.blog_trans.specs.code.TableIdHash.{written, hash_of};
 
     ghost write = { written };
 

@@ -12,7 +12,7 @@ pub(crate) struct TableName<'a> {
 impl Hash for TableName<'_> {
     ghost use Rattle.std.specs.Cmp.Rules.{hashing};
     ghost use Rattle.std.proofs.Common.{rules};
-    ghost use Rattle.blog_trans.specs.TableNameHash.{parts};
+    ghost use Rattle.blog_trans.specs.code.TableNameHash.{parts};
 
     ghost hash_input = { parts };
 
@@ -43,7 +43,7 @@ pub(crate) struct TableNameHasher {
 }
 
 impl Hasher for TableNameHasher {
-    ghost use Rattle.blog_trans.specs.TableNameHash.{written, hash_of};
+    ghost use Rattle.blog_trans.specs.code.TableNameHash.{written, hash_of};
 
     ghost write = { written };
 

@@ -6,14 +6,14 @@ use Rattle.std.proofs.lemmas.Option.{same_Some}
 use Rattle.blog_event.specs.declared.event.Event as told
 use Rattle.blog_event.specs.Event.{Event, event_at, event_of, event_size}
 use Rattle.blog_event.specs.File.{Placed, placed_from, end_of, events_from, read}
-use Rattle.blog_event.specs.Going.{AreRead}
+use Rattle.blog_event.specs.code.Going.{AreRead}
 use Rattle.blog_event.specs.Opening.{opening_fault}
 use Rattle.blog_event.proofs.Going.{are-read, are-read-only, event-within, left-more, left-none, opened-reads-on}
 use Rattle.blog_event.proofs.Opened.{LogReads}
 use Rattle.blog_trans.specs.Places.{placed}
-use Rattle.blog_trans.specs.WalkView.{Lead, IsReached, IsPassedBy}
+use Rattle.blog_trans.specs.code.WalkView.{Lead, IsReached, IsPassedBy}
 use Rattle.blog_units.specs.Units.{between, units, units_in}
-use Rattle.blog_units.specs.Boundaries.{IsBoundary, events_behind}
+use Rattle.blog_units.specs.code.Boundaries.{IsBoundary, events_behind}
 
 -- ---- the events behind a position
 

@@ -7,7 +7,7 @@ use Rattle.blog_trans.specs.Groups.{cons_if}
 use Rattle.blog_trans.specs.Places.{kind_at}
 use Rattle.blog_units.specs.declared.part.Part.{Part}
 use Rattle.blog_units.specs.Units.{begun, continued, end_behind, goes_on, is_query_or_rows, opened_by, part_behind, rest_of, units_in}
-use Rattle.blog_units.specs.UnitsView.{HasStopped, time_of, time_with}
+use Rattle.blog_units.specs.code.UnitsView.{HasStopped, time_of, time_with}
 
 -- what is left of a unit of this part, whose events begin at a position, in front of others: where it stops, the time, and
 -- the units behind it

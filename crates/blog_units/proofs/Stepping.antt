@@ -7,9 +7,9 @@ use Rattle.blog_event.specs.Event.{event_of, event_size}
 use Rattle.blog_event.specs.File.{Placed}
 use Rattle.blog_trans.specs.Places.{placed}
 use Rattle.blog_units.specs.declared.part.Part.{Part}
-use Rattle.blog_units.specs.Boundaries.{events_behind}
+use Rattle.blog_units.specs.code.Boundaries.{events_behind}
 use Rattle.blog_units.specs.Units.{Id, Unit, end_behind, facts_of, id_of, is_query_or_rows, is_whole, part_behind, rest_of, units_in}
-use Rattle.blog_units.specs.UnitsView.{HasStopped, IsFirst, time_of, time_with}
+use Rattle.blog_units.specs.code.UnitsView.{HasStopped, IsFirst, time_of, time_with}
 use Rattle.blog_units.proofs.Going.{time-with-more}
 
 unwrapped : {A : Type 0} (f : A → ℕ) (o : Option A) (n : ℕ) → unwrap_or (option_map f o) n ≡ option_map_or f o n

@@ -2,10 +2,10 @@
 
 ghost use Rattle.std.specs.Prelude.{◌≡◌, ◌≤◌, [], None, Some, IfSome, option_map};
 ghost use Rattle.blog_event.specs.Event.{event_of};
-ghost use Rattle.blog_event.specs.LogView.{log_bytes};
-ghost use Rattle.blog_units.specs.Boundaries.{IsBoundary, events_behind};
+ghost use Rattle.blog_event.specs.code.LogView.{log_bytes};
+ghost use Rattle.blog_units.specs.code.Boundaries.{IsBoundary, events_behind};
 ghost use Rattle.blog_units.specs.Units.{id_of, is_whole, units_in};
-ghost use Rattle.blog_units.specs.UnitsView.{AreGroups, HasStopped, IsFirst, id_told, time_with};
+ghost use Rattle.blog_units.specs.code.UnitsView.{AreGroups, HasStopped, IsFirst, id_told, time_with};
 ghost use Rattle.blog_trans.specs.Places.{placed};
 
 use crate::part::{Part, is_query_or_rows, opened_by};

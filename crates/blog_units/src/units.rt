@@ -1,8 +1,8 @@
 //! The units of a log, one after the other.
 
 ghost use Rattle.std.specs.Prelude.{◌≡◌, length, map};
-ghost use Rattle.blog_event.specs.LogView.{log_bytes};
-ghost use Rattle.blog_units.specs.Boundaries.{IsBoundary};
+ghost use Rattle.blog_event.specs.code.LogView.{log_bytes};
+ghost use Rattle.blog_units.specs.code.Boundaries.{IsBoundary};
 
 use crate::unit::{Unit, global_id, go_through, groups_between, is_whole, next_first, time_with};
 use blog_event::Log;
@@ -20,7 +20,7 @@ pub struct Units<'a, A: Allocator = Global> {
 
 impl<'a, A: Allocator> Units<'a, A> {
     ghost use Rattle.blog_units.specs.Units.{facts_of, units};
-    ghost use Rattle.blog_units.specs.UnitsView.{units_left};
+    ghost use Rattle.blog_units.specs.code.UnitsView.{units_left};
 
     /// The units of a log, in its order. Memory for the groups of each is taken from `alloc`.
     pub fn new(alloc: A, log: &Log<'a>) -> Self
@@ -38,7 +38,7 @@ impl<'a, A: Allocator + Copy> Iterator for Units<'a, A> {
     type Item = Unit<'a, A>;
 
     ghost use Rattle.std.specs.Iterator.{at_most};
-    ghost use Rattle.blog_units.specs.UnitsView.{GivesUnit, units_left};
+    ghost use Rattle.blog_units.specs.code.UnitsView.{GivesUnit, units_left};
 
     ghost next_gives = { GivesUnit };
 

@@ -1,7 +1,7 @@
 //! What the index of a log shows, in one list.
 
 ghost use Rattle.std.specs.Prelude.{IsSome};
-ghost use Rattle.blog_trans.specs.IndexView.{index_groups, statement_at};
+ghost use Rattle.blog_trans.specs.code.IndexView.{index_groups, statement_at};
 
 use blog_event::{Fault, Log};
 use blog_row::RowsAction;

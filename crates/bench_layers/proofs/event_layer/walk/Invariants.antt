@@ -1,6 +1,6 @@
 use Rattle.std.proofs.Common.{◌≡◌, ◌+◌, ◌-◌, ◌≤◌, length}
 use Rattle.std.specs.Prelude.{◌/◌}
-use Rattle.blog_event.specs.LogView.{items_left, most_left, log_bytes}
+use Rattle.blog_event.specs.code.LogView.{items_left, most_left, log_bytes}
 use Rattle.blog_event.specs.Items.{items_from}
 use Rattle.bench_layers.proofs.event_layer.walk.Given as goal
 

@@ -1,7 +1,7 @@
 use Rattle.std.proofs.Common.{length, sym, ap, ◌∙◌, arith}
 use Rattle.blog_trans.specs.Groups.{groups}
-use Rattle.blog_trans.specs.IndexView.{index_groups}
-use Rattle.blog_flash.specs.LaidOut.{transactions_of}
+use Rattle.blog_trans.specs.code.IndexView.{index_groups}
+use Rattle.blog_flash.specs.code.LaidOut.{transactions_of}
 use Rattle.blog_flash.specs.Texts.{group_events}
 use Rattle.blog_flash.proofs.LayingOut.{index-opened, laid-within}
 use Rattle.blog_flash.proofs.Lengths.{text-end}

@@ -1,7 +1,7 @@
 use Rattle.std.proofs.Common.{◌≡◌, ℕ, ◌+◌, ◌++◌, map, vec_len, sym, ap, ◌∙◌, arith}
-use Rattle.blog_flash.specs.LaidOut.{text_from}
+use Rattle.blog_flash.specs.code.LaidOut.{text_from}
 use Rattle.blog_flash.specs.Written.{event_written}
-use Rattle.blog_flash.specs.WrittenView.{written_told}
+use Rattle.blog_flash.specs.code.WrittenView.{written_told}
 use Rattle.blog_flash.proofs.Lengths.{total, end-total}
 use Rattle.blog_flash.proofs.Placing.{event-put}
 use Rattle.blog_flash.proofs.laid_out.put_events.Goals as goal

@@ -1,7 +1,7 @@
 use Rattle.std.proofs.Common.{◌≡◌, ◌+◌, ◌≤◌, ◌++◌, length, map, vec_len}
 use Rattle.std.specs.Prelude.{vec_capacity}
 use Rattle.blog_event.specs.File.{end_of}
-use Rattle.blog_flash.specs.LaidOut.{text_from}
+use Rattle.blog_flash.specs.code.LaidOut.{text_from}
 use Rattle.blog_flash.specs.Written.{event_written}
 use Rattle.blog_flash.proofs.Lengths.{total}
 use Rattle.blog_flash.proofs.laid_out.put_events.Given as goal

@@ -1,7 +1,7 @@
 use Rattle.std.proofs.Common.{◌≤◌, map, sym, ap, subst, arith}
 use Rattle.std.specs.List.{AllByRecursion}
 use Rattle.blog_event.specs.Event.{event_size}
-use Rattle.blog_flash.specs.Measured.{IsLonger}
+use Rattle.blog_flash.specs.code.Measured.{IsLonger}
 use Rattle.blog_flash.specs.Written.{event_written}
 use Rattle.blog_flash.proofs.Lengths.{total, end-total}
 use Rattle.blog_flash.proofs.log_sizes.sizes_of.Goals as goal

@@ -1,6 +1,6 @@
 use Rattle.std.proofs.Common.{length, arith}
-use Rattle.blog_trans.specs.IndexView.{index_groups}
-use Rattle.blog_flash.specs.LaidOut.{transactions_of}
+use Rattle.blog_trans.specs.code.IndexView.{index_groups}
+use Rattle.blog_flash.specs.code.LaidOut.{transactions_of}
 use Rattle.blog_flash.proofs.InTurn.{written-end}
 use Rattle.blog_flash.proofs.modes.group_sizes.Goals as goal
 

@@ -1,9 +1,9 @@
 use Rattle.std.proofs.Common.{List, ℕ, ap₂, ◌∙◌}
 use Rattle.blog_event.specs.File.{read}
 use Rattle.blog_trans.specs.Groups.{groups}
-use Rattle.blog_trans.specs.IndexView.{index_groups}
+use Rattle.blog_trans.specs.code.IndexView.{index_groups}
 use Rattle.blog_trans.specs.Selection.{Selection}
-use Rattle.blog_flash.specs.LaidOut.{groups_in, transactions_of}
+use Rattle.blog_flash.specs.code.LaidOut.{groups_in, transactions_of}
 use Rattle.blog_flash.specs.Texts.{laid_out_after}
 use Rattle.blog_flash.proofs.InTurn.{written-text}
 use Rattle.blog_flash.proofs.modes.laid_out.Goals as goal

@@ -1,7 +1,7 @@
 use Rattle.std.proofs.Common.{◌+◌, ap}
-use Rattle.blog_row.specs.ValuesView.{value_bytes, values_left}
+use Rattle.blog_row.specs.code.ValuesView.{value_bytes, values_left}
 use Rattle.blog_flash.specs.Printed.{value_lines}
-use Rattle.blog_flash.specs.PrintedRows.{value_line}
+use Rattle.blog_flash.specs.code.PrintedRows.{value_line}
 use Rattle.blog_flash.proofs.Printing.{has-room}
 use Rattle.blog_flash.proofs.printed.put_values.Goals as goal
 

@@ -1,7 +1,7 @@
 use Rattle.std.proofs.Common.{◌≡◌, ◌≤◌, ◌+◌, ◌++◌, length, vec_capacity}
 use Rattle.blog_row.specs.Image.{row_of}
-use Rattle.blog_row.specs.LayoutView.{layout_columns}
-use Rattle.blog_row.specs.ValuesView.{values_left}
+use Rattle.blog_row.specs.code.LayoutView.{layout_columns}
+use Rattle.blog_row.specs.code.ValuesView.{values_left}
 use Rattle.blog_flash.specs.Printed.{value_lines}
 use Rattle.blog_flash.proofs.printed.put_values.Given as goal
 

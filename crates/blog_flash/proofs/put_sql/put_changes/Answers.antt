@@ -1,8 +1,8 @@
 use Rattle.std.proofs.Common.{ap, sym, ◌∙◌, ◌++◌, arith}
-use Rattle.blog_row.specs.LayoutView.{layout_columns}
-use Rattle.blog_row.specs.RowsView.{row_seen, rows_left}
+use Rattle.blog_row.specs.code.LayoutView.{layout_columns}
+use Rattle.blog_row.specs.code.RowsView.{row_seen, rows_left}
 use Rattle.blog_row.specs.TableMap.{map_names}
-use Rattle.blog_flash.specs.PrintedRows.{image_lines, images_lines}
+use Rattle.blog_flash.specs.code.PrintedRows.{image_lines, images_lines}
 use Rattle.blog_flash.proofs.PrintedParts.{seen-lines}
 use Rattle.blog_flash.proofs.Printing.{has-room}
 use Rattle.blog_flash.proofs.put_sql.put_changes.Goals as goal

@@ -1,11 +1,11 @@
 use Rattle.std.proofs.Common.{◌≡◌, ◌≤◌, ◌++◌}
 use Rattle.std.specs.Prelude.{vec_capacity}
-use Rattle.blog_row.specs.LayoutView.{layout_columns}
-use Rattle.blog_row.specs.RowsView.{rows_left}
+use Rattle.blog_row.specs.code.LayoutView.{layout_columns}
+use Rattle.blog_row.specs.code.RowsView.{rows_left}
 use Rattle.blog_row.specs.TableMap.{map_names}
-use Rattle.blog_trans.specs.GroupEventsView.{event_seen}
+use Rattle.blog_trans.specs.code.GroupEventsView.{event_seen}
 use Rattle.blog_trans.specs.declared.group_events.GroupEvent.TheVariants as given
-use Rattle.blog_flash.specs.PrintedRows.{event_lines, images_lines}
+use Rattle.blog_flash.specs.code.PrintedRows.{event_lines, images_lines}
 use Rattle.blog_flash.proofs.put_sql.put_changes.Given as goal
 
 -- the rows that the iterator still gives are left

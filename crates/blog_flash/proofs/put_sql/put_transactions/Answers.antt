@@ -1,8 +1,8 @@
 use Rattle.std.proofs.Common.{◌++◌, ap, ◌∙◌, arith}
 use Rattle.std.specs.List.{flat_map}
-use Rattle.blog_trans.specs.GroupEventsView.{event_seen, events_left}
-use Rattle.blog_trans.specs.IndexView.{index_bytes, index_selection}
-use Rattle.blog_flash.specs.PrintedRows.{event_lines}
+use Rattle.blog_trans.specs.code.GroupEventsView.{event_seen, events_left}
+use Rattle.blog_trans.specs.code.IndexView.{index_bytes, index_selection}
+use Rattle.blog_flash.specs.code.PrintedRows.{event_lines}
 use Rattle.blog_flash.proofs.PrintedInTurn.{printed-groups}
 use Rattle.blog_flash.proofs.Printing.{has-room}
 use Rattle.blog_flash.proofs.put_sql.put_transactions.Goals as goal

@@ -1,10 +1,10 @@
 use Rattle.std.proofs.Common.{◌≡◌, ◌≤◌, ◌++◌, vec_capacity}
 use Rattle.std.specs.List.{flat_map}
 use Rattle.blog_trans.specs.Groups.{groups}
-use Rattle.blog_trans.specs.GroupEventsView.{events_left}
-use Rattle.blog_trans.specs.IndexView.{index_bytes, index_selection}
+use Rattle.blog_trans.specs.code.GroupEventsView.{events_left}
+use Rattle.blog_trans.specs.code.IndexView.{index_bytes, index_selection}
 use Rattle.blog_flash.specs.Printed.{sql_text}
-use Rattle.blog_flash.specs.PrintedRows.{event_lines}
+use Rattle.blog_flash.specs.code.PrintedRows.{event_lines}
 use Rattle.blog_flash.proofs.put_sql.put_transactions.Given as goal
 
 -- the events are left that the iterator still gives

@@ -3,7 +3,7 @@ use Rattle.std.specs.List.{flat_map}
 use Rattle.std.proofs.lemmas.List.{drop_all}
 use Rattle.blog_trans.specs.Changes.{TableCount, counts_of}
 use Rattle.blog_trans.specs.Groups.{groups}
-use Rattle.blog_trans.specs.IndexView.{index_bytes, index_selection, table_counted}
+use Rattle.blog_trans.specs.code.IndexView.{index_bytes, index_selection, table_counted}
 use Rattle.blog_flash.specs.Printed.{count_line}
 use Rattle.blog_trans.proofs.Turns.{drop-at}
 use Rattle.blog_flash.proofs.Printing.{next-part, no-part, has-room}

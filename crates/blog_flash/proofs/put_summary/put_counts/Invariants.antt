@@ -2,7 +2,7 @@ use Rattle.std.proofs.Common.{◌≡◌, ◌≤◌, ◌++◌, drop, vec_capacity
 use Rattle.std.specs.List.{flat_map}
 use Rattle.blog_trans.specs.Changes.{counts_of}
 use Rattle.blog_trans.specs.Groups.{groups}
-use Rattle.blog_trans.specs.IndexView.{index_bytes, index_selection}
+use Rattle.blog_trans.specs.code.IndexView.{index_bytes, index_selection}
 use Rattle.blog_flash.specs.Printed.{count_line}
 use Rattle.blog_flash.proofs.put_summary.put_counts.Given as goal
 

@@ -5,11 +5,11 @@ use Rattle.blog_device.specs.Watched.{device_of}
 use Rattle.blog_event.specs.File.{read}
 use Rattle.blog_trans.specs.Groups.{groups}
 use Rattle.blog_trans.specs.Selection.{Selection, selection_of}
-use Rattle.blog_flash.specs.LaidOut.{groups_in, transactions_of}
+use Rattle.blog_flash.specs.code.LaidOut.{groups_in, transactions_of}
 use Rattle.blog_flash.specs.Runs.{IsWritten, mode_in}
 use Rattle.blog_flash.specs.Texts.{laid_out_after}
 use Rattle.blog_flash.proofs.Answering.{output-laid, output-written}
-use Rattle.blog_trans.specs.IndexView.{index_bytes, index_groups, index_selection}
+use Rattle.blog_trans.specs.code.IndexView.{index_bytes, index_groups, index_selection}
 use Rattle.blog_flash.proofs.InTurn.{events-of-written, written-end, written-text}
 use Rattle.blog_flash.proofs.Totals.{groups-fit-room}
 use Rattle.blog_flash.specs.Written.{event_written}

@@ -4,7 +4,7 @@ use Rattle.std.specs.List.{AllByRecursion}
 use Rattle.std.proofs.Math.Bool.{or-false}
 use Rattle.std.proofs.lemmas.Result.{err_from_is_err_and, on_ok_weaker, on_err_weaker}
 use Rattle.blog_event.specs.Event.{event_size}
-use Rattle.blog_flash.specs.LaidOut.{text_from}
+use Rattle.blog_flash.specs.code.LaidOut.{text_from}
 use Rattle.blog_flash.specs.Written.{event_written}
 use Rattle.blog_flash.proofs.Lengths.{total, end-total}
 use Rattle.blog_flash.proofs.WritingOut.{way-none, way-event, way-broken, way-end}

@@ -3,7 +3,7 @@ use Rattle.std.specs.Prelude.{vec_capacity}
 use Rattle.std.specs.List.{AllByRecursion}
 use Rattle.blog_device.specs.Watched.{device_of, has_failed}
 use Rattle.blog_event.specs.Event.{event_size}
-use Rattle.blog_flash.specs.LaidOut.{text_from}
+use Rattle.blog_flash.specs.code.LaidOut.{text_from}
 use Rattle.blog_flash.specs.Written.{event_written}
 use Rattle.blog_flash.proofs.Lengths.{total}
 use Rattle.blog_flash.proofs.WritingOut.{IsOnTheWay}

@@ -1,5 +1,5 @@
 use Rattle.std.proofs.Common.{◌≤◌, ◌-◌}
-use Rattle.blog_row.specs.ImageView.{AreNull}
+use Rattle.blog_row.specs.code.ImageView.{AreNull}
 use Rattle.blog_row.proofs.image.next_value.Given as goal
 
 abbrev pub invariant-loop-i : goal.invariant-loop-i

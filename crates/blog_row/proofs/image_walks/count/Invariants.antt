@@ -1,6 +1,6 @@
 use Rattle.std.proofs.Common.{◌≡◌, ◌+◌, ◌≤◌, length, option_map}
 use Rattle.blog_row.specs.Image.{images_of}
-use Rattle.blog_row.specs.LayoutView.{layout_columns}
+use Rattle.blog_row.specs.code.LayoutView.{layout_columns}
 use Rattle.blog_row.proofs.RowsCode.{counted}
 use Rattle.blog_row.proofs.image_walks.count.Given as goal
 

@@ -1,7 +1,7 @@
 use Rattle.std.proofs.Common.{◌≡◌, ◌<◌, ◌∙◌, length, take, sym, arith, None, Some}
 use Rattle.std.proofs.lemmas.Grind.{common_steps}
 use Rattle.blog_row.specs.Image.{image_len_of}
-use Rattle.blog_row.specs.LayoutView.{layout_columns}
+use Rattle.blog_row.specs.code.LayoutView.{layout_columns}
 use Rattle.blog_row.proofs.RowsCode.{OneImage, some_columns, one_image}
 use Rattle.blog_row.proofs.Reversing.{written_there, written_more, written_all}
 use Rattle.blog_row.proofs.image_walks.put.Goals as goal

@@ -1,6 +1,6 @@
 use Rattle.std.proofs.Common.{[], length, unwrap_or}
 use Rattle.blog_row.specs.Image.{images_of}
-use Rattle.blog_row.specs.LayoutView.{layout_columns}
+use Rattle.blog_row.specs.code.LayoutView.{layout_columns}
 use Rattle.blog_row.proofs.Reversing.{Written}
 use Rattle.blog_row.proofs.image_walks.put.Given as goal
 

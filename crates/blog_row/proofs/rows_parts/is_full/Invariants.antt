@@ -1,5 +1,5 @@
 use Rattle.std.proofs.Common.{◌*◌}
-use Rattle.blog_row.specs.ImageView.{AreNull}
+use Rattle.blog_row.specs.code.ImageView.{AreNull}
 use Rattle.blog_row.proofs.rows_parts.is_full.Given as goal
 
 -- the bits of the bytes so far are set

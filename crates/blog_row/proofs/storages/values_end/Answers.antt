@@ -1,6 +1,6 @@
 use Rattle.std.proofs.Common.{◌≡◌, ◌∙◌, true, false, option_and_then, ap, sym, arith}
 use Rattle.blog_row.specs.Image.{is_marked}
-use Rattle.blog_row.specs.PositionView.{from_position}
+use Rattle.blog_row.specs.code.PositionView.{from_position}
 use Rattle.blog_row.proofs.StorageWalking.{reached_null, reached_value, reached_stops, reached_all}
 use Rattle.blog_row.proofs.storages.values_end.Goals as goal
 use Rattle.blog_row.proofs.storages.values_end.Goals.{then-not-is_set+in_ok-end, else-not-is_set}

@@ -1,6 +1,6 @@
 use Rattle.blog_row.specs.Column.{Layout}
-use Rattle.blog_row.specs.StorageView.{AreStored}
-use Rattle.blog_row.specs.PositionView.{behind_from}
+use Rattle.blog_row.specs.code.StorageView.{AreStored}
+use Rattle.blog_row.specs.code.PositionView.{behind_from}
 use Rattle.blog_row.proofs.StorageWalking.{Reached}
 use Rattle.blog_row.proofs.storages.values_end.Given as goal
 

@@ -2,8 +2,8 @@ use Rattle.std.proofs.Common.{◌≡◌, ◌∙◌, ◌+◌, ◌<◌, ◌∷◌,
 use Rattle.std.specs.List.{list_all}
 use Rattle.blog_row.specs.Column.{Layout, columns_of, is_column, own_metadata_len, value_front}
 use Rattle.blog_row.specs.Image.{is_marked}
-use Rattle.blog_row.specs.LayoutReading.{column_here}
-use Rattle.blog_row.specs.PositionView.{EndsAt, behind_from}
+use Rattle.blog_row.specs.code.LayoutReading.{column_here}
+use Rattle.blog_row.specs.code.PositionView.{EndsAt, behind_from}
 use Rattle.blog_row.proofs.TypeBytes.{split_index}
 use Rattle.blog_row.proofs.PositionWalking.{past_null, past_value, bit_clear, bit_set}
 use Rattle.blog_row.proofs.typed_walk.columns_end.Goals as goal

@@ -2,7 +2,7 @@ use Rattle.std.proofs.Common.{◌≡◌, ◌∙◌, ◌<◌, ◌≤◌, ◌+◌,
 use Rattle.blog_row.specs.Checks.{cut}
 use Rattle.blog_row.specs.Column.{columns_of}
 use Rattle.blog_row.specs.Image.{bitmap_len}
-use Rattle.blog_row.specs.ImageView.{AreNull}
+use Rattle.blog_row.specs.code.ImageView.{AreNull}
 use Rattle.blog_row.proofs.Cutting.{cut_found}
 use Rattle.blog_row.proofs.Layouts.{length_of_columns}
 use Rattle.blog_row.proofs.Walking.{nulls_short, rounded_up}

@@ -1,7 +1,7 @@
 use Rattle.std.proofs.Common.{◌≡◌, ◌∙◌, ◌≤◌, ◌+◌, ◌-◌, List, ℕ, length, drop, ap, arith}
 use Rattle.std.proofs.lemmas.List.{drop_all}
 use Rattle.blog_row.specs.Column.{columns_of}
-use Rattle.blog_row.specs.PositionView.{behind_from, from_position}
+use Rattle.blog_row.specs.code.PositionView.{behind_from, from_position}
 use Rattle.blog_row.proofs.PositionWalking.{past_all}
 use Rattle.blog_row.proofs.typed_walk.values_end.Goals as goal
 

@@ -1,7 +1,7 @@
 use Rattle.std.proofs.Common.{◌≡◌, ◌≤◌, ◌-◌, ◌%◌, true, length, drop}
 use Rattle.std.specs.List.{list_all}
 use Rattle.blog_row.specs.Column.{columns_of, is_column}
-use Rattle.blog_row.specs.PositionView.{behind_from}
+use Rattle.blog_row.specs.code.PositionView.{behind_from}
 use Rattle.blog_row.proofs.typed_walk.values_end.Given as goal
 
 abbrev pub invariant-columns : goal.invariant-columns

@@ -1,10 +1,10 @@
 use Rattle.std.proofs.Common.{ℕ, length, refl, sym, ap, subst, ◌∙◌, arith}
 use Rattle.std.proofs.lemmas.Result.{err_from_is_err_and}
 use Rattle.blog_trans.specs.Groups.{groups}
-use Rattle.blog_trans.specs.IndexView.{index_bytes, index_selection}
+use Rattle.blog_trans.specs.code.IndexView.{index_bytes, index_selection}
 use Rattle.blog_flash.specs.Texts.{group_events}
 use Rattle.blog_flash.proofs.Lengths.{text-end}
-use Rattle.blog_split.specs.Greedy.{cut_groups}
+use Rattle.blog_split.specs.code.Greedy.{cut_groups}
 use Rattle.blog_split.specs.Putting.{Refuses}
 use Rattle.blog_split.proofs.Splitting.{whole-text, written-sizes}
 use Rattle.blog_split.proofs.cut_log.lay_out_cut.Goals as goal

@@ -1,9 +1,9 @@
 use Rattle.std.proofs.Common.{◌<◌, subst}
 use Rattle.blog_event.specs.File.{end_of}
 use Rattle.blog_trans.specs.Groups.{groups}
-use Rattle.blog_trans.specs.IndexView.{index_bytes, index_selection}
-use Rattle.blog_flash.specs.Measured.{HasSizes}
-use Rattle.blog_split.specs.Greedy.{cut_groups}
+use Rattle.blog_trans.specs.code.IndexView.{index_bytes, index_selection}
+use Rattle.blog_flash.specs.code.Measured.{HasSizes}
+use Rattle.blog_split.specs.code.Greedy.{cut_groups}
 use Rattle.blog_split.proofs.Splitting.{written-are}
 use Rattle.blog_split.proofs.cut_log.measured.Goals as goal
 

@@ -2,8 +2,8 @@ use Rattle.std.proofs.Common.{ℕ, List, subst, arith}
 use Rattle.blog_trans.specs.Selection.{Selection}
 use Rattle.blog_trans.specs.Acceptance.{IsAccepted, IsRefusal, fault}
 use Rattle.blog_trans.specs.Groups.{groups}
-use Rattle.blog_trans.specs.IndexView.{index_selection}
-use Rattle.blog_split.specs.Greedy.{cut_groups}
+use Rattle.blog_trans.specs.code.IndexView.{index_selection}
+use Rattle.blog_split.specs.code.Greedy.{cut_groups}
 use Rattle.blog_split.specs.Splitting.{LaysOut}
 use Rattle.blog_split.proofs.Splitting.{splits}
 use Rattle.blog_split.proofs.cut_log.split.Goals as goal

@@ -1,8 +1,8 @@
 use Rattle.std.proofs.Common.{◌≡◌, ℕ, Some, slice_get, sym, ◌∙◌, arith}
 use Rattle.blog_trans.specs.Groups.{PlacedStatement}
-use Rattle.blog_trans.specs.IndexView.{index_groups, statement_at}
+use Rattle.blog_trans.specs.code.IndexView.{index_groups, statement_at}
 use Rattle.std.proofs.lemmas.Option.{slice_get_within}
-use Rattle.blog_split.specs.Sizes.{IsAmongMost}
+use Rattle.blog_split.specs.code.Sizes.{IsAmongMost}
 use Rattle.blog_split.proofs.Between.{at-some, maps-counted, rows-counted, some-from, statement-here, statement-there, statements-counted}
 use Rattle.blog_split.proofs.Measuring.{among-more, below-next}
 use Rattle.blog_split.proofs.most.most_in.Goals as goal

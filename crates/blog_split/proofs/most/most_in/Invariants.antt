@@ -1,7 +1,7 @@
 use Rattle.std.proofs.Common.{◌≡◌, ℕ, ◌-◌, ◌<◌, ◌≤◌, Some}
 use Rattle.blog_trans.specs.Groups.{PlacedStatement}
-use Rattle.blog_trans.specs.IndexView.{index_groups, statement_at}
-use Rattle.blog_split.specs.Sizes.{IsAmongMost}
+use Rattle.blog_trans.specs.code.IndexView.{index_groups, statement_at}
+use Rattle.blog_split.specs.code.Sizes.{IsAmongMost}
 use Rattle.blog_split.proofs.most.most_in.Given as goal
 
 -- none so far has more

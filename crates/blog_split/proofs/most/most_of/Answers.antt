@@ -1,8 +1,8 @@
 use Rattle.std.proofs.Common.{◌≡◌, ℕ, Some, arith}
 use Rattle.blog_trans.specs.Groups.{PlacedStatement}
-use Rattle.blog_trans.specs.IndexView.{index_groups, statement_at}
+use Rattle.blog_trans.specs.code.IndexView.{index_groups, statement_at}
 use Rattle.blog_trans.proofs.IndexFacts.{below}
-use Rattle.blog_split.specs.Sizes.{IsAmongMost}
+use Rattle.blog_split.specs.code.Sizes.{IsAmongMost}
 use Rattle.blog_split.proofs.Between.{some-from}
 use Rattle.blog_split.proofs.Measuring.{among-more, below-next}
 use Rattle.blog_split.proofs.most.most_of.Goals as goal

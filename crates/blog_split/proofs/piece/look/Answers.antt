@@ -3,10 +3,10 @@ use Rattle.std.proofs.lemmas.List.{length-take-le}
 use Rattle.blog_event.specs.File.{Placed}
 use Rattle.blog_row.specs.RowsEvent.{table_id}
 use Rattle.blog_trans.specs.Groups.{rows_value}
-use Rattle.blog_trans.specs.IndexView.{index_groups, rows_at, statement_at}
+use Rattle.blog_trans.specs.code.IndexView.{index_groups, rows_at, statement_at}
 use Rattle.blog_trans.proofs.EntriesFound.{list_some}
 use Rattle.blog_trans.proofs.IndexFacts.{some_found}
-use Rattle.blog_split.specs.Marks.{IsId, id_number}
+use Rattle.blog_split.specs.code.Marks.{IsId, id_number}
 use Rattle.blog_split.proofs.Between.{rows-here}
 use Rattle.blog_split.proofs.MapIds.{number-found, statement-known}
 use Rattle.blog_split.proofs.Told.{event-told, sized-told, id-told, long-told}

@@ -1,9 +1,9 @@
 use Rattle.std.proofs.Common.{ℕ, List, [], ◌+◌, ◌++◌, length, sym, ap, subst, ◌∙◌, arith}
 use Rattle.std.specs.Option.{option_to_list}
-use Rattle.blog_trans.specs.IndexView.{index_groups, rows_at, statement_at}
+use Rattle.blog_trans.specs.code.IndexView.{index_groups, rows_at, statement_at}
 use Rattle.blog_trans.proofs.IndexFacts.{some_found}
-use Rattle.blog_split.specs.Greedy.{rows_between}
-use Rattle.blog_split.specs.Marks.{AreMarks}
+use Rattle.blog_split.specs.code.Greedy.{rows_between}
+use Rattle.blog_split.specs.code.Marks.{AreMarks}
 use Rattle.blog_split.proofs.Between.{some-from, rows-there, rows-counted, so-far-first, so-far-more, so-far-over}
 use Rattle.blog_split.proofs.Marks.{marks-none, marks-more}
 use Rattle.blog_split.proofs.piece.mark_piece.Goals as goal

@@ -1,9 +1,9 @@
 use Rattle.std.proofs.Common.{◌≡◌, ◌+◌, ◌-◌, ◌≤◌, Some, vec_len}
 use Rattle.std.specs.Prelude.{vec_capacity}
 use Rattle.blog_trans.specs.Groups.{PlacedStatement}
-use Rattle.blog_trans.specs.IndexView.{index_groups, statement_at}
-use Rattle.blog_split.specs.Greedy.{rows_between}
-use Rattle.blog_split.specs.Marks.{AreMarks}
+use Rattle.blog_trans.specs.code.IndexView.{index_groups, statement_at}
+use Rattle.blog_split.specs.code.Greedy.{rows_between}
+use Rattle.blog_split.specs.code.Marks.{AreMarks}
 use Rattle.blog_split.proofs.Between.{IsSoFar}
 use Rattle.blog_split.proofs.piece.mark_piece.Given as goal
 

@@ -1,6 +1,6 @@
 use Rattle.std.proofs.lemmas.List.Filters.{dedup_is}
 use Rattle.std.proofs.lemmas.Map.Keys.{IsStrictlyIncreasing-dedup}
-use Rattle.blog_split.specs.Greedy.{rows_between}
+use Rattle.blog_split.specs.code.Greedy.{rows_between}
 use Rattle.blog_split.proofs.Marks.{marks-kept, used-are}
 use Rattle.blog_split.proofs.piece.take_piece.Goals as goal
 

@@ -1,6 +1,6 @@
 use Rattle.std.proofs.Common.{arith}
 use Rattle.blog_event.proofs.Framing.{bytes-take}
-use Rattle.blog_split.specs.Marks.{id_number}
+use Rattle.blog_split.specs.code.Marks.{id_number}
 use Rattle.blog_split.proofs.used_maps.id_of.Goals as goal
 
 pub returns-clause-number : goal.returns-clause-number

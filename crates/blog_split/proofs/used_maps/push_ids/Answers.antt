@@ -1,9 +1,9 @@
 use Rattle.std.proofs.Common.{refl, List, ◌+◌, sym, subst, ◌∙◌, arith}
 use Rattle.std.proofs.lemmas.List.{length-take-le}
 use Rattle.blog_row.specs.RowsEvent.{table_id}
-use Rattle.blog_trans.specs.IndexView.{index_groups, placed}
+use Rattle.blog_trans.specs.code.IndexView.{index_groups, placed}
 use Rattle.blog_split.specs.declared.used_maps.MapId.{MapId}
-use Rattle.blog_split.specs.Marks.{IsId, AreListed}
+use Rattle.blog_split.specs.code.Marks.{IsId, AreListed}
 use Rattle.blog_split.proofs.Between.{map-here}
 use Rattle.blog_split.proofs.MapIds.{map-long, listed-more}
 use Rattle.blog_split.proofs.used_maps.push_ids.Goals as goal

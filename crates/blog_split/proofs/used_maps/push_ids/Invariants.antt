@@ -1,8 +1,8 @@
 use Rattle.std.proofs.Common.{◌≡◌, ◌-◌, ◌≤◌, Some, vec_len}
 use Rattle.std.specs.Prelude.{vec_capacity}
 use Rattle.blog_trans.specs.Groups.{PlacedStatement}
-use Rattle.blog_trans.specs.IndexView.{index_groups, statement_at}
-use Rattle.blog_split.specs.Marks.{AreListed}
+use Rattle.blog_trans.specs.code.IndexView.{index_groups, statement_at}
+use Rattle.blog_split.specs.code.Marks.{AreListed}
 use Rattle.blog_split.proofs.used_maps.push_ids.Given as goal
 
 -- the maps so far are listed

@@ -4,9 +4,9 @@ use Rattle.blog_event.specs.File.{read}
 use Rattle.blog_trans.specs.Selection.{Selection}
 use Rattle.blog_trans.specs.Acceptance.{IsAccepted}
 use Rattle.blog_trans.specs.Groups.{groups}
-use Rattle.blog_trans.specs.IndexView.{index_selection}
+use Rattle.blog_trans.specs.code.IndexView.{index_selection}
 use Rattle.blog_flash.specs.Texts.{laid_out_after}
-use Rattle.blog_split.specs.Greedy.{cut_groups}
+use Rattle.blog_split.specs.code.Greedy.{cut_groups}
 use Rattle.blog_split.specs.SplittingTo.{IsCutWritten}
 use Rattle.blog_split.proofs.Splitting.{splits-to}
 use Rattle.blog_split.proofs.written_cut.split_by_chunks.Goals as goal

@@ -2,10 +2,10 @@ use Rattle.std.proofs.Common.{ℕ, length, refl, sym, ap, subst, ◌∙◌, arit
 use Rattle.std.specs.Io.KnownBytes.{Appends}
 use Rattle.blog_device.specs.Watched.{device_of}
 use Rattle.blog_trans.specs.Groups.{groups}
-use Rattle.blog_trans.specs.IndexView.{index_bytes, index_selection}
+use Rattle.blog_trans.specs.code.IndexView.{index_bytes, index_selection}
 use Rattle.blog_flash.specs.Texts.{group_events}
 use Rattle.blog_flash.proofs.Lengths.{text-end}
-use Rattle.blog_split.specs.Greedy.{cut_groups}
+use Rattle.blog_split.specs.code.Greedy.{cut_groups}
 use Rattle.blog_split.specs.Putting.{Refuses}
 use Rattle.blog_split.proofs.Splitting.{cut-broken, whole-text, written-sizes}
 use Rattle.blog_split.proofs.written_cut.write_cut.Goals as goal

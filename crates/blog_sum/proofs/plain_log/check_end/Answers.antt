@@ -1,7 +1,7 @@
 -- The events that are left, one by one.
 use Rattle.std.proofs.Common.{◌+◌, sym, ap, ◌∙◌, arith}
 use Rattle.blog_event.specs.Event.{event_of}
-use Rattle.blog_sum.specs.Left.{events_left, end_check}
+use Rattle.blog_sum.specs.code.Left.{events_left, end_check}
 use Rattle.blog_sum.proofs.Walk.{end-more, end-whole}
 use Rattle.blog_sum.proofs.plain_log.check_end.Goals as goal
 

@@ -1,5 +1,5 @@
 use Rattle.std.proofs.Common.{◌≡◌, ◌≤◌, ◌-◌, length}
-use Rattle.blog_sum.specs.Left.{events_left, end_check}
+use Rattle.blog_sum.specs.code.Left.{events_left, end_check}
 use Rattle.blog_sum.proofs.plain_log.check_end.Given as goal
 
 -- what is still to be gone through decides

@@ -2,7 +2,7 @@ use Rattle.std.proofs.Common.{◌≡◌, ◌+◌, ◌-◌, ◌≤◌, ◌++◌, 
 use Rattle.std.specs.Prelude.{vec_capacity}
 use Rattle.blog_sum.specs.Sums.{sum_fault}
 use Rattle.blog_sum.specs.Plain.{plain_of}
-use Rattle.blog_sum.specs.Left.{events_left, left_fault, plain_text}
+use Rattle.blog_sum.specs.code.Left.{events_left, left_fault, plain_text}
 use Rattle.blog_sum.proofs.plain_log.without_sums.Given as goal
 
 -- what is still to be gone through decides, and is still to be written, and there is room for it

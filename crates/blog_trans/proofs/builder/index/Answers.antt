@@ -1,7 +1,7 @@
 use Rattle.std.proofs.Common.{◌≡◌, ◌∙◌, false, true, ◌+◌, ℕ, [], ap, inr, option_map, sym}
 use Rattle.std.proofs.lemmas.Option.{same_Some}
 use Rattle.blog_event.specs.Event.{Event, event_of, event_size}
-use Rattle.blog_event.specs.LogView.{log_bytes}
+use Rattle.blog_event.specs.code.LogView.{log_bytes}
 use Rattle.blog_event.proofs.Opened.{log-opened, log-reads}
 use Rattle.blog_trans.specs.Selection.{selection_of}
 use Rattle.blog_trans.specs.Acceptance.{is_start_inside}

@@ -3,9 +3,9 @@ use Rattle.std.specs.Prelude.{IfOk}
 use Rattle.std.proofs.lemmas.Result.{err_from_is_err_and}
 use Rattle.blog_event.specs.Event.{event_of}
 use Rattle.blog_event.specs.File.{Placed}
-use Rattle.blog_row.specs.LayoutView.{layout_columns}
+use Rattle.blog_row.specs.code.LayoutView.{layout_columns}
 use Rattle.blog_row.specs.RowsEvent.{IsRowsBody}
-use Rattle.blog_row.specs.RowsEventView.{counted_seen, rows_body}
+use Rattle.blog_row.specs.code.RowsEventView.{counted_seen, rows_body}
 use Rattle.blog_row.proofs.RowsCode.{some_columns}
 use Rattle.blog_trans.proofs.CheckingRows.{images-fit, rows-unselected, rows-kept, rows-refused}
 use Rattle.blog_trans.proofs.checker.kept_rows.Goals as goal

@@ -3,13 +3,13 @@ use Rattle.std.specs.Prelude.{◌&&◌}
 use Rattle.indexmap.specs.IndexMap.{get}
 use Rattle.blog_event.specs.Fault.{fault_at}
 use Rattle.blog_event.specs.File.{Placed}
-use Rattle.blog_row.specs.LayoutView.{layout_columns, layout_seen}
+use Rattle.blog_row.specs.code.LayoutView.{layout_columns, layout_seen}
 use Rattle.blog_row.specs.TableMap.{layout_of, is_same_layout, map_names}
 use Rattle.blog_trans.specs.declared.table_name.TableName.{TableName}
 use Rattle.blog_trans.specs.Acceptance.{is_selected}
 use Rattle.blog_trans.specs.Selection.{selection_of, is_wanted}
-use Rattle.blog_trans.specs.CheckerView.{is_same_name}
-use Rattle.blog_trans.specs.TablesView.{table_named, tables_known}
+use Rattle.blog_trans.specs.code.CheckerView.{is_same_name}
+use Rattle.blog_trans.specs.code.TablesView.{table_named, tables_known}
 use Rattle.blog_trans.proofs.CheckingLayouts.{has_same, selected-is, selected-checks, layouts-taken}
 use Rattle.blog_trans.proofs.TableNumbers.{inserted-number, tables-stay, tables-more}
 use Rattle.blog_trans.proofs.layouts.take_table.Goals.{in_default-via-in-Some+else-not-same, in_default-via-in_default}

@@ -1,6 +1,6 @@
 use Rattle.std.proofs.Common.{◌≡◌, ◌+◌, ◌≤◌, ◌++◌, map, length, vec_len, vec_capacity}
-use Rattle.blog_trans.specs.StatementMaps.{used_maps}
-use Rattle.blog_trans.specs.Entries.{map_entries}
+use Rattle.blog_trans.specs.code.StatementMaps.{used_maps}
+use Rattle.blog_trans.specs.code.Entries.{map_entries}
 use Rattle.blog_trans.proofs.lists.put_maps.Given as goal
 
 abbrev pub invariant-loop-map : goal.invariant-loop-map

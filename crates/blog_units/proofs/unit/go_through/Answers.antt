@@ -1,11 +1,11 @@
 use Rattle.std.proofs.Common.{◌∙◌, ℕ, ◌+◌, Option, Some, arith, sym, subst, ap}
 use Rattle.blog_event.specs.Event.{event_of}
-use Rattle.blog_event.specs.LogView.{log_bytes}
+use Rattle.blog_event.specs.code.LogView.{log_bytes}
 use Rattle.blog_event.proofs.Opened.{log-opened}
 use Rattle.blog_trans.specs.Places.{placed}
 use Rattle.blog_units.specs.declared.part.Part.{Part}
 use Rattle.blog_units.specs.Units.{continued, goes_on}
-use Rattle.blog_units.specs.Boundaries.{events_behind}
+use Rattle.blog_units.specs.code.Boundaries.{events_behind}
 use Rattle.blog_units.proofs.Behind.{behind-event, behind-none, boundary-more, boundary-within}
 use Rattle.blog_units.proofs.Going.{IsGone, gone-start, gone-on, gone-over, gone-before, gone-ended}
 use Rattle.blog_units.proofs.unit.go_through.Goals as goal

@@ -1,6 +1,6 @@
 use Rattle.std.proofs.Common.{◌-◌, ◌≤◌, Some, length}
-use Rattle.blog_event.specs.LogView.{log_bytes}
-use Rattle.blog_units.specs.Boundaries.{IsBoundary, events_behind}
+use Rattle.blog_event.specs.code.LogView.{log_bytes}
+use Rattle.blog_units.specs.code.Boundaries.{IsBoundary, events_behind}
 use Rattle.blog_units.proofs.Going.{IsGone}
 use Rattle.blog_units.proofs.unit.go_through.Given as goal
 

@@ -1,4 +1,4 @@
-use Rattle.blog_event.specs.LogView.{log_bytes}
+use Rattle.blog_event.specs.code.LogView.{log_bytes}
 use Rattle.blog_event.proofs.Opened.{log-opened}
 use Rattle.blog_units.proofs.Behind.{boundary-reached}
 use Rattle.blog_units.proofs.unit.groups_between.Goals as goal

@@ -1,9 +1,9 @@
 use Rattle.std.proofs.Common.{◌∙◌, ℕ, ◌+◌, ◌≤◌, ◌∷◌, Some, length, refl, sym, subst, ap}
 use Rattle.blog_event.specs.Event.{event_of}
-use Rattle.blog_event.specs.LogView.{log_bytes}
+use Rattle.blog_event.specs.code.LogView.{log_bytes}
 use Rattle.blog_event.proofs.Opened.{log-opened}
 use Rattle.blog_trans.specs.Places.{placed}
-use Rattle.blog_units.specs.Boundaries.{IsBoundary, events_behind}
+use Rattle.blog_units.specs.code.Boundaries.{IsBoundary, events_behind}
 use Rattle.blog_units.specs.Units.{opened_by, rest_of, units_in}
 use Rattle.blog_units.proofs.Behind.{behind-event, behind-none, boundary-more, boundary-within}
 use Rattle.blog_units.proofs.Going.{between-first, between-on}

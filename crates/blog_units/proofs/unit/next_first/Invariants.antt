@@ -1,6 +1,6 @@
 use Rattle.std.proofs.Common.{◌≡◌, ◌-◌, ◌≤◌, None, length}
-use Rattle.blog_event.specs.LogView.{log_bytes}
-use Rattle.blog_units.specs.Boundaries.{IsBoundary, events_behind}
+use Rattle.blog_event.specs.code.LogView.{log_bytes}
+use Rattle.blog_units.specs.code.Boundaries.{IsBoundary, events_behind}
 use Rattle.blog_units.specs.Units.{units_in}
 use Rattle.blog_units.proofs.unit.next_first.Given as goal
 

@@ -1,5 +1,5 @@
 use Rattle.blog_trans.specs.Groups.{PlacedStatement}
-use Rattle.blog_trans.specs.IndexView.{index_groups, statement_at}
+use Rattle.blog_trans.specs.code.IndexView.{index_groups, statement_at}
 use Rattle.log_calls.proofs.Numbered.{some-over}
 use Rattle.log_calls.proofs.index_view.show_statement.Goals as goal
 

@@ -2,7 +2,7 @@
 use Rattle.std.proofs.Common.{◌≡◌, ◌≢◌, ◌∙◌, [], ◌∷◌, length, refl, sym, ap, arith}
 use Rattle.std.specs.Option.{option_map_or}
 use Rattle.blog_event.specs.Items.{item_of, items_from}
-use Rattle.blog_event.specs.LogView.{items_left, log_bytes}
+use Rattle.blog_event.specs.code.LogView.{items_left, log_bytes}
 use Rattle.blog_event.proofs.Items.{items-end, items-ok, items-err}
 use Rattle.blog_event.proofs.events.EventsIterator.next.Goals as goal
 use Rattle.blog_event.proofs.events.EventsIterator.next.Goals.{in-Ok, in_default}

@@ -3,10 +3,10 @@ use Rattle.std.proofs.Common.{◌≡◌, ℕ, ◌+◌, length, replicate, sym, a
 use Rattle.std.proofs.lemmas.List.{length-replicate}
 use Rattle.blog_event.specs.Event.{Event, event_size}
 use Rattle.blog_row.specs.RowsKind.{number_of_kind}
-use Rattle.blog_row.specs.RowsEventView.{rows_content}
+use Rattle.blog_row.specs.code.RowsEventView.{rows_content}
 use Rattle.blog_row.specs.RowsWriting.{kind_in}
 use Rattle.blog_flash.specs.Texts.{rows_event}
-use Rattle.blog_flash.specs.WrittenView.{rows_told}
+use Rattle.blog_flash.specs.code.WrittenView.{rows_told}
 use Rattle.blog_flash.proofs.RowsText.{body-written, content-kind}
 use Rattle.blog_flash.proofs.written_event.WrittenRows.put.Goals as goal
 

@@ -1,6 +1,6 @@
 use Rattle.std.proofs.Common.{map, ap, ◌∙◌}
-use Rattle.blog_trans.specs.IndexView.{index_groups}
-use Rattle.blog_flash.specs.LaidOut.{written_in}
+use Rattle.blog_trans.specs.code.IndexView.{index_groups}
+use Rattle.blog_flash.specs.code.LaidOut.{written_in}
 use Rattle.blog_flash.proofs.InTurn.{written-in-turn}
 use Rattle.blog_flash.proofs.written_events.WrittenGroups.new.Goals as goal
 

@@ -1,8 +1,8 @@
 use Rattle.std.proofs.Common.{List, sym, ◌∙◌}
 use Rattle.blog_trans.specs.Changes.{TableCount, counts_of}
 use Rattle.blog_trans.specs.Groups.{groups}
-use Rattle.blog_trans.specs.IndexView.{index_bytes, index_selection, table_counted}
-use Rattle.blog_list.specs.Wanted.{has_names}
+use Rattle.blog_trans.specs.code.IndexView.{index_bytes, index_selection, table_counted}
+use Rattle.blog_list.specs.code.Wanted.{has_names}
 use Rattle.blog_list.proofs.Asking.{not-this, this-one}
 use Rattle.blog_list.proofs.wanted.Wanted.has_one_of.Goals as goal
 

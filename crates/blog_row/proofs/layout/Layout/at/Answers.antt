@@ -1,6 +1,6 @@
 use Rattle.std.proofs.Common.{◌≡◌, ◌<◌, ◌≤◌, length, Some, option_map, sym, ap, ◌∙◌}
 use Rattle.blog_row.specs.Column.{metadata_total}
-use Rattle.blog_row.specs.LayoutReading.{types_front, metadata_front}
+use Rattle.blog_row.specs.code.LayoutReading.{types_front, metadata_front}
 use Rattle.blog_row.specs.Checks.{cut_seen}
 use Rattle.blog_row.proofs.LayoutCode.{types_found, total_there, metadata_found}
 use Rattle.blog_row.proofs.layout.Layout.at.Goals as goal

@@ -3,7 +3,7 @@ use Rattle.std.specs.List.{list_all}
 use Rattle.blog_row.specs.Column.{columns_of, is_column}
 use Rattle.blog_row.specs.Packed.{packed_seen}
 use Rattle.blog_row.specs.Checks.{cut_seen}
-use Rattle.blog_row.specs.LayoutReading.{types_front}
+use Rattle.blog_row.specs.code.LayoutReading.{types_front}
 use Rattle.blog_row.proofs.LayoutCode.{KnownBehind, known_number, types_found}
 use Rattle.blog_row.proofs.layout.Layout.known_at.Goals as goal
 use Rattle.blog_row.proofs.layout.Layout.known_at.Goals.{In-Some, In-Some-packed_at}

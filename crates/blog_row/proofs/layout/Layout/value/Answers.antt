@@ -1,8 +1,8 @@
 -- The value of a column is the one of that number among all of them.
 use Rattle.std.proofs.Common.{◌∙◌, sym}
 use Rattle.std.proofs.lemmas.Iterator.Consumers.{nth_from_yields_List, YieldsList-from_first}
-use Rattle.blog_row.specs.LayoutView.{layout_columns}
-use Rattle.blog_row.specs.ValuesView.{value_bytes, values_left}
+use Rattle.blog_row.specs.code.LayoutView.{layout_columns}
+use Rattle.blog_row.specs.code.ValuesView.{value_bytes, values_left}
 use Rattle.blog_row.proofs.ValueWalking.{value_is}
 use Rattle.blog_row.proofs.layout.Layout.value.Goals as goal
 

@@ -1,7 +1,7 @@
 -- An image in front is the next, and whole images stand behind it; with none in front nothing is left.
 use Rattle.std.proofs.Common.{◌≡◌, ◌∙◌, [], sym, arith}
-use Rattle.blog_row.specs.LayoutView.{layout_columns}
-use Rattle.blog_row.specs.RowsView.{images_left}
+use Rattle.blog_row.specs.code.LayoutView.{layout_columns}
+use Rattle.blog_row.specs.code.RowsView.{images_left}
 use Rattle.blog_row.proofs.RowsCode.{some_columns, one_image}
 use Rattle.blog_row.proofs.RowsWalking.{no_image, next_image}
 use Rattle.blog_row.proofs.rows.Rows.image.Goals as goal

@@ -3,7 +3,7 @@ use Rattle.std.proofs.lemmas.Bool.{eq-eqb}
 use Rattle.blog_row.specs.Image.{bitmap_len, images_of}
 use Rattle.blog_row.specs.RowsKind.{images_a_row}
 use Rattle.blog_row.specs.RowsEvent.{bitmaps_by, rows_of}
-use Rattle.blog_row.specs.LayoutView.{layout_columns}
+use Rattle.blog_row.specs.code.LayoutView.{layout_columns}
 use Rattle.blog_row.proofs.Cutting.{map_found}
 use Rattle.blog_row.proofs.Walking.{rounded_up}
 use Rattle.blog_row.proofs.RowsCode.{body_parts, counted_are_there, some_columns, front_lengths, two_lengths, images_are_joined}

@@ -1,7 +1,7 @@
 -- The fields that are written fit in what was read.
 use Rattle.std.proofs.Common.{◌≡◌, List, length, sym, ap, ◌∙◌, arith, ℕ}
-use Rattle.blog_row.specs.LayoutView.{layout_columns}
-use Rattle.blog_row.specs.RowsEventView.{rows_content}
+use Rattle.blog_row.specs.code.LayoutView.{layout_columns}
+use Rattle.blog_row.specs.code.RowsEventView.{rows_content}
 use Rattle.blog_row.specs.RowsWriting.{no_extra}
 use Rattle.blog_row.specs.declared.kind.RowsKind.{RowsKind}
 use Rattle.blog_row.proofs.RowsCode.{two_lengths, images_are_joined}

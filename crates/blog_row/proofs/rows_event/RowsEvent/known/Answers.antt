@@ -1,9 +1,9 @@
 use Rattle.std.proofs.Common.{rules, arith, ◌<◌, ◌^◌, ◌∙◌, ℕ, length, sym, ap}
 use Rattle.blog_row.specs.RowsKind.{images_a_row}
 use Rattle.blog_row.specs.Image.{bitmap_len}
-use Rattle.blog_row.specs.LayoutView.{layout_columns}
+use Rattle.blog_row.specs.code.LayoutView.{layout_columns}
 use Rattle.blog_row.specs.RowsEvent.{pieces}
-use Rattle.blog_row.specs.RowsEventView.{front_seen, bitmaps_seen}
+use Rattle.blog_row.specs.code.RowsEventView.{front_seen, bitmaps_seen}
 use Rattle.blog_row.proofs.Walking.{rounded_up}
 use Rattle.blog_row.proofs.RowsCode.{some_columns, two_lengths, images_are_joined}
 use Rattle.blog_row.proofs.KnownRows.{KnownRows, known_rows}

@@ -1,6 +1,6 @@
 -- The front and the images make up the body.
 use Rattle.std.proofs.Common.{length, refl, arith, length-append, length-drop, ap, ◌∙◌, drop}
-use Rattle.blog_row.specs.RowsEventView.{rows_content, written_front}
+use Rattle.blog_row.specs.code.RowsEventView.{rows_content, written_front}
 use Rattle.blog_row.specs.RowsWriting.{content_in}
 use Rattle.blog_row.proofs.WrittenBody.{body-is-written, room-parts}
 use Rattle.blog_row.proofs.rows_event.RowsEvent.put_body.Goals as goal

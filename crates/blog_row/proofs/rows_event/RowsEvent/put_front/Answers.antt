@@ -3,7 +3,7 @@ use Rattle.std.proofs.Common.{ℕ, List, [], ◌∷◌, ◌++◌, length, take, 
 use Rattle.std.proofs.lemmas.List.{take_all}
 use Rattle.byteorder.specs.Endian.{little_bytes}
 use Rattle.blog_row.specs.declared.kind.RowsKind.{RowsKind}
-use Rattle.blog_row.specs.RowsEventView.{rows_content}
+use Rattle.blog_row.specs.code.RowsEventView.{rows_content}
 use Rattle.blog_row.specs.RowsWriting.{content_in, no_extra, written_flags}
 use Rattle.blog_row.proofs.WrittenBody.{kept, extra-front, front-parts}
 use Rattle.blog_row.proofs.rows_event.RowsEvent.put_front.Goals as goal

@@ -1,6 +1,6 @@
 use Rattle.std.proofs.Common.{sym, ap, ◌∙◌}
 use Rattle.std.specs.List.{concat}
-use Rattle.blog_row.specs.RowsEventView.{rows_content}
+use Rattle.blog_row.specs.code.RowsEventView.{rows_content}
 use Rattle.blog_row.specs.RowsWriting.{content_in}
 use Rattle.blog_row.proofs.ReversedRows.{images-reversed}
 use Rattle.blog_row.proofs.rows_event.RowsEvent.put_images.Goals as goal

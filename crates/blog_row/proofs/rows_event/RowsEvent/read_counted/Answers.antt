@@ -1,4 +1,4 @@
-use Rattle.blog_row.specs.LayoutView.{layout_columns}
+use Rattle.blog_row.specs.code.LayoutView.{layout_columns}
 use Rattle.blog_row.proofs.RowsCode.{some_columns, event_found}
 use Rattle.blog_row.proofs.rows_event.RowsEvent.read_counted.Goals as goal
 

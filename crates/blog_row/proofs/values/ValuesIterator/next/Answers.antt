@@ -2,7 +2,7 @@
 use Rattle.std.proofs.Common.{◌≡◌, ◌∙◌, ℕ, List, [], drop, get_or, Some, None, true, false, ap, sym}
 use Rattle.std.proofs.lemmas.List.{drop_all}
 use Rattle.blog_row.specs.Column.{Layout, value_front, columns_of}
-use Rattle.blog_row.specs.LayoutReading.{column_here}
+use Rattle.blog_row.specs.code.LayoutReading.{column_here}
 use Rattle.blog_row.specs.Image.{values_front, is_marked}
 use Rattle.blog_row.proofs.Walking.{front_is}
 use Rattle.blog_row.proofs.ValueWalking.{row_read, none_read, null_first, value_first, value_there}

@@ -1,7 +1,7 @@
 -- One value for each column that is left.
 use Rattle.std.proofs.Common.{◌≡◌, ℕ, length, drop, Some, ap, arith, length-drop}
 use Rattle.blog_row.specs.Column.{Layout, columns_of}
-use Rattle.blog_row.specs.ValuesView.{values_left}
+use Rattle.blog_row.specs.code.ValuesView.{values_left}
 use Rattle.blog_row.proofs.Layouts.{length_of_columns}
 use Rattle.blog_row.proofs.ValueWalking.{as_many_read}
 use Rattle.blog_row.proofs.values.ValuesIterator.size_hint.Goals as goal

@@ -1,6 +1,6 @@
 use Rattle.std.proofs.Common.{ap, slice_get}
 use Rattle.blog_trans.specs.Groups.{event_value}
-use Rattle.blog_trans.specs.IndexView.{index_groups, maps_in, placed, rows_in}
+use Rattle.blog_trans.specs.code.IndexView.{index_groups, maps_in, placed, rows_in}
 use Rattle.blog_trans.proofs.EntriesFound.{mapped}
 use Rattle.blog_flash.specs.Written.{Same}
 use Rattle.blog_split.proofs.CutLeft.{transaction-begun}

@@ -1,5 +1,5 @@
 use Rattle.std.proofs.Common.{◌≡◌, ◌-◌, ◌≤◌, true, vec_len}
-use Rattle.blog_split.specs.CutView.{cut_to_come}
+use Rattle.blog_split.specs.code.CutView.{cut_to_come}
 use Rattle.blog_split.proofs.cut_events.CutEvents.coming.Given as goal
 
 -- as many events are left

@@ -1,14 +1,14 @@
 use Rattle.std.proofs.Common.{[], List, Option, ◌≡◌, ◌++◌, length, map, drop, sym, ap, subst, arith}
 use Rattle.std.specs.Option.{option_map_or}
 use Rattle.std.proofs.lemmas.List.{drop_all}
-use Rattle.blog_trans.specs.Entries.{statements_at}
+use Rattle.blog_trans.specs.code.Entries.{statements_at}
 use Rattle.blog_trans.specs.Groups.{PlacedRows, PlacedStatement, transaction_value}
-use Rattle.blog_trans.specs.IndexView.{index_groups, maps_in, rows_in, statement_at}
+use Rattle.blog_trans.specs.code.IndexView.{index_groups, maps_in, rows_in, statement_at}
 use Rattle.blog_trans.proofs.IndexFacts.{some_found}
 use Rattle.blog_flash.specs.Written.{Written, groups_written}
-use Rattle.blog_split.specs.CutView.{end_behind, statements_behind}
-use Rattle.blog_split.specs.Greedy.{IsPieceEnd, cut_groups, rows_between}
-use Rattle.blog_split.specs.Marks.{AreUsed}
+use Rattle.blog_split.specs.code.CutView.{end_behind, statements_behind}
+use Rattle.blog_split.specs.code.Greedy.{IsPieceEnd, cut_groups, rows_between}
+use Rattle.blog_split.specs.code.Marks.{AreUsed}
 use Rattle.blog_split.proofs.CutLeft.{piece-opened}
 use Rattle.blog_split.proofs.cut_events.CutEvents.open_piece.Goals as goal
 

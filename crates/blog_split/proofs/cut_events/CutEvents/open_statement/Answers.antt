@@ -1,13 +1,13 @@
 use Rattle.std.proofs.Common.{[], List, Option, ◌≡◌, ◌+◌, ◌++◌, map, drop, slice_get, sym, ap, subst, ◌∙◌, arith}
 use Rattle.std.specs.Option.{option_map_or}
 use Rattle.std.proofs.lemmas.List.{drop_all}
-use Rattle.blog_trans.specs.Entries.{statements_at}
+use Rattle.blog_trans.specs.code.Entries.{statements_at}
 use Rattle.blog_trans.specs.Groups.{PlacedStatement, transaction_value}
-use Rattle.blog_trans.specs.IndexView.{index_groups, maps_in, rows_in, statement_at}
+use Rattle.blog_trans.specs.code.IndexView.{index_groups, maps_in, rows_in, statement_at}
 use Rattle.blog_trans.proofs.EntriesFound.{inner}
 use Rattle.blog_flash.specs.Written.{Written, groups_written}
-use Rattle.blog_split.specs.CutView.{end_behind, piece_left, pieces_behind, statements_behind}
-use Rattle.blog_split.specs.Greedy.{cut_groups}
+use Rattle.blog_split.specs.code.CutView.{end_behind, piece_left, pieces_behind, statements_behind}
+use Rattle.blog_split.specs.code.Greedy.{cut_groups}
 use Rattle.blog_split.proofs.Between.{at-some, rows-counted, some-from, statement-there}
 use Rattle.blog_split.proofs.CutLeft.{statement-none, statement-opened}
 use Rattle.blog_split.proofs.cut_events.CutEvents.open_statement.Goals as goal

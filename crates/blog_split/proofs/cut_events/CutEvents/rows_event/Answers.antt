@@ -1,13 +1,13 @@
 use Rattle.std.proofs.Common.{[], List, ◌≡◌, ◌∷◌, ◌++◌, ◌+◌, ◌-◌, length, map, drop, slice_get, nat_eq, refl, ap, ◌∙◌, arith}
 use Rattle.std.specs.Option.{option_map_or}
 use Rattle.std.proofs.lemmas.List.{drop_all}
-use Rattle.blog_trans.specs.Entries.{statements_at}
+use Rattle.blog_trans.specs.code.Entries.{statements_at}
 use Rattle.blog_trans.specs.Groups.{PlacedRows, transaction_value}
-use Rattle.blog_trans.specs.IndexView.{index_groups, maps_in, rows_in, rows_at, statement_at}
+use Rattle.blog_trans.specs.code.IndexView.{index_groups, maps_in, rows_in, rows_at, statement_at}
 use Rattle.blog_trans.proofs.IndexFacts.{some_found}
 use Rattle.blog_flash.specs.Written.{Written, groups_written}
-use Rattle.blog_split.specs.CutView.{end_behind, piece_left, pieces_behind, statements_behind}
-use Rattle.blog_split.specs.Greedy.{cut_groups}
+use Rattle.blog_split.specs.code.CutView.{end_behind, piece_left, pieces_behind, statements_behind}
+use Rattle.blog_split.specs.code.Greedy.{cut_groups}
 use Rattle.blog_split.proofs.Between.{rows-there, some-from}
 use Rattle.blog_split.proofs.CutLeft.{row-left}
 use Rattle.blog_split.proofs.Told.{told-by, row-told}

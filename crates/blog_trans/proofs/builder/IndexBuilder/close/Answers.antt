@@ -1,10 +1,10 @@
 use Rattle.std.proofs.Common.{sym, subst, ◌++◌}
 use Rattle.blog_trans.specs.Changes.{table_of}
-use Rattle.blog_trans.specs.ListsView.{open_behind, closed_by}
-use Rattle.blog_trans.specs.TablesView.{tables_known}
-use Rattle.blog_trans.specs.StatementMaps.{used_of}
-use Rattle.blog_trans.specs.CountsView.{AreCounts}
-use Rattle.blog_trans.specs.BuilderView.{progress_changes, progress_tables}
+use Rattle.blog_trans.specs.code.ListsView.{open_behind, closed_by}
+use Rattle.blog_trans.specs.code.TablesView.{tables_known}
+use Rattle.blog_trans.specs.code.StatementMaps.{used_of}
+use Rattle.blog_trans.specs.code.CountsView.{AreCounts}
+use Rattle.blog_trans.specs.code.BuilderView.{progress_changes, progress_tables}
 use Rattle.blog_trans.proofs.BuilderCode.{closed-counts, used-held}
 use Rattle.blog_trans.proofs.builder.IndexBuilder.close.Goals as goal
 

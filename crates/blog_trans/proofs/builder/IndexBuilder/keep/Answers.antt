@@ -1,10 +1,10 @@
 use Rattle.std.proofs.Common.{sym, subst}
 use Rattle.blog_trans.specs.Groups.{rows_value}
-use Rattle.blog_trans.specs.ListsView.{open_behind}
-use Rattle.blog_trans.specs.TablesView.{tables_known}
-use Rattle.blog_trans.specs.CheckerView.{IsKept}
-use Rattle.blog_trans.specs.CountsView.{AreCounts}
-use Rattle.blog_trans.specs.BuilderView.{progress_changes, progress_tables}
+use Rattle.blog_trans.specs.code.ListsView.{open_behind}
+use Rattle.blog_trans.specs.code.TablesView.{tables_known}
+use Rattle.blog_trans.specs.code.CheckerView.{IsKept}
+use Rattle.blog_trans.specs.code.CountsView.{AreCounts}
+use Rattle.blog_trans.specs.code.BuilderView.{progress_changes, progress_tables}
 use Rattle.blog_trans.proofs.BuilderCode.{changes-rows}
 use Rattle.blog_trans.proofs.BuilderSteps.{kept-some}
 use Rattle.blog_trans.proofs.builder.IndexBuilder.keep.Goals as goal

@@ -1,7 +1,7 @@
 use Rattle.std.proofs.Common.{List, [], map, length, sym, ap, subst, arith}
 use Rattle.blog_row.specs.TableMap.{Table}
-use Rattle.blog_trans.specs.TablesView.{table_named}
-use Rattle.blog_trans.specs.CountsView.{AreCounts}
+use Rattle.blog_trans.specs.code.TablesView.{table_named}
+use Rattle.blog_trans.specs.code.CountsView.{AreCounts}
 use Rattle.blog_trans.proofs.builder.IndexBuilder.new.Goals as goal
 
 pub returns-clause-walks : goal.returns-clause-walks

@@ -5,9 +5,9 @@ use Rattle.blog_row.specs.declared.event_kinds.EventKind.TheVariants as kind
 use Rattle.blog_trans.specs.Selection.{selection_of}
 use Rattle.blog_trans.specs.Places.{kind_at, is_inside, is_outside}
 use Rattle.blog_trans.specs.Acceptance.{IsRefusal}
-use Rattle.blog_trans.specs.Progress.{ended_if, progress}
-use Rattle.blog_trans.specs.TablesView.{tables_known}
-use Rattle.blog_trans.specs.BuilderView.{placed}
+use Rattle.blog_trans.specs.code.Progress.{ended_if, progress}
+use Rattle.blog_trans.specs.code.TablesView.{tables_known}
+use Rattle.blog_trans.specs.code.BuilderView.{placed}
 use Rattle.blog_trans.proofs.BuilderCode.{ended-counts}
 use Rattle.blog_trans.proofs.BuilderSteps.{ended-before, ending, open-end, keeps-as, keeps-grown, walks-other, walks-quiet}
 use Rattle.blog_trans.proofs.builder.IndexBuilder.step.Goals as goal

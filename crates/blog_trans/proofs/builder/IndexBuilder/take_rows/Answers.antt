@@ -1,10 +1,10 @@
 use Rattle.std.proofs.Common.{◌∷◌, ◌∙◌, ap, sym, subst, inl, reverse}
 use Rattle.blog_trans.specs.Places.{since}
 use Rattle.blog_trans.specs.Groups.{kept_rows}
-use Rattle.blog_trans.specs.Progress.{progress}
-use Rattle.blog_trans.specs.TablesView.{tables_known}
-use Rattle.blog_trans.specs.CheckerView.{HasChecked}
-use Rattle.blog_trans.specs.BuilderView.{placed}
+use Rattle.blog_trans.specs.code.Progress.{progress}
+use Rattle.blog_trans.specs.code.TablesView.{tables_known}
+use Rattle.blog_trans.specs.code.CheckerView.{HasChecked}
+use Rattle.blog_trans.specs.code.BuilderView.{placed}
 use Rattle.blog_trans.proofs.BuilderSteps.{keeps-grown, open-rows-event, as-open, no-used, taken, walks-rows, walks-last}
 use Rattle.blog_trans.proofs.builder.IndexBuilder.take_rows.Goals as goal
 

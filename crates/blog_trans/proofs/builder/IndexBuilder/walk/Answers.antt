@@ -2,11 +2,11 @@ use Rattle.std.proofs.Common.{◌≡◌, ◌∙◌, ◌∷◌, ◌&&◌, ◌==�
 use Rattle.std.proofs.lemmas.Result.{err_from_is_err_and}
 use Rattle.blog_event.specs.Event.{event_of, event_at, event_size}
 use Rattle.blog_event.specs.File.{Placed, is_below}
-use Rattle.blog_event.specs.LogView.{log_bytes}
+use Rattle.blog_event.specs.code.LogView.{log_bytes}
 use Rattle.blog_event.proofs.Opened.{log-reads}
 use Rattle.blog_trans.specs.Selection.{selection_of}
 use Rattle.blog_trans.specs.Acceptance.{range, read_fault, IsRefusal}
-use Rattle.blog_trans.specs.BuilderView.{HasTaken, placed}
+use Rattle.blog_trans.specs.code.BuilderView.{HasTaken, placed}
 use Rattle.blog_trans.proofs.WalkCode.{within-more, below-the-end, at-the-end, none-at-end, left-reached, reached-inside, left-on, left-refused, left-cut, left-over}
 use Rattle.blog_trans.proofs.builder.IndexBuilder.walk.Goals as goal
 

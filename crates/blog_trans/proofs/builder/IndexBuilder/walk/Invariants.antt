@@ -1,7 +1,7 @@
 use Rattle.std.proofs.Common.{◌-◌, ◌<◌, ◌≤◌, length}
-use Rattle.blog_event.specs.LogView.{log_bytes}
+use Rattle.blog_event.specs.code.LogView.{log_bytes}
 use Rattle.blog_trans.specs.Selection.{selection_of}
-use Rattle.blog_trans.specs.BuilderView.{IsWithin}
+use Rattle.blog_trans.specs.code.BuilderView.{IsWithin}
 use Rattle.blog_trans.proofs.WalkCode.{Left}
 use Rattle.blog_trans.proofs.builder.IndexBuilder.walk.Given as goal
 

@@ -8,7 +8,7 @@ use Rattle.blog_event.specs.File.{Placed}
 use Rattle.blog_row.specs.TableMap.{HasNames, Names, names_of, map_names, map_seen}
 use Rattle.blog_trans.specs.Places.{is_inside, is_map_of, since}
 use Rattle.blog_trans.specs.Selection.{Selection, selection_of}
-use Rattle.blog_trans.specs.TablesView.{tables_known}
+use Rattle.blog_trans.specs.code.TablesView.{tables_known}
 use Rattle.blog_trans.proofs.TableNumbers.{new-numbered}
 use Rattle.blog_trans.specs.declared.checker.MapSeen.{MapSeen}
 use Rattle.blog_row.specs.RowsEvent.{table_id}

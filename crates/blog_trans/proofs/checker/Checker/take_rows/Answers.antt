@@ -4,7 +4,7 @@ use Rattle.std.specs.Prelude.{is_some}
 use Rattle.blog_event.specs.Fault.{fault_at}
 use Rattle.blog_trans.specs.declared.checker.MapSeen.{MapSeen}
 use Rattle.blog_trans.specs.Places.{placed, since}
-use Rattle.blog_trans.specs.TablesView.{tables_known}
+use Rattle.blog_trans.specs.code.TablesView.{tables_known}
 use Rattle.blog_trans.proofs.CheckingRows.{no-map, goes-by, knows-rows}
 use Rattle.blog_trans.proofs.checker.Checker.take_rows.Goals as goal
 

@@ -1,6 +1,6 @@
 use Rattle.std.proofs.Common.{◌∙◌, ap, sym, slice_set, refl}
 use Rattle.std.proofs.lemmas.Option.{slice_get_read, slice_get_within}
-use Rattle.blog_trans.specs.CountsView.{with_images}
+use Rattle.blog_trans.specs.code.CountsView.{with_images}
 use Rattle.blog_trans.proofs.CountsCode.{counts-more}
 use Rattle.blog_trans.proofs.counts.Counts.count.Goals as goal
 

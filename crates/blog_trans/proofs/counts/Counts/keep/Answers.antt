@@ -6,8 +6,8 @@ use Rattle.std.proofs.lemmas.Iterator.Consumers.{YieldsList-end, YieldsList-from
 use Rattle.indexmap.specs.IndexMap.{values}
 use Rattle.blog_trans.specs.declared.layouts.SelectedTable.{SelectedTable}
 use Rattle.blog_trans.specs.Changes.{table_of}
-use Rattle.blog_trans.specs.CountsView.{AreCounts}
-use Rattle.blog_trans.specs.TablesView.{IsNumbered}
+use Rattle.blog_trans.specs.code.CountsView.{AreCounts}
+use Rattle.blog_trans.specs.code.TablesView.{IsNumbered}
 use Rattle.blog_trans.proofs.CountsCode.{tables_used, used-more, all-last}
 use Rattle.blog_trans.proofs.counts.Counts.keep.Goals as goal
 

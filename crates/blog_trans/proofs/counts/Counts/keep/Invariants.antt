@@ -2,9 +2,9 @@ use Rattle.std.proofs.Common.{◌≡◌, ◌++◌, List, map}
 use Rattle.std.specs.List.{AllByRecursion}
 use Rattle.blog_row.specs.TableMap.{Table}
 use Rattle.blog_trans.specs.Changes.{Change, table_of}
-use Rattle.blog_trans.specs.TablesView.{IsNumbered}
-use Rattle.blog_trans.specs.StatementMaps.{used_maps}
-use Rattle.blog_trans.specs.CountsView.{AreCounts}
+use Rattle.blog_trans.specs.code.TablesView.{IsNumbered}
+use Rattle.blog_trans.specs.code.StatementMaps.{used_maps}
+use Rattle.blog_trans.specs.code.CountsView.{AreCounts}
 use Rattle.blog_trans.proofs.counts.Counts.keep.Given as goal
 
 -- the tables of the maps so far are taken

@@ -1,7 +1,7 @@
 use Rattle.std.proofs.Common.{ap, length, map, slice_get, arith, []}
 use Rattle.std.specs.List.{IsDistinct}
 use Rattle.blog_row.specs.TableMap.{Table}
-use Rattle.blog_trans.specs.CountsView.{told_of}
+use Rattle.blog_trans.specs.code.CountsView.{told_of}
 use Rattle.blog_trans.proofs.counts.Counts.new.Goals as goal
 
 pub returns-clause-counts : goal.returns-clause-counts

@@ -1,8 +1,8 @@
 use Rattle.std.proofs.Common.{[], ◌∷◌, slice_get, refl, ap, ◌∙◌, arith}
 use Rattle.std.specs.Option.{option_map_or}
-use Rattle.blog_trans.specs.Entries.{statements_at}
-use Rattle.blog_trans.specs.IndexView.{index_groups, placed, rows_in}
-use Rattle.blog_trans.specs.InTurn.{Ends}
+use Rattle.blog_trans.specs.code.Entries.{statements_at}
+use Rattle.blog_trans.specs.code.IndexView.{index_groups, placed, rows_in}
+use Rattle.blog_trans.specs.code.InTurn.{Ends}
 use Rattle.blog_trans.proofs.EntriesFound.{counted, mapped}
 use Rattle.blog_trans.proofs.Turns.{all-among, first-taken, none-in-order}
 use Rattle.blog_trans.proofs.group_events.GroupEvents.begin.Goals as goal

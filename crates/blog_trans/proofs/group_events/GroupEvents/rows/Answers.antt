@@ -1,12 +1,12 @@
 use Rattle.std.proofs.Common.{◌+◌, ◌<◌, Some, Ok, IsSome, rules, refl, sym, ap, subst, ◌∙◌, arith}
 use Rattle.std.proofs.lemmas.Option.{slice_get_within}
-use Rattle.blog_row.specs.LayoutView.{layout_columns}
-use Rattle.blog_row.specs.RowsEventView.{rows_kind, rows_body}
+use Rattle.blog_row.specs.code.LayoutView.{layout_columns}
+use Rattle.blog_row.specs.code.RowsEventView.{rows_kind, rows_body}
 use Rattle.blog_trans.specs.Groups.{PlacedRows}
-use Rattle.blog_trans.specs.Entries.{rows_entry}
-use Rattle.blog_trans.specs.IndexView.{index_groups, maps_in, placed, rows_in, statement_at}
-use Rattle.blog_trans.specs.InTurn.{in_order}
-use Rattle.blog_trans.specs.GroupEventsView.{among}
+use Rattle.blog_trans.specs.code.Entries.{rows_entry}
+use Rattle.blog_trans.specs.code.IndexView.{index_groups, maps_in, placed, rows_in, statement_at}
+use Rattle.blog_trans.specs.code.InTurn.{in_order}
+use Rattle.blog_trans.specs.code.GroupEventsView.{among}
 use Rattle.blog_trans.proofs.EntriesFound.{inner}
 use Rattle.blog_trans.proofs.IndexFacts.{rows_read}
 use Rattle.blog_trans.proofs.Turns.{first-taken, none-among, none-in-order, rows-last, some-in-order, taken-among}

@@ -1,8 +1,8 @@
 use Rattle.std.proofs.Common.{◌≤◌, length, slice_get, rules, append_assoc, sym, ap, refl, arith, ◌∙◌, []}
 use Rattle.std.specs.Option.{option_map_or}
 use Rattle.blog_row.specs.declared.order.Order.TheVariants.{Forward}
-use Rattle.blog_trans.specs.Entries.{statements_at}
-use Rattle.blog_trans.specs.IndexView.{index_groups, maps_in, placed, rows_in, statement_at}
+use Rattle.blog_trans.specs.code.Entries.{statements_at}
+use Rattle.blog_trans.specs.code.IndexView.{index_groups, maps_in, placed, rows_in, statement_at}
 use Rattle.blog_trans.proofs.EntriesFound.{counted, inner, mapped}
 use Rattle.blog_trans.proofs.Turns.{all-among, first-taken, none-among, none-in-order, one-below, taken-among}
 use Rattle.blog_trans.proofs.group_events.GroupEventsIterator.next.Goals as goal

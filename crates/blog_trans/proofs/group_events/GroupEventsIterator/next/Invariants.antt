@@ -1,5 +1,5 @@
 use Rattle.std.proofs.Common.{◌≡◌, ◌-◌, true}
-use Rattle.blog_trans.specs.GroupEventsView.{events_left}
+use Rattle.blog_trans.specs.code.GroupEventsView.{events_left}
 use Rattle.blog_trans.proofs.group_events.GroupEventsIterator.next.Given as goal
 
 abbrev pub invariant-statements : goal.invariant-statements

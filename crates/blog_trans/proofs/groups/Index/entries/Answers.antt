@@ -1,6 +1,6 @@
 -- The entries are those of the events that the groups show.
 use Rattle.std.proofs.Common.{arith, ◌∙◌}
-use Rattle.blog_trans.specs.IndexView.{index_bytes, index_selection}
+use Rattle.blog_trans.specs.code.IndexView.{index_bytes, index_selection}
 use Rattle.blog_trans.proofs.Shown.{entries-at, entries-once, entries-few}
 use Rattle.blog_trans.proofs.groups.Index.entries.Goals as goal
 

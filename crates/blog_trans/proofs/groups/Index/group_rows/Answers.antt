@@ -3,11 +3,11 @@ use Rattle.std.proofs.Common.{IsSome, is_some, sym, ap, ◌∙◌, arith}
 use Rattle.std.specs.Result.{IsOk, is_ok}
 use Rattle.std.proofs.lemmas.Option.{none-some, slice_get_within}
 use Rattle.blog_row.specs.TableMap.{names_of, layout_of}
-use Rattle.blog_row.specs.LayoutView.{layout_columns}
-use Rattle.blog_row.specs.RowsEventView.{rows_kind, rows_body}
+use Rattle.blog_row.specs.code.LayoutView.{layout_columns}
+use Rattle.blog_row.specs.code.RowsEventView.{rows_kind, rows_body}
 use Rattle.blog_trans.specs.declared.lists.Entry.{Entry}
-use Rattle.blog_trans.specs.Entries.{rows_entry}
-use Rattle.blog_trans.specs.IndexView.{index_bytes}
+use Rattle.blog_trans.specs.code.Entries.{rows_entry}
+use Rattle.blog_trans.specs.code.IndexView.{index_bytes}
 use Rattle.blog_trans.proofs.IndexFacts.{some_at}
 use Rattle.blog_trans.proofs.IndexRows.{own_entry, own_event, own_map, map_told, kind_same, type_known, body_read, same_body, rows_is}
 use Rattle.blog_trans.proofs.groups.Index.group_rows.Goals as goal

@@ -1,7 +1,7 @@
 use Rattle.std.proofs.Common.{sym, ap}
 use Rattle.std.specs.List.{flat_map}
-use Rattle.blog_trans.specs.IndexView.{index_groups}
-use Rattle.blog_trans.specs.InTurn.{in_order, in_turn, transaction_in_turn}
+use Rattle.blog_trans.specs.code.IndexView.{index_groups}
+use Rattle.blog_trans.specs.code.InTurn.{in_order, in_turn, transaction_in_turn}
 use Rattle.blog_trans.proofs.Turns.{all-among}
 use Rattle.blog_trans.proofs.groups.Index.in_turn.Goals as goal
 

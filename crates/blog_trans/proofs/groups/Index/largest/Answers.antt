@@ -2,7 +2,7 @@ use Rattle.std.proofs.Common.{◌+◌, max, drop, ap, sym, ◌∙◌, arith}
 use Rattle.std.proofs.lemmas.List.{drop_all}
 use Rattle.blog_event.specs.Event.{event_size}
 use Rattle.blog_event.specs.File.{Placed}
-use Rattle.blog_trans.specs.IndexView.{index_bytes, index_selection}
+use Rattle.blog_trans.specs.code.IndexView.{index_bytes, index_selection}
 use Rattle.blog_trans.specs.Shown.{largest, shown}
 use Rattle.blog_trans.proofs.Largest.{entry-shown, shown-many}
 use Rattle.blog_trans.proofs.Turns.{drop-at}

@@ -1,5 +1,5 @@
 use Rattle.std.proofs.Common.{◌≡◌, drop}
-use Rattle.blog_trans.specs.IndexView.{index_bytes, index_selection}
+use Rattle.blog_trans.specs.code.IndexView.{index_bytes, index_selection}
 use Rattle.blog_trans.specs.Shown.{largest, shown}
 use Rattle.blog_trans.proofs.groups.Index.largest.Given as goal
 

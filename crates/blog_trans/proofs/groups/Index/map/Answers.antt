@@ -4,7 +4,7 @@ use Rattle.blog_event.specs.File.{Placed}
 use Rattle.blog_row.specs.TableMap.{names_of}
 use Rattle.blog_trans.proofs.EntriesFound.{list_some}
 use Rattle.blog_trans.proofs.IndexFacts.{map_known, map_read}
-use Rattle.blog_trans.specs.IndexView.{index_groups, statement_at}
+use Rattle.blog_trans.specs.code.IndexView.{index_groups, statement_at}
 use Rattle.blog_trans.proofs.groups.Index.map.Goals as goal
 
 pub statement-requires : goal.statement-requires

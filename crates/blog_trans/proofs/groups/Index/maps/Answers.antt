@@ -1,5 +1,5 @@
 use Rattle.std.proofs.Common.{sym}
-use Rattle.blog_trans.specs.IndexView.{index_groups, statement_at}
+use Rattle.blog_trans.specs.code.IndexView.{index_groups, statement_at}
 use Rattle.blog_trans.proofs.EntriesFound.{many}
 use Rattle.blog_trans.proofs.groups.Index.maps.Goals as goal
 

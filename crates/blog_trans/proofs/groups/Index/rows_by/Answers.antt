@@ -1,8 +1,8 @@
 use Rattle.std.proofs.Common.{◌+◌, Some, Ok, refl, sym, ap, ◌∙◌, arith}
 use Rattle.std.proofs.lemmas.Option.{slice_get_within}
-use Rattle.blog_row.specs.LayoutView.{layout_columns}
-use Rattle.blog_trans.specs.Entries.{rows_entry}
-use Rattle.blog_trans.specs.IndexView.{index_groups, statement_at}
+use Rattle.blog_row.specs.code.LayoutView.{layout_columns}
+use Rattle.blog_trans.specs.code.Entries.{rows_entry}
+use Rattle.blog_trans.specs.code.IndexView.{index_groups, statement_at}
 use Rattle.blog_trans.proofs.EntriesFound.{list_some}
 use Rattle.blog_trans.proofs.IndexFacts.{rows_read}
 use Rattle.blog_trans.proofs.groups.Index.rows_by.Goals as goal

@@ -5,8 +5,8 @@ use Rattle.blog_row.specs.RowsEvent.{IsRowsBody}
 use Rattle.blog_row.specs.RowsWriting.{content_of, written_body}
 use Rattle.blog_row.specs.declared.kind.RowsKind.{RowsKind}
 use Rattle.blog_trans.specs.declared.lists.Entry.{Entry}
-use Rattle.blog_trans.specs.Entries.{rows_entry}
-use Rattle.blog_trans.specs.IndexView.{Stands, index_bytes, index_selection}
+use Rattle.blog_trans.specs.code.Entries.{rows_entry}
+use Rattle.blog_trans.specs.code.IndexView.{Stands, index_bytes, index_selection}
 use Rattle.blog_trans.proofs.IndexFacts.{some_at}
 use Rattle.blog_trans.proofs.IndexRows.{own_entry, own_event, kind_same, type_known}
 use Rattle.blog_trans.proofs.RowsFields.{fields-found}

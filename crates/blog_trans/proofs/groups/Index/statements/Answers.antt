@@ -1,5 +1,5 @@
 use Rattle.std.proofs.Common.{Some, length, option_map, ap, ◌∙◌, arith}
-use Rattle.blog_trans.specs.IndexView.{index_groups}
+use Rattle.blog_trans.specs.code.IndexView.{index_groups}
 use Rattle.blog_trans.proofs.EntriesFound.{flat_next}
 use Rattle.blog_trans.proofs.IndexFacts.{found, many_transactions}
 use Rattle.blog_trans.proofs.groups.Index.statements.Goals as goal

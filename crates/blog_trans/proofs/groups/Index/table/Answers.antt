@@ -1,9 +1,9 @@
 use Rattle.std.proofs.Common.{◌≡◌, Some, None, sym, ap, ◌∙◌, arith}
 use Rattle.std.proofs.lemmas.Option.{none-some, same_Some}
-use Rattle.blog_trans.specs.IndexView.{index_bytes, index_groups, index_selection}
-use Rattle.blog_trans.specs.BuilderView.{placed_changes, placed_tables}
-use Rattle.blog_trans.specs.TablesView.{table_named, tables_known}
-use Rattle.blog_trans.specs.CountsView.{counted}
+use Rattle.blog_trans.specs.code.IndexView.{index_bytes, index_groups, index_selection}
+use Rattle.blog_trans.specs.code.BuilderView.{placed_changes, placed_tables}
+use Rattle.blog_trans.specs.code.TablesView.{table_named, tables_known}
+use Rattle.blog_trans.specs.code.CountsView.{counted}
 use Rattle.blog_trans.proofs.IndexTables.{many_same, counts_same, many_firsts}
 use Rattle.blog_trans.proofs.TableNumbers.{named_at}
 use Rattle.blog_trans.proofs.groups.Index.table.Goals as goal

@@ -1,7 +1,7 @@
 use Rattle.std.proofs.Common.{◌∙◌}
-use Rattle.blog_trans.specs.TablesView.{tables_known}
-use Rattle.blog_trans.specs.IndexView.{index_bytes, index_groups, index_selection}
-use Rattle.blog_trans.specs.BuilderView.{placed_changes, placed_tables}
+use Rattle.blog_trans.specs.code.TablesView.{tables_known}
+use Rattle.blog_trans.specs.code.IndexView.{index_bytes, index_groups, index_selection}
+use Rattle.blog_trans.specs.code.BuilderView.{placed_changes, placed_tables}
 use Rattle.blog_trans.proofs.IndexTables.{many_same}
 use Rattle.blog_trans.proofs.groups.Index.tables.Goals as goal
 

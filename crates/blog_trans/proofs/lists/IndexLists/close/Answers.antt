@@ -1,6 +1,6 @@
 use Rattle.std.proofs.Common.{refl, arith}
 use Rattle.indexmap.specs.IndexMap.{values}
-use Rattle.blog_trans.specs.StatementMaps.{used_maps}
+use Rattle.blog_trans.specs.code.StatementMaps.{used_maps}
 use Rattle.blog_trans.proofs.EntriesKept.{closed}
 use Rattle.blog_trans.proofs.lists.IndexLists.close.Goals as goal
 

@@ -1,5 +1,5 @@
 use Rattle.std.proofs.Common.{◌++◌, ◌∷◌, [], refl, sym, ap, ◌∙◌, arith}
-use Rattle.blog_trans.specs.Entries.{entry_at}
+use Rattle.blog_trans.specs.code.Entries.{entry_at}
 use Rattle.blog_trans.proofs.EntriesKept.{left_out, taken}
 use Rattle.blog_trans.proofs.lists.IndexLists.end.Goals as goal
 

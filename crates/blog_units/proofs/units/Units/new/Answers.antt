@@ -1,5 +1,5 @@
 use Rattle.std.proofs.Common.{None, List, map, sym, ap}
-use Rattle.blog_event.specs.LogView.{log_bytes}
+use Rattle.blog_event.specs.code.LogView.{log_bytes}
 use Rattle.blog_event.proofs.Opened.{log-opened, log-reads}
 use Rattle.blog_units.specs.Units.{Unit, facts_of}
 use Rattle.blog_units.proofs.Behind.{behind-first, boundary-first}

@@ -1,5 +1,5 @@
 use Rattle.std.proofs.Common.{refl}
-use Rattle.blog_event.specs.LogView.{log_bytes}
+use Rattle.blog_event.specs.code.LogView.{log_bytes}
 use Rattle.blog_units.proofs.Stepping.{next-facts}
 use Rattle.blog_units.proofs.units.UnitsIterator.next.Goals as goal
 

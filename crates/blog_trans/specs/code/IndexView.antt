@@ -3,7 +3,7 @@ use Rattle.std.specs.Prelude.{◌≡◌, ℕ, ◌+◌, List, [], length, drop, O
 use Rattle.std.specs.Option.{option_map_or}
 use Rattle.blog_event.specs.Event.{event_at}
 use Rattle.blog_event.specs.File.{Placed}
-use Rattle.blog_event.specs.LogView.{log_bytes}
+use Rattle.blog_event.specs.code.LogView.{log_bytes}
 pub use Rattle.blog_trans.specs.Places.{placed}
 use Rattle.blog_trans.specs.declared.groups.Index.{Index}
 use Rattle.blog_trans.specs.declared.groups.TableCount as told
@@ -11,7 +11,7 @@ use Rattle.blog_trans.specs.Selection.{Selection, selection_of}
 use Rattle.blog_trans.specs.Groups.{PlacedRows, PlacedStatement, PlacedTransaction, placed_groups}
 use Rattle.blog_trans.specs.Changes.{TableCount}
 use Rattle.blog_trans.specs.declared.lists.Entry.{Entry}
-use Rattle.blog_trans.specs.Entries.{rows_entry, statement_place}
+use Rattle.blog_trans.specs.code.Entries.{rows_entry, statement_place}
 use Rattle.blog_trans.specs.PlacedFacts.{IsPlacedRows}
 
 -- the bytes of its log

@@ -8,7 +8,7 @@ use Rattle.blog_row.specs.RowsEvent.{RowImages}
 use Rattle.blog_row.specs.TableMap.{Table}
 use Rattle.blog_trans.specs.Changes.{Inserted, Deleted, Updated, changes_of_rows}
 use Rattle.blog_trans.specs.Groups.{rows_value}
-use Rattle.blog_trans.specs.InTurn.{GroupEvent, Begins, Maps, Changes, Ends}
+use Rattle.blog_trans.specs.code.InTurn.{GroupEvent, Begins, Maps, Changes, Ends}
 use Rattle.blog_flash.specs.Printed.{line, quoted_table, value_text, change_lines}
 
 -- the line of the value of the column with this number

@@ -10,15 +10,15 @@ use Rattle.blog_row.specs.TableMap.{Table}
 pub use Rattle.blog_trans.specs.Places.{placed}
 use Rattle.blog_trans.specs.declared.builder.IndexBuilder.{IndexBuilder}
 use Rattle.blog_trans.specs.Selection.{Selection}
-use Rattle.blog_trans.specs.TablesView.{tables_known}
+use Rattle.blog_trans.specs.code.TablesView.{tables_known}
 use Rattle.blog_trans.specs.Places.{since}
 use Rattle.blog_trans.specs.Groups.{PlacedRows, PlacedStatement, rows_value, PlacedTransaction}
 use Rattle.blog_trans.specs.Changes.{Change, table_of, changes_of_rows}
-use Rattle.blog_trans.specs.Progress.{Open, Progress, progress}
+use Rattle.blog_trans.specs.code.Progress.{Open, Progress, progress}
 use Rattle.blog_trans.specs.Acceptance.{HavePassed, IsRefusal}
-use Rattle.blog_trans.specs.CheckerView.{HasChecked}
-use Rattle.blog_trans.specs.ListsView.{HasKept}
-use Rattle.blog_trans.specs.CountsView.{AreCounts}
+use Rattle.blog_trans.specs.code.CheckerView.{HasChecked}
+use Rattle.blog_trans.specs.code.ListsView.{HasKept}
+use Rattle.blog_trans.specs.code.CountsView.{AreCounts}
 
 -- ---- the changes and the tables of what is kept
 

@@ -1,7 +1,7 @@
 -- What a contract sees of the groups of an index that are to be written.
 use Rattle.std.specs.Prelude.{List, map}
-use Rattle.blog_trans.specs.GroupEventsView.{events_left}
-use Rattle.blog_flash.specs.LaidOut.{written_in}
+use Rattle.blog_trans.specs.code.GroupEventsView.{events_left}
+use Rattle.blog_flash.specs.code.LaidOut.{written_in}
 use Rattle.blog_flash.specs.Written.{Written}
 use Rattle.blog_flash.specs.declared.written_events.WrittenGroups.{WrittenGroups}
 

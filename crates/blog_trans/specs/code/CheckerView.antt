@@ -12,7 +12,7 @@ use Rattle.blog_event.specs.File.{Placed, AreBytes}
 use Rattle.blog_row.specs.declared.layout.Layout as told
 use Rattle.blog_row.specs.declared.kind.RowsKind.{RowsKind}
 use Rattle.blog_row.specs.Column.{Layout}
-use Rattle.blog_row.specs.LayoutView.{layout_columns}
+use Rattle.blog_row.specs.code.LayoutView.{layout_columns}
 use Rattle.blog_row.specs.TableMap.{names_of, layout_of, Table}
 use Rattle.blog_row.specs.RowsEvent.{table_id, has_end_flag}
 use Rattle.blog_trans.specs.declared.checker.Checker.{Checker}
@@ -25,8 +25,8 @@ use Rattle.blog_trans.specs.Changes.{table_of}
 use Rattle.blog_trans.specs.Groups.{PlacedRows, kept_rows}
 use Rattle.blog_trans.specs.Places.{is_map, is_rows, is_map_of, map_in, place, since}
 use Rattle.blog_trans.specs.Acceptance.{is_selected, clashes_by_id, clashes_by_layout, have_same_layout, rows_check, selected_map_checks, event_fault, IsRefusal}
-use Rattle.blog_trans.specs.StatementMaps.{first_of_ids, facts_of, facts_held}
-use Rattle.blog_trans.specs.TablesView.{table_named, tables_known, IsNumbered}
+use Rattle.blog_trans.specs.code.StatementMaps.{first_of_ids, facts_of, facts_held}
+use Rattle.blog_trans.specs.code.TablesView.{table_named, tables_known, IsNumbered}
 
 -- ---- the open statement
 

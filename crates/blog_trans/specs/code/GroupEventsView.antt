@@ -6,13 +6,13 @@ use Rattle.std.specs.Iterator.{YieldsFirstBy}
 use Rattle.blog_event.specs.declared.event.Event as told
 use Rattle.blog_event.specs.Event.{event_of, event_size}
 use Rattle.blog_row.specs.TableMap.{names_of, layout_of, map_names}
-use Rattle.blog_row.specs.LayoutView.{layout_columns}
-use Rattle.blog_row.specs.RowsEventView.{rows_kind, rows_layout, rows_body}
+use Rattle.blog_row.specs.code.LayoutView.{layout_columns}
+use Rattle.blog_row.specs.code.RowsEventView.{rows_kind, rows_layout, rows_body}
 use Rattle.blog_event.specs.File.{Placed}
 use Rattle.blog_trans.specs.Groups.{PlacedRows, PlacedTransaction}
-use Rattle.blog_trans.specs.Entries.{statements_at}
-use Rattle.blog_trans.specs.InTurn.{GroupEvent, Begins, Maps, Changes, Ends, in_order, rows_in_turn, statement_in_turn, transaction_in_turn}
-use Rattle.blog_trans.specs.IndexView.{index_groups, maps_in, placed, rows_in}
+use Rattle.blog_trans.specs.code.Entries.{statements_at}
+use Rattle.blog_trans.specs.code.InTurn.{GroupEvent, Begins, Maps, Changes, Ends, in_order, rows_in_turn, statement_in_turn, transaction_in_turn}
+use Rattle.blog_trans.specs.code.IndexView.{index_groups, maps_in, placed, rows_in}
 use Rattle.blog_trans.specs.declared.group_events.GroupRows.{GroupRows}
 use Rattle.blog_trans.specs.declared.group_events.GroupEvent as seen
 use Rattle.blog_trans.specs.declared.group_events.GroupEvent.TheVariants as given

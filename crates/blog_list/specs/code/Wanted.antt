@@ -6,7 +6,7 @@ use Rattle.blog_event.specs.declared.fault.Fault.{Fault}
 use Rattle.blog_trans.specs.declared.groups.Index.{Index}
 use Rattle.blog_trans.specs.Changes.{TableCount, counts_of}
 use Rattle.blog_trans.specs.Groups.{groups}
-use Rattle.blog_trans.specs.IndexView.{index_bytes, index_selection}
+use Rattle.blog_trans.specs.code.IndexView.{index_bytes, index_selection}
 use Rattle.blog_trans.specs.Selection.{is_wanted}
 use Rattle.blog_units.specs.declared.unit.Unit.{Unit}
 use Rattle.blog_list.specs.declared.wanted.Wanted.{Wanted}

@@ -4,8 +4,8 @@ use Rattle.std.specs.List.{flat_map}
 use Rattle.blog_event.specs.File.{Placed}
 use Rattle.blog_trans.specs.declared.lists.IndexLists.{IndexLists}
 use Rattle.blog_trans.specs.Groups.{PlacedRows, PlacedStatement, PlacedTransaction}
-use Rattle.blog_trans.specs.Progress.{Open, Progress}
-use Rattle.blog_trans.specs.Entries.{statement_entries, entries_of, statements_in, Shows}
+use Rattle.blog_trans.specs.code.Progress.{Open, Progress}
+use Rattle.blog_trans.specs.code.Entries.{statement_entries, entries_of, statements_in, Shows}
 
 -- where the open transaction begins in the list, how many statements stand before it, and where its open statement begins
 pub record AreMarks (transaction first statement : ℕ) (done : List PlacedTransaction) (o : Open) : Type 0 where

@@ -10,7 +10,7 @@ use Rattle.blog_trans.specs.declared.place.Place.{Place}
 use Rattle.blog_trans.specs.Selection.{Selection}
 use Rattle.blog_trans.specs.Places.{is_outside}
 use Rattle.blog_trans.specs.Acceptance.{range, is_in_range, is_start_inside, first_read_fault, is_cut, IsRefusal}
-use Rattle.blog_trans.specs.BuilderView.{HasTaken}
+use Rattle.blog_trans.specs.code.BuilderView.{HasTaken}
 
 -- an event is read and nothing is asked of it: it isn't in the range, and the start isn't inside of it
 abbrev pub IsPassedBy : Selection → Placed → Type 0

@@ -15,7 +15,7 @@ use Rattle.blog_row.specs.declared.rows_event.RowsEvent as told
 use Rattle.blog_row.specs.declared.layout.Layout as columns
 use Rattle.blog_row.specs.Checks.{cut}
 use Rattle.blog_row.specs.Image.{images_of}
-use Rattle.blog_row.specs.LayoutView.{layout_columns}
+use Rattle.blog_row.specs.code.LayoutView.{layout_columns}
 use Rattle.blog_row.specs.RowsEvent.{RowsBody, bitmaps_by, extra_of, fixed_len, table_id, flags_of}
 use Rattle.blog_row.specs.RowsWriting.{RowsContent, content_of, no_extra, written_flags}
 

@@ -9,7 +9,7 @@ use Rattle.blog_trans.specs.declared.lists.StatementStart.{StatementStart}
 use Rattle.blog_trans.specs.declared.lists.TransactionStart.{TransactionStart}
 use Rattle.blog_trans.specs.declared.checker.MapSeen.{MapSeen}
 use Rattle.blog_trans.specs.Groups.{PlacedRows, PlacedStatement, PlacedTransaction}
-use Rattle.blog_trans.specs.Progress.{Open, Progress}
+use Rattle.blog_trans.specs.code.Progress.{Open, Progress}
 
 -- ---- entries
 

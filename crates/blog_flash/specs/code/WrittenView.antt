@@ -1,6 +1,6 @@
 -- What a contract sees of events that are to be written.
 use Rattle.blog_event.specs.Event.{event_of, unplaced}
-use Rattle.blog_row.specs.RowsEventView.{rows_content}
+use Rattle.blog_row.specs.code.RowsEventView.{rows_content}
 use Rattle.blog_row.specs.RowsWriting.{content_in}
 use Rattle.blog_trans.specs.Groups.{RowsEvent}
 use Rattle.blog_flash.specs.Written as value

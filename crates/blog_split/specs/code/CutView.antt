@@ -4,15 +4,15 @@ use Rattle.std.specs.Option.{option_map_or}
 use Rattle.std.specs.List.{flat_map}
 use Rattle.std.specs.Iterator.{YieldsFirstBy}
 use Rattle.blog_event.specs.File.{Placed}
-use Rattle.blog_trans.specs.Entries.{statements_at}
+use Rattle.blog_trans.specs.code.Entries.{statements_at}
 use Rattle.blog_trans.specs.Groups.{PlacedRows, PlacedStatement, PlacedTransaction, event_value, statement_value, transaction_value}
-use Rattle.blog_trans.specs.IndexView.{index_groups, maps_in, rows_in}
+use Rattle.blog_trans.specs.code.IndexView.{index_groups, maps_in, rows_in}
 use Rattle.blog_flash.specs.Written.{Written, Same, Maps, groups_written, rows_written, statement_written}
-use Rattle.blog_flash.specs.WrittenView.{written_told}
+use Rattle.blog_flash.specs.code.WrittenView.{written_told}
 use Rattle.blog_flash.specs.declared.written_event.WrittenEvent.{WrittenEvent}
 use Rattle.blog_split.specs.Cuts.{piece_statement}
-use Rattle.blog_split.specs.Greedy.{cut_groups, cut_statement, pieces_of, rows_between}
-use Rattle.blog_split.specs.Marks.{numbered}
+use Rattle.blog_split.specs.code.Greedy.{cut_groups, cut_statement, pieces_of, rows_between}
+use Rattle.blog_split.specs.code.Marks.{numbered}
 use Rattle.blog_split.specs.declared.cut_events.Coming.{Coming}
 use Rattle.blog_split.specs.declared.cut_events.Coming.TheVariants.{Begin, Map, Rows, End}
 use Rattle.blog_split.specs.declared.cut_events.CutEvents.{CutEvents}

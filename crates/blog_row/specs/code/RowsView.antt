@@ -2,7 +2,7 @@
 use Rattle.std.specs.Prelude.{ℕ, List, [], length, option_map, unwrap_or}
 use Rattle.blog_row.specs.declared.rows.RowChange as row
 use Rattle.blog_row.specs.declared.rows.Rows as told
-use Rattle.blog_row.specs.LayoutView.{layout_columns}
+use Rattle.blog_row.specs.code.LayoutView.{layout_columns}
 use Rattle.blog_row.specs.Image.{images_of}
 use Rattle.blog_row.specs.RowsEvent.{RowImages, rows_by}
 

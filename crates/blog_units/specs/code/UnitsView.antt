@@ -6,16 +6,16 @@ use Rattle.blog_event.specs.declared.event.Event as event
 use Rattle.blog_event.specs.declared.fault.Fault.{Fault}
 use Rattle.blog_event.specs.Event.{event_of, event_size}
 use Rattle.blog_event.specs.File.{Placed}
-use Rattle.blog_event.specs.LogView.{log_bytes}
+use Rattle.blog_event.specs.code.LogView.{log_bytes}
 use Rattle.blog_trans.specs.Acceptance.{fault, IsAccepted, IsRefusal}
 use Rattle.blog_trans.specs.declared.groups.Index.{Index}
-use Rattle.blog_trans.specs.IndexView.{index_bytes, index_selection}
+use Rattle.blog_trans.specs.code.IndexView.{index_bytes, index_selection}
 use Rattle.blog_trans.specs.Places.{kind_at, placed}
 use Rattle.blog_units.specs.declared.part.Part.{Part}
 use Rattle.blog_units.specs.declared.unit.GlobalId as told
 use Rattle.blog_units.specs.declared.unit.Unit as given
 use Rattle.blog_units.specs.declared.units.Units.{Units}
-use Rattle.blog_units.specs.Boundaries.{IsBoundary, events_behind}
+use Rattle.blog_units.specs.code.Boundaries.{IsBoundary, events_behind}
 use Rattle.blog_units.specs.Units.{Facts, Id, between, end_behind, facts_of, is_query_or_rows, opened_by, part_behind, rest_of, units_in}
 
 -- an id of the program, without where its bytes lie

@@ -5,7 +5,7 @@ use Rattle.std.specs.List.{list_any}
 use Rattle.byteorder.specs.Endian.{little_number}
 use Rattle.blog_event.specs.File.{Placed}
 use Rattle.blog_row.specs.Column.{Layout}
-use Rattle.blog_row.specs.LayoutView.{layout_columns}
+use Rattle.blog_row.specs.code.LayoutView.{layout_columns}
 use Rattle.blog_row.specs.TableMap.{layout_of}
 use Rattle.blog_row.specs.RowsEvent.{table_id}
 use Rattle.blog_trans.specs.declared.checker.MapSeen.{MapSeen}

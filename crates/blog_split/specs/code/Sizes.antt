@@ -6,7 +6,7 @@ use Rattle.blog_trans.specs.Groups.{PlacedStatement}
 use Rattle.blog_split.specs.declared.fault.SplitFault.{SplitFault}
 use Rattle.blog_split.specs.Putting.{Refuses}
 use Rattle.blog_split.specs.declared.most.Most.{Most}
-use Rattle.blog_flash.specs.Measured.{HasSizes}
+use Rattle.blog_flash.specs.code.Measured.{HasSizes}
 use Rattle.blog_flash.specs.declared.log_sizes.LogSizes.{LogSizes}
 
 -- it has no more maps and rows events than these

@@ -6,7 +6,7 @@ use Rattle.blog_row.specs.declared.order.Order.{Order}
 use Rattle.blog_row.specs.declared.order.Order.TheVariants.{Forward, Backward}
 use Rattle.blog_row.specs.RowsWriting.{content_in}
 use Rattle.blog_trans.specs.Groups.{PlacedTransaction, RowsEvent, Statement, Transaction, event_value, rows_value, transaction_value}
-use Rattle.blog_trans.specs.InTurn.{GroupEvent, Begins, Maps, Changes, Ends}
+use Rattle.blog_trans.specs.code.InTurn.{GroupEvent, Begins, Maps, Changes, Ends}
 use Rattle.blog_flash.specs.Reversal.{reversed_rows, reversed_statement, reversed_transaction}
 use Rattle.blog_flash.specs.Texts.{with_log_pos}
 use Rattle.blog_flash.specs.Written as written
