@@ -26,6 +26,9 @@ SOURCES := $(shell find crates -path '*/out' -prune -o -type f \
 
 all: $(PROGRAM) $(BINLOG)
 
+# the two programs side by side: what both stand on is proved once, by whichever comes first
+MAKEFLAGS += --jobs=2
+
 # where there is no toolchain, programs that are there are taken as they are
 ifneq ($(shell command -v $(RT) 2> /dev/null),)
 $(PROGRAM) $(BINLOG): $(SOURCES)
@@ -71,6 +74,9 @@ MAN = $(DESTDIR)$(PREFIX)/share/man/man1
 COMPLETION = $(DESTDIR)$(PREFIX)/share/bash-completion/completions
 
 install: $(PROGRAM) $(BINLOG)
+
+# the two programs side by side: what both stand on is proved once, by whichever comes first
+MAKEFLAGS += --jobs=2
 	install -d "$(BIN)" "$(MAN)" "$(COMPLETION)"
 	install -m 755 $(PROGRAM) "$(BIN)/flashback"
 	install -m 755 $(BINLOG) "$(BIN)/binlog"
