@@ -1,14 +1,15 @@
 -- The events behind a position, and positions at which events end.
-use Rattle.std.proofs.Common.{◌≡◌, ℕ, ◌+◌, ◌≤◌, Bool, true, false, ◌&&◌, nat_lt, List, [], ◌∷◌, length, drop, Option, Some, None, refl, sym, subst, ap, ◌∙◌, inl, inr, arith}
+use Rattle.std.proofs.Common.{◌≡◌, ℕ, ◌+◌, ◌≤◌, Bool, true, false, ◌&&◌, nat_lt, List, [], ◌∷◌, length, drop, Option, Some, None, refl, sym, subst, ap, ◌∙◌, inl, arith}
 use Rattle.std.proofs.lemmas.Bool.{le-ltb, lt-leb, lt-ltb}
 use Rattle.std.proofs.lemmas.List.{length-drop}
 use Rattle.std.proofs.lemmas.Option.{same_Some}
 use Rattle.blog_event.specs.declared.event.Event as told
 use Rattle.blog_event.specs.Event.{Event, event_at, event_of, event_size}
-use Rattle.blog_event.specs.File.{Placed, placed_from, end_of, events_from, read}
+use Rattle.blog_event.specs.File.{Placed, placed_from, end_of, read}
 use Rattle.blog_event.specs.code.Going.{AreRead}
 use Rattle.blog_event.specs.Opening.{opening_fault}
-use Rattle.blog_event.proofs.Going.{are-read, are-read-only, event-within, left-more, left-none, opened-reads-on}
+use Rattle.blog_event.proofs.Going.{are-read-only, event-within, opened-reads-on}
+use Rattle.blog_event.proofs.Items.{are-left, events-left-more, events-left-none}
 use Rattle.blog_event.proofs.Opened.{LogReads}
 use Rattle.blog_trans.specs.Places.{placed}
 use Rattle.blog_trans.specs.code.WalkView.{Lead, IsReached, IsPassedBy}
@@ -17,16 +18,10 @@ use Rattle.blog_units.specs.code.Boundaries.{IsBoundary, events_behind}
 
 -- ---- the events behind a position
 
-are-behind : (bytes : List ℕ) (at : ℕ) → AreRead bytes None at (events_from (length bytes) None at (drop at bytes))
-are-behind bytes at = are-read (length bytes) bytes None at (omega (arith, length-drop at bytes))
-
 -- an event that stands there is the first
 pub behind-more : (bytes : List ℕ) (at : ℕ) (e : Event) → event_at (drop at bytes) ≡ Some e
     → events_behind bytes at ≡ record { pos = at; event = e } ∷ events_behind bytes (at + event_size e)
-behind-more bytes at e stands =
-    let more = left-more bytes None at _ e (are-behind bytes at) refl stands in
-    let same = are-read-only bytes None (at + event_size e) _ more.0 (are-behind bytes (at + event_size e)) more.2 in
-    ap (placed_from at) more.1 ∙ ap (λ (es : List Event). record { pos = at; event = e } ∷ placed_from (at + event_size e) es) same
+behind-more bytes at e stands = ap (placed_from at) (events-left-more bytes at e stands)
 
 -- the same of an event of the program
 pub behind-event : (bytes : List ℕ) (at : ℕ) (e : told.Event) → event_at (drop at bytes) ≡ Some (event_of e) → e.pos ≡ at → e.header.size ≡ event_size (event_of e)
@@ -37,13 +32,13 @@ behind-event bytes at e stands pos size =
 
 -- where none stands, none follows
 pub behind-none : (bytes : List ℕ) (at : ℕ) → event_at (drop at bytes) ≡ None → events_behind bytes at ≡ []
-behind-none bytes at none = ap (placed_from at) (left-none bytes None at _ (are-behind bytes at) (inr none))
+behind-none bytes at none = ap (placed_from at) (events-left-none bytes at none)
 
 -- those of a log behind its first
 pub behind-first : (bytes : List ℕ) (at : ℕ) → LogReads bytes None at → units bytes ≡ units_in None (events_behind bytes at)
 unfolding units
 behind-first bytes at reads =
-    let same = are-read-only bytes None at _ reads.later (are-behind bytes at) reads.left.are in
+    let same = are-read-only bytes None at _ reads.later (are-left bytes at) reads.left.are in
     ap (λ (es : List Event). units_in None (drop 1 (placed_from 4 es))) reads.read_is
     ∙ ap (λ (n : ℕ). units_in None (placed_from n reads.later)) reads.starts
     ∙ ap (λ (es : List Event). units_in None (placed_from at es)) same

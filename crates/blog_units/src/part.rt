@@ -7,7 +7,7 @@ ghost use Rattle.blog_units.specs.Units.{after_gtid, continued, goes_on, is_of_r
 
 use blog_event::Event;
 use blog_event::constants::{PARTIAL_UPDATE_ROWS_EVENT, QUERY_EVENT};
-use blog_trans::{EventKind, event_kind, query_text};
+use blog_trans::{EventKind, query_text};
 
 /// What an open unit has so far.
 #[derive(Clone, Copy, Debug, PartialEq, Eq)]
@@ -80,11 +80,11 @@ impl Part {
         }
     }
 
-    /// What the unit has when it goes on with an event, None where it ends with it.
-    pub(crate) fn continued(self, event: &Event<'_>) -> Option<Part>
+    /// What the unit has when it goes on with an event of this kind, None where it ends with it.
+    pub(crate) fn continued(self, kind: EventKind, event: &Event<'_>) -> Option<Part>
+        requires { kind ≡ kind_at (placed event.now) }
         ensures { result ≡ continued self (placed event.now) }
     {
-        let kind = event_kind(event);
         match self {
             Part::Gtid => Some(after_gtid(kind)),
             Part::Transaction => {
@@ -99,13 +99,14 @@ impl Part {
     }
 }
 
-/// Whether an event is a Query or a rows event.
-pub(crate) fn is_query_or_rows(event: &Event<'_>) -> bool
+/// Whether an event of this kind is a Query or a rows event.
+pub(crate) fn is_query_or_rows(kind: EventKind, event: &Event<'_>) -> bool
+    requires { kind ≡ kind_at (placed event.now) }
     ensures { result ≡ is_query_or_rows (placed event.now) }
 {
     event.header.kind == QUERY_EVENT
         || event.header.kind == PARTIAL_UPDATE_ROWS_EVENT
-        || match event_kind(event) {
+        || match kind {
             EventKind::Rows(_) => true,
             _ => false,
         }

@@ -6,12 +6,12 @@ ghost use Rattle.blog_event.specs.code.LogView.{log_bytes};
 ghost use Rattle.blog_units.specs.code.Boundaries.{IsBoundary, events_behind};
 ghost use Rattle.blog_units.specs.Units.{id_of, is_whole, units_in};
 ghost use Rattle.blog_units.specs.code.UnitsView.{AreGroups, HasStopped, IsFirst, id_told, time_with};
-ghost use Rattle.blog_trans.specs.Places.{placed};
+ghost use Rattle.blog_trans.specs.Places.{kind_at, placed};
 
 use crate::part::{Part, is_query_or_rows, opened_by};
 use blog_event::constants::GTID_LOG_EVENT;
 use blog_event::{Event, Fault, Log};
-use blog_trans::{Index, Selection, event_kind, index_from};
+use blog_trans::{EventKind, Index, Selection, event_kind, index_from};
 use byteorder::{ByteOrder, LittleEndian};
 use std::alloc::{Allocator, Global};
 
@@ -58,16 +58,18 @@ pub(crate) fn global_id<'a>(event: &Event<'a>) -> Option<GlobalId<'a>>
     }
 }
 
-/// The next event, from a position on, that begins a unit, and what the unit has with it.
-pub(crate) fn next_first<'a>(log: &Log<'a>, from: u32) -> Option<(Event<'a>, Part)>
+/// The next event, from a position on, that begins a unit, its kind, and what the unit has with it.
+pub(crate) fn next_first<'a>(log: &Log<'a>, from: u32) -> Option<(Event<'a>, EventKind, Part)>
     requires boundary { IsBoundary (log_bytes log.now) from }
     ensures none { result ≡ None → units_in None (events_behind (log_bytes log.now) from) ≡ [] }
-    ensures some { IfSome result (IsFirst (log_bytes log.now) from) }
+    ensures some { IfSome result (λ found. IsFirst (log_bytes log.now) from (found.0, found.2)) }
+    ensures kind { IfSome result (λ found. found.1 ≡ kind_at (placed found.0)) }
 {
     let mut at = from;
     'between: while let Ok(event) = log.event_at(at) {
-        if let Some(part) = opened_by(event_kind(&event)) {
-            return Some((event, part));
+        let kind = event_kind(&event);
+        if let Some(part) = opened_by(kind) {
+            return Some((event, kind, part));
         }
         at += event.header.size;
     }
@@ -84,13 +86,14 @@ pub(crate) fn is_whole(part: Option<Part>) -> bool
     }
 }
 
-/// The time that is known, or else that of an event, if it is a Query or a rows event.
-pub(crate) fn time_with(known: Option<u32>, event: &Event<'_>) -> Option<u32>
+/// The time that is known, or else that of an event of this kind, if it is a Query or a rows event.
+pub(crate) fn time_with(known: Option<u32>, kind: EventKind, event: &Event<'_>) -> Option<u32>
+    requires { kind ≡ kind_at (placed event.now) }
     ensures { result ≡ time_with known (placed event.now) }
 {
     match known {
         Some(time) => Some(time),
-        None if is_query_or_rows(event) => Some(event.header.timestamp),
+        None if is_query_or_rows(kind, event) => Some(event.header.timestamp),
         None => None,
     }
 }
@@ -115,11 +118,12 @@ pub(crate) fn go_through(
         let Ok(event) = log.event_at(at) else {
             return (at, time, open);
         };
-        if !part.goes_on(event_kind(&event)) {
+        let kind = event_kind(&event);
+        if !part.goes_on(kind) {
             return (at, time, open);
         }
-        time = time_with(time, &event);
-        open = part.continued(&event);
+        time = time_with(time, kind, &event);
+        open = part.continued(kind, &event);
         at += event.header.size;
     }
     (at, time, None)

@@ -45,9 +45,9 @@ impl<'a, A: Allocator + Copy> Iterator for Units<'a, A> {
     ghost remaining = { λ units. at_most (length (units_left units)) };
 
     fn next(&mut self) -> Option<Unit<'a, A>> {
-        let (first, part) = next_first(&self.log, self.at)?;
+        let (first, kind, part) = next_first(&self.log, self.at)?;
         let start = first.pos;
-        let known = time_with(None, &first);
+        let known = time_with(None, kind, &first);
         let (stop, time, last) = go_through(&self.log, start + first.header.size, part, known);
         self.at = stop;
         Some(Unit {

@@ -37,7 +37,7 @@ returns-then-not-goes_on-clause-stopped c =
     let gone = subst (λ (o : Option Part). IsGone c.args.from c.events.at (Some c.args.part) c.args.known c.events.time o ps qs) c.in-Some.is c.events.invariant.gone in
     gone-before c.args.from c.events.at c.args.part c.args.known c.events.time c.in-Some.part ps qs (events_behind bytes (c.events.at + e.header.size)) (placed e) gone
     (behind-event bytes c.events.at e (sym c.in-Ok.ensures.event) c.in-Ok.ensures.pos c.in-Ok.ensures.size)
-    (ap (goes_on c.in-Some.part) (sym c.event_kind.ensures) ∙ sym c.goes_on.ensures ∙ c.if-not-goes_on.true)
+    (ap (goes_on c.in-Some.part) (sym c.event_kind-kind.ensures) ∙ sym c.goes_on.ensures ∙ c.if-not-goes_on.true)
 
 -- it has ended with its last event
 pub returns-clause-stopped : goal.returns-clause-stopped
@@ -56,7 +56,7 @@ events-preserved c =
     let stands = sym c.in-Ok.ensures.event in
     let gone = subst (λ (o : Option Part). IsGone c.args.from at (Some c.args.part) c.args.known c.events.time o (events_behind bytes c.args.from) (events_behind bytes at)) c.in-Some.is c.events.invariant.gone in
     let on = gone-on c.args.from at (at + e.header.size) (Some c.args.part) c.args.known c.events.time c.in-Some.part _ _ _ (placed e) gone
-    (behind-event bytes at e stands c.in-Ok.ensures.pos c.in-Ok.ensures.size) (ap (goes_on c.in-Some.part) (sym c.event_kind.ensures) ∙ sym c.goes_on.ensures ∙ c.if-not-goes_on.false)
+    (behind-event bytes at e stands c.in-Ok.ensures.pos c.in-Ok.ensures.size) (ap (goes_on c.in-Some.part) (sym c.event_kind-kind.ensures) ∙ sym c.goes_on.ensures ∙ c.if-not-goes_on.false)
     (λ i. c.in-Ok.ensures.pos i + sym c.in-Ok.ensures.size i) in
     record {
       boundary = boundary-more bytes at (event_of e) e.header.size (log-opened c.args.log.now) c.events.invariant.boundary stands c.in-Ok.ensures.size;

@@ -24,7 +24,7 @@ returns-in-Some-clause-some c =
     let stands = sym c.in-Ok.ensures.event in
     let pos = sym c.in-Ok.ensures.pos in
     let behind = behind-event bytes at e stands c.in-Ok.ensures.pos c.in-Ok.ensures.size in
-    let opened = ap opened_by (sym c.event_kind.ensures) ∙ sym c.opened_by.ensures ∙ c.in-Some.is in
+    let opened = ap opened_by (sym c.event_kind-kind.ensures) ∙ sym c.opened_by.ensures ∙ c.in-Some.is in
     record {
       opened = opened;
       units = c.between.invariant.units
@@ -46,7 +46,7 @@ between-preserved c =
       boundary = boundary-more bytes at (event_of e) e.header.size (log-opened c.args.log.now) c.between.invariant.boundary stands c.in-Ok.ensures.size;
       within = c.in-Ok.ensures.within;
       units = c.between.invariant.units
-          ∙ between-on (events_behind bytes at) (events_behind bytes (at + e.header.size)) (placed e) (behind-event bytes at e stands c.in-Ok.ensures.pos c.in-Ok.ensures.size) (ap opened_by (sym c.event_kind.ensures) ∙ sym c.opened_by.ensures ∙ c.in_default-opened_by.is);
+          ∙ between-on (events_behind bytes at) (events_behind bytes (at + e.header.size)) (placed e) (behind-event bytes at e stands c.in-Ok.ensures.pos c.in-Ok.ensures.size) (ap opened_by (sym c.event_kind-kind.ensures) ∙ sym c.opened_by.ensures ∙ c.in_default-opened_by.is);
     }
 
 pub returns-clause-none : goal.returns-clause-none
