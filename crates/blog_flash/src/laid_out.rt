@@ -15,7 +15,7 @@ use crate::written_events::WrittenEvents;
 use blog_trans::Index;
 use std::alloc::{AllocError, Allocator};
 
-/// The front of a log in its bytes, which are those of the index.
+/// The front of the index's log, in the log's bytes.
 fn front_of<'b, A: Allocator>(bytes: &'b [u8], index: &Index<'_, '_, A>) -> &'b [u8]
     requires { bytes.now ≡ index_bytes index.now }
     ensures any { (ts : List Transaction) → result.now ++ text_from (length result.now) (group_events ts) ≡ laid_out_after (read (index_bytes index.now) (index_selection index.now).stop) ts }
@@ -24,8 +24,8 @@ fn front_of<'b, A: Allocator>(bytes: &'b [u8], index: &Index<'_, '_, A>) -> &'b 
     &bytes[..index.log().first() as usize]
 }
 
-/// What stands in front of the groups: the magic number and the format description, as they are. With the groups behind it,
-/// in an order, that is their log; with others behind it, that is the log of these.
+/// Returns the front of a new log: the magic number and the format description, unchanged. With the events of groups after it,
+/// that is the log of these groups.
 pub fn front<'a, A: Allocator>(index: &Index<'a, '_, A>) -> &'a [u8]
     ensures any { (ts : List Transaction) → result.now ++ text_from (length result.now) (group_events ts) ≡ laid_out_after (read (index_bytes index.now) (index_selection index.now).stop) ts }
     ensures within { length result.now ≤ 4294967295 }
@@ -45,8 +45,8 @@ fn put_events<'a, A: Allocator, E: WrittenEvents<'a>>(out: &mut Vec<u8, A>, even
     }
 }
 
-/// A log: its front, and behind it the events, each with its own size and log_pos. `sizes` are those of the log. Fails where
-/// the room for the whole log, which is taken at once, was refused.
+/// Writes a log into memory: its front, then the events, each with its own size and log_pos. `sizes` are those of the log. Fails
+/// if there is no memory for the whole log, which is taken at once.
 pub fn lay_out<'a, A: Allocator, E: WrittenEvents<'a>>(
     alloc: A,
     front: &[u8],

@@ -1,4 +1,4 @@
-//! How long a log is before it is written: from sizes alone, so that no row is read.
+//! How long a log will be: from sizes alone, so that no row is read.
 
 ghost use Rattle.std.specs.Prelude.{◌≤◌, map};
 ghost use Rattle.blog_flash.specs.code.Measured.{GetsLonger, Measures};
@@ -7,7 +7,7 @@ ghost use Rattle.blog_flash.specs.Written.{event_written};
 use crate::written_events::WrittenEvents;
 use blog_event::HEADER_LEN;
 
-/// How many bytes a log has, and how many its largest event has behind the front; or more.
+/// The size of a log and of its largest event after the front, or upper bounds of these.
 #[derive(Clone, Copy, Debug)]
 pub struct LogSizes {
     /// The bytes of the log.
@@ -16,7 +16,7 @@ pub struct LogSizes {
     pub largest: usize,
 }
 
-/// The sizes with one more event, which has a body of so many bytes; none where the log would be too long.
+/// Adds an event with a body of `body_len` bytes. Returns `None` if the log would be too long.
 fn with_event(sizes: LogSizes, body_len: usize) -> Option<LogSizes>
     requires { sizes.len ≤ 4294967295 }
     ensures { GetsLonger sizes body_len result }
@@ -35,7 +35,7 @@ fn with_event(sizes: LogSizes, body_len: usize) -> Option<LogSizes>
     })
 }
 
-/// The sizes of a log whose front has so many bytes, with these events behind it. None where it would have more than
+/// Returns the sizes of a log with a front of `front_len` bytes and these events after it, or `None` if it would have more than
 /// 4,294,967,295 bytes.
 pub fn sizes_of<'a, E: WrittenEvents<'a>>(front_len: usize, events: &mut E) -> Option<LogSizes>
     requires { front_len ≤ 4294967295 }

@@ -1,4 +1,4 @@
-//! An event that is to be written, and how it is appended to a log.
+//! Events to write, and how one is appended to a log.
 
 ghost use Rattle.std.specs.Prelude.{◌≡◌, ◌+◌, ◌≤◌, List, [], ◌∷◌, ◌++◌, length, take, vec_len, vec_capacity};
 ghost use Rattle.blog_event.specs.Event.{event_of, event_size, unplaced};
@@ -10,22 +10,22 @@ use blog_event::{Event, HEADER_LEN, Header, open_event_from, put_event_from};
 use blog_row::{Order, RowsEvent};
 use std::alloc::Allocator;
 
-/// A rows event that is to be written.
+/// A rows event to write.
 #[derive(Clone, Copy, Debug)]
 pub struct WrittenRows<'a> {
     /// The event as it was read.
     pub event: Event<'a>,
-    /// The body of the table map that it goes by.
+    /// The body of its table map.
     pub map: &'a [u8],
     /// Its rows, as they were read.
     pub rows: RowsEvent<'a>,
-    /// The order in which they are written: backward they are undone, the last one first.
+    /// The order in which the rows are written. Backward, they are undone, the last one first.
     pub order: Order,
     /// Whether it is the last of its statement.
     pub last: bool,
 }
 
-/// An event that is to be written.
+/// An event to write.
 #[derive(Clone, Copy, Debug)]
 pub enum WrittenEvent<'a> {
     /// A `BEGIN`, or the event that ends a transaction.
@@ -36,7 +36,7 @@ pub enum WrittenEvent<'a> {
     Rows(WrittenRows<'a>),
 }
 
-/// Appends an event as it is, with the log_pos that it has there. `out` holds the log from position `from` on.
+/// Appends an event with its new log_pos. `out` has the log from position `from` on.
 #[inline(always)]
 fn put_same<A: Allocator>(out: &mut Vec<u8, A>, from: usize, event: &Event<'_>)
     requires room { vec_len out.old + event_size (event_of event.now) ≤ vec_capacity out.old }
@@ -69,8 +69,8 @@ impl<'a> WrittenRows<'a> {
     ghost use Rattle.blog_flash.specs.Texts.{rows_event};
     ghost use Rattle.blog_flash.specs.code.WrittenView.{rows_told};
 
-    /// Appends the rows event: without extra bytes, with its rows in their order, and with the end flag where it is the last of
-    /// its statement.
+    /// Appends the rows event: without extra bytes, with its rows in their order, and with the end flag if it is the last of its
+    /// statement.
     #[inline(always)]
     fn put<A: Allocator>(&self, out: &mut Vec<u8, A>, from: usize)
         requires room { vec_len out.old + event_size (rows_event self.now.last (rows_told self.now)) ≤ vec_capacity out.old }
@@ -92,7 +92,7 @@ impl<'a> WrittenEvent<'a> {
     ghost use Rattle.blog_flash.specs.Written.{event_written};
     ghost use Rattle.blog_flash.specs.code.WrittenView.{written_told};
 
-    /// How many bytes its body has.
+    /// Returns how many bytes its body has.
     #[inline(always)]
     pub fn body_len(&self) -> usize
         ensures { event_size (event_written (written_told self.now)) ≡ 19 + result }
@@ -103,8 +103,8 @@ impl<'a> WrittenEvent<'a> {
         }
     }
 
-    /// Appends the event, with the log_pos that it has there. `out` holds a log from position `from` on, and has room for the
-    /// event, which is to end at most at 4,294,967,295.
+    /// Appends the event with its new log_pos. `out` has the log from position `from` on, and room for the event. The event must
+    /// end at 4,294,967,295 or before.
     #[inline(always)]
     pub fn put<A: Allocator>(&self, out: &mut Vec<u8, A>, from: usize)
         requires room { vec_len out.old + event_size (event_written (written_told self.now)) ≤ vec_capacity out.old }

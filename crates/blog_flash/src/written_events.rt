@@ -1,4 +1,4 @@
-//! Where events that are to be written come from.
+//! Sources of events to write.
 
 ghost use Rattle.std.specs.Prelude.{◌≡◌, List, map};
 
@@ -7,7 +7,7 @@ use blog_row::Order;
 use blog_trans::{GroupEvent, GroupEvents, Index};
 use std::alloc::{Allocator, Global};
 
-/// Events that are to be written, one after the other.
+/// A source of events to write, in order.
 pub trait WrittenEvents<'a> {
     ghost use Rattle.std.specs.Iterator.{YieldsFirstBy};
     ghost use Rattle.blog_flash.specs.Written.{Passes, Written};
@@ -16,16 +16,16 @@ pub trait WrittenEvents<'a> {
     // The events that are still to come, as values.
     ghost to_come: { Self → List Written };
 
-    /// The next event, if any is left.
+    /// Returns the next event, if one is left.
     fn next_event(&mut self) -> Option<WrittenEvent<'a>>
         ensures first { YieldsFirstBy written_told to_come self.old result self.new };
 
-    /// Passes over the next event, and returns how many bytes its body has; none where no event is left.
+    /// Skips the next event and returns how many bytes its body has, or `None` if no event is left.
     fn pass(&mut self) -> Option<usize>
         ensures { Passes to_come self.old result self.new };
 }
 
-/// The events of the groups of an index, as they are written in an order.
+/// The events of the groups of an index, in one of the two orders.
 #[derive(Drop)]
 pub struct WrittenGroups<'i, 'a, 's, A: Allocator = Global> {
     events: GroupEvents<'i, 'a, 's, A>,
@@ -38,7 +38,7 @@ impl<'i, 'a, 's, A: Allocator> WrittenGroups<'i, 'a, 's, A> {
     ghost use Rattle.blog_flash.specs.Written.{groups_written};
     ghost use Rattle.blog_flash.specs.code.WrittenGroupsView.{groups_to_come};
 
-    /// The groups as they stand in the log (forward), or as they undo these (backward).
+    /// Takes the groups as they are in the log (forward), or what undoes them (backward).
     pub fn new(index: &'i Index<'a, 's, A>, order: Order) -> WrittenGroups<'i, 'a, 's, A>
         ensures { groups_to_come result ≡ groups_written (transactions_of order (index_groups index.now)) }
     {

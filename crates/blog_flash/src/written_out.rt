@@ -1,4 +1,4 @@
-//! Writing a log while it is laid out, so that it is never held whole.
+//! Writing a log by chunks, so that it is never held whole.
 
 ghost use Rattle.std.specs.Prelude.{◌≡◌, ◌≤◌, ◌++◌, ◌||◌, true, length, map, OnOk, OnErr, IfErr, vec_len, vec_capacity};
 ghost use Rattle.std.specs.List.{AllByRecursion};
@@ -20,11 +20,10 @@ use blog_event::{Fault, HEADER_LEN};
 use std::alloc::Allocator;
 use std::io::Write;
 
-/// How much of a log is collected before it is written, in bytes.
+/// The size of a chunk, in bytes: how much of a log is collected before it is written.
 pub const CHUNK_LEN: usize = 1 << 18;
 
-/// Writes what a chunk holds, and behind it the events, each with the log_pos that it has there: as many bytes at once as the
-/// chunk has room for.
+/// Writes what is in the chunk and then the events, each with its new log_pos: as many bytes at once as the chunk has room for.
 fn write_events<'a, A: Allocator, E: WrittenEvents<'a>, W: Write>(
     writer: &mut Watched<W>,
     chunk: &mut Vec<u8, A>,
@@ -47,12 +46,11 @@ fn write_events<'a, A: Allocator, E: WrittenEvents<'a>, W: Write>(
     put(writer, chunk)
 }
 
-/// Writes a log, as `lay_out` makes it. `sizes` are at least those of the log. All memory is taken before the first write:
-/// `chunk_len` bytes, or as many as the log has where these are fewer, or as many as the front of the log or the largest event
-/// has where these are more.
+/// Writes the log that `lay_out` makes. `sizes` are those of the log, or upper bounds of these. All memory is taken before the
+/// first write: one chunk of `chunk_len` bytes, less for a shorter log, and more if the front or the largest event is larger.
 ///
-/// `Log(OutOfMemory)` where that is refused: the writer was not called then. `Write` where a write failed; what was written
-/// is then a beginning of the log.
+/// Fails with `Log(OutOfMemory)` if there is no memory for the chunk; the writer wasn't called then. Fails with `Write` if a
+/// write failed; the writer then has a beginning of the log.
 pub fn write_out<'a, A: Allocator, E: WrittenEvents<'a>, W: Write>(
     alloc: A,
     front: &[u8],

@@ -1,4 +1,4 @@
-//! The events of a log whose statements are cut, one after the other, as they are written.
+//! The events of a log whose statements are cut, in order.
 
 ghost use Rattle.std.specs.Prelude.{◌≡◌, ◌+◌, ◌<◌, ◌≤◌, ℕ, true, false, length, All, Some, IsSome, IfOk, IfErr, slice_get, vec_len, vec_capacity};
 ghost use Rattle.std.proofs.Props.{props};
@@ -17,16 +17,16 @@ use blog_row::Order;
 use blog_trans::{Index, MapRead};
 use std::alloc::Allocator;
 
-/// What comes next of the events of the cut log.
+/// What comes next in the cut log.
 #[derive(Clone, Copy, Debug)]
 enum Coming {
-    /// The next transaction begins, if any is left.
+    /// The `BEGIN` of the next transaction, or the end of the log.
     Begin,
     /// A map of the open piece.
     Map,
     /// A rows event of the open piece.
     Rows,
-    /// The open transaction ends.
+    /// The end event of the open transaction.
     End,
 }
 
@@ -115,8 +115,8 @@ impl<'i, 'a, 's, A: Allocator, B: Allocator> CutEvents<'i, 'a, 's, A, B> {
         })
     }
 
-    /// What comes next. Where the open piece has nothing left, the next one is opened, and where the open statement has none, the
-    /// next statement.
+    /// Returns what comes next. Opens the next piece if the open one has nothing left, and the next statement if the open one has
+    /// no piece left.
     fn coming(&mut self) -> Coming
         ensures left { cut_to_come self.new ≡ cut_to_come self.old }
         ensures ready { IsReady self.new result }
@@ -249,7 +249,7 @@ impl<'i, 'a, 's, A: Allocator, B: Allocator> CutEvents<'i, 'a, 's, A, B> {
         })
     }
 
-    /// Passes over the next rows event of the open piece, and returns how many bytes its body has.
+    /// Skips the next rows event of the open piece, and returns how many bytes its body has.
     fn pass_rows(&mut self) -> usize
         requires open { self.old.is_open ≡ true }
         requires no_maps { vec_len self.old.used ≤ self.old.given }

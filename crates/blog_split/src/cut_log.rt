@@ -15,8 +15,8 @@ use blog_flash::{LogSizes, front, lay_out, selected, sizes_of};
 use blog_trans::{Index, Selection};
 use std::alloc::Allocator;
 
-/// The sizes of the groups of an index, their statements cut, behind a front of so many bytes. `TooLong` where they are too
-/// large for a log; `Log(OutOfMemory)` where memory was refused.
+/// Returns the sizes of the cut log of an index, with a front of `front_len` bytes. Fails with `TooLong` if it is too large for a
+/// log, and with `Log(OutOfMemory)` if memory was refused.
 pub(crate) fn measured<A: Allocator + Copy, B: Allocator>(
     alloc: A,
     index: &Index<'_, '_, B>,
