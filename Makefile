@@ -74,9 +74,6 @@ MAN = $(DESTDIR)$(PREFIX)/share/man/man1
 COMPLETION = $(DESTDIR)$(PREFIX)/share/bash-completion/completions
 
 install: $(PROGRAM) $(BINLOG)
-
-# the two programs side by side: what both stand on is proved once, by whichever comes first
-MAKEFLAGS += --jobs=2
 	install -d "$(BIN)" "$(MAN)" "$(COMPLETION)"
 	install -m 755 $(PROGRAM) "$(BIN)/flashback"
 	install -m 755 $(BINLOG) "$(BIN)/binlog"
