@@ -104,10 +104,10 @@ fn read_case<'a>(rt: &impl Abort, case: &Case, layout: &Layout<'a>) -> (RowsEven
 /// The event is read, and known, as what its body says.
 fn check_case(rt: &impl Abort, case: &Case, layout: &Layout<'_>) {
     let kind = case.kind();
-    check_event(rt, &RowsEvent::known(kind, case.body, layout), layout, case);
-    let (event, len) = read_case(rt, case, layout);
+    let (event, len) = RowsEvent::read_counted(kind, case.body, layout).expect(rt, "an event");
     check_event(rt, &event, layout, case);
     assert!(rt; len == case.len);
+    check_event(rt, &RowsEvent::known(kind, case.body, layout), layout, case);
 }
 
 #[test]
