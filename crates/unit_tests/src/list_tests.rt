@@ -261,12 +261,11 @@ fn a_log_that_ends_early_has_its_units(rt: HostRuntime) -> Result<(), Fail> {
        259        371  1970-01-01 00:00:00  Unended at 371
 units 2, not undoable 1, rows 1
 ";
-    let all = ALL;
     let end = Some(Fault::CutEvent { pos: 371 });
-    check(&rt, cut, &all, lines, end)?;
+    check(&rt, cut, &ALL, lines, end)?;
     let ended = bytes.get(..371).expect(&rt, "a log");
     let end = Some(Fault::Unended { pos: 371 });
-    check(&rt, ended, &all, lines, end)
+    check(&rt, ended, &ALL, lines, end)
 }
 
 /// Checks the list of a log of one whole unit, where what is wanted stops at a position.
