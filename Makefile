@@ -26,9 +26,6 @@ SOURCES := $(shell find crates -path '*/out' -prune -o -type f \
 
 all: $(PROGRAM) $(BINLOG)
 
-# the two programs side by side: what both stand on is proved once, by whichever comes first
-MAKEFLAGS += --jobs=2
-
 # where there is no toolchain, programs that are there are taken as they are
 ifneq ($(shell command -v $(RT) 2> /dev/null),)
 $(PROGRAM) $(BINLOG): $(SOURCES)
