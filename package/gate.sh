@@ -14,6 +14,7 @@ status=$(cat "$room/status")
 if [ "$status" -eq 0 ]; then
     sh "$(dirname "$0")/check.sh" crates/flashback/out/flashback crates/binlog/out/binlog "$version" || status=1
     sh "$(dirname "$0")/refused.sh" flashback crates/flashback/out/flashback || status=1
+    sh "$(dirname "$0")/refused.sh" binlog crates/binlog/out/binlog || status=1
 fi
 [ ! -f "$room/last" ] || cat "$room/last"
 exit "$status"
