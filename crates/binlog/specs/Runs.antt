@@ -1,7 +1,8 @@
--- What a run does to the bytes of its devices. Of a device that does not tell its bytes these words say that there
+-- What a run does to the bytes of its devices. Of a device that does not tell its bytes these definitions say that there
 -- are such bytes.
 use Rattle.std.specs.Prelude.{◌≡◌, ◌⊎◌, ℕ, Bool, true, false, List, ⊤, String, Vec, Option, None, Some, Result, Ok, Err}
 use Rattle.std.specs.Io.KnownBytes.{Keeps, Appends}
+use Rattle.blog_event.specs.declared.fault.Fault.{Fault}
 use Rattle.blog_event.specs.declared.fault.Fault.TheVariants.{TooLong, OutOfMemory as NoMemory}
 use Rattle.blog_device.specs.Devices.{greatest_length, PassesLimit, ReadsLog, AppendsBeginning}
 use Rattle.blog_device.specs.declared.fault.RunFault.{RunFault}
@@ -13,11 +14,11 @@ use Rattle.blog_sum.specs.Plain.{plain_of}
 use Rattle.blog_event.specs.Opening.{opening_fault}
 use Rattle.binlog.specs.Request.{asks_for_list}
 use Rattle.binlog.specs.declared.commands.Failure.{Failure}
-use Rattle.binlog.specs.declared.commands.Failure.TheVariants.{List as OfList, EndsEarly}
-use Rattle.binlog.specs.declared.commands.CopyFault.{CopyFault}
-use Rattle.binlog.specs.declared.commands.CopyFault.TheVariants.{Run, Sums, Split as Cut}
-use Rattle.binlog.specs.declared.words.Making.{Making}
-use Rattle.binlog.specs.declared.words.Making.TheVariants.{Plain, Split}
+use Rattle.binlog.specs.declared.commands.Failure.TheVariants.{NewLog as NoNewLog, List as NoList, EndsEarly}
+use Rattle.binlog.specs.declared.commands.NewLogFault.{NewLogFault}
+use Rattle.binlog.specs.declared.commands.NewLogFault.TheVariants.{Run, Sums, Split as Cut}
+use Rattle.binlog.specs.declared.arguments.Making.{Making}
+use Rattle.binlog.specs.declared.arguments.Making.TheVariants.{Plain, Split}
 use Rattle.blog_split.specs.declared.fault.SplitFault.{SplitFault}
 use Rattle.blog_split.specs.declared.fault.SplitFault.TheVariants.{Log as OfLog, TooLong as TooLongCut}
 use Rattle.blog_split.specs.declared.fault.SplitRunFault.{SplitRunFault}
@@ -42,35 +43,37 @@ abbrev pub IsMadeOf : Making → List ℕ → List ℕ → Type 0
 IsMadeOf Plain log text = (sum_fault log ≡ None) × (text ≡ plain_of log)
 IsMadeOf (Split limit) log text = (cut : List Transaction) × IsSplit limit log all cut text × KeepsChanges limit log all cut text
 
--- what comes of reading a log for its copy: the copy; or that it can't be held, that a read failed, or that it has none
-abbrev pub MakesCopy : {A : Type 0} → Making → Option (List ℕ) → Option (List ℕ) → Result (Vec ℕ A) CopyFault → Type 0
-MakesCopy making old new (Ok text) = (log : List ℕ) × ReadsLog old new log × IsMadeOf making log text.items
-MakesCopy making old new (Err (Run (Log fault))) = (fault ≡ NoMemory) ⊎ ((fault ≡ TooLong 0) × PassesLimit greatest_length old new)
-MakesCopy making old new (Err (Run Read)) = ⊤
-MakesCopy making old new (Err (Run Write)) = ⊥
-MakesCopy making old new (Err (Sums fault)) = (making ≡ Plain) × RefusesSums old new fault
-MakesCopy making old new (Err (Cut fault)) = (limit : ℕ) × (log : List ℕ) × (making ≡ Split limit) × ReadsLog old new log × RefusesCut limit log fault
+-- what comes of reading a log for its new log: the new log; or that it can't be held, that a read failed, or that it has none
+abbrev pub MakesNewLog : {A : Type 0} → Making → Option (List ℕ) → Option (List ℕ) → Result (Vec ℕ A) NewLogFault → Type 0
+MakesNewLog making old new (Ok text) = (log : List ℕ) × ReadsLog old new log × IsMadeOf making log text.items
+MakesNewLog making old new (Err (Run (Log fault))) = (fault ≡ NoMemory) ⊎ ((fault ≡ TooLong 0) × PassesLimit greatest_length old new)
+MakesNewLog making old new (Err (Run Read)) = ⊤
+MakesNewLog making old new (Err (Run Write)) = ⊥
+MakesNewLog making old new (Err (Sums fault)) = (making ≡ Plain) × RefusesSums old new fault
+MakesNewLog making old new (Err (Cut fault)) = (limit : ℕ) × (log : List ℕ) × (making ≡ Split limit) × ReadsLog old new log × RefusesCut limit log fault
 
--- and of writing it: the whole copy is written, or a beginning of it where a write failed, or nothing
-abbrev pub WritesCopy : Making → Option (List ℕ) → Option (List ℕ) → Option (List ℕ) → Option (List ℕ) → Result Unit CopyFault → Type 0
-WritesCopy making old new had has (Ok done) = (log text : List ℕ) × ReadsLog old new log × IsMadeOf making log text × Appends had has text
-WritesCopy making old new had has (Err (Run (Log fault))) = ((fault ≡ NoMemory) ⊎ ((fault ≡ TooLong 0) × PassesLimit greatest_length old new)) × Keeps had has
-WritesCopy making old new had has (Err (Run Read)) = Keeps had has
-WritesCopy making old new had has (Err (Run Write)) = (log text : List ℕ) × ReadsLog old new log × IsMadeOf making log text × AppendsBeginning had has text
-WritesCopy making old new had has (Err (Sums fault)) = (making ≡ Plain) × RefusesSums old new fault × Keeps had has
-WritesCopy making old new had has (Err (Cut fault)) = (limit : ℕ) × (log : List ℕ) × (making ≡ Split limit) × ReadsLog old new log × RefusesCut limit log fault × Keeps had has
+-- and of writing it: the whole new log is written, or a beginning of it where a write failed, or nothing
+abbrev pub WritesNewLog : Making → Option (List ℕ) → Option (List ℕ) → Option (List ℕ) → Option (List ℕ) → Result Unit NewLogFault → Type 0
+WritesNewLog making old new had has (Ok done) = (log text : List ℕ) × ReadsLog old new log × IsMadeOf making log text × Appends had has text
+WritesNewLog making old new had has (Err (Run (Log fault))) = ((fault ≡ NoMemory) ⊎ ((fault ≡ TooLong 0) × PassesLimit greatest_length old new)) × Keeps had has
+WritesNewLog making old new had has (Err (Run Read)) = Keeps had has
+WritesNewLog making old new had has (Err (Run Write)) = (log text : List ℕ) × ReadsLog old new log × IsMadeOf making log text × AppendsBeginning had has text
+WritesNewLog making old new had has (Err (Sums fault)) = (making ≡ Plain) × RefusesSums old new fault × Keeps had has
+WritesNewLog making old new had has (Err (Cut fault)) = (limit : ℕ) × (log : List ℕ) × (making ≡ Split limit) × ReadsLog old new log × RefusesCut limit log fault × Keeps had has
 
--- why a copy can't be made or written, where its statements are cut while it is written
-abbrev pub copy_fault : SplitRunFault → CopyFault
-copy_fault (run.Split fault) = Cut fault
-copy_fault run.Write = Run Write
+-- why a new log can't be made or written, where its statements are cut while it is written
+abbrev pub new_log_fault : SplitRunFault → NewLogFault
+new_log_fault (run.Split fault) = Cut fault
+new_log_fault run.Write = Run Write
 
--- the copy of some log was written
-abbrev pub WritesCopyOf : Making → Option (List ℕ) → Option (List ℕ) → Type 0
-WritesCopyOf making had has = (log text : List ℕ) × IsMadeOf making log text × Appends had has text
+-- the outcome is that of making and writing a new log, of which this holds
+abbrev pub OfNewLog : {A : Type 0} → (Result Unit NewLogFault → Type 0) → Result Unit (Failure A) → Type 0
+OfNewLog P (Ok done) = P (Ok done)
+OfNewLog P (Err (NoNewLog fault)) = P (Err fault)
+OfNewLog P (Err failure) = ⊥
 
 -- the answer is that a read failed
-abbrev pub is_failed_read : {X : Type 0} → Result X CopyFault → Bool
+abbrev pub is_failed_read : {X : Type 0} → Result X NewLogFault → Bool
 is_failed_read (Ok x) = false
 is_failed_read (Err (Run (Log fault))) = false
 is_failed_read (Err (Run Read)) = true
@@ -79,7 +82,7 @@ is_failed_read (Err (Sums fault)) = false
 is_failed_read (Err (Cut fault)) = false
 
 -- the answer is that a write failed
-abbrev pub is_failed_write : {X : Type 0} → Result X CopyFault → Bool
+abbrev pub is_failed_write : {X : Type 0} → Result X NewLogFault → Bool
 is_failed_write (Ok x) = false
 is_failed_write (Err (Run (Log fault))) = false
 is_failed_write (Err (Run Read)) = false
@@ -91,7 +94,7 @@ is_failed_write (Err (Cut fault)) = false
 
 -- the arguments ask for a list, where there are any
 abbrev pub may_list : {A B E : Type 0} → Result (Vec (String A) B) E → Bool
-may_list (Ok words) = asks_for_list words.items
+may_list (Ok arguments) = asks_for_list arguments.items
 may_list (Err error) = false
 
 -- what comes of reading a log for its list: it was read; or it can't be held or be opened, or a read or a write failed
@@ -110,6 +113,13 @@ MayHaveListed Write = ⊤
 
 -- a part of a list, or all of it, may be written before this failure
 abbrev pub MayFollowList : {A : Type 0} → Failure A → Type 0
-MayFollowList (OfList fault) = MayHaveListed fault
+MayFollowList (NoList fault) = MayHaveListed fault
 MayFollowList (EndsEarly fault) = ⊤
 MayFollowList failure = ⊥
+
+-- the outcome is that of a list, of which this holds: it was written, and why the log ends too early if it does; or why not
+abbrev pub OfList : {A : Type 0} → (Result (Option Fault) RunFault → Type 0) → Result Unit (Failure A) → Type 0
+OfList P (Ok done) = P (Ok None)
+OfList P (Err (EndsEarly fault)) = P (Ok (Some fault))
+OfList P (Err (NoList fault)) = P (Err fault)
+OfList P (Err failure) = ⊥

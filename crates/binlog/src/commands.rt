@@ -1,23 +1,23 @@
 //! One run of the program, from its arguments to its exit status.
 
-ghost use Rattle.std.specs.Prelude.{◌≡◌, ◌⊎◌, ◌≤◌, ◌||◌, IfErr, IsErr, IsOk, IsSome, None, OnErr, OnOk, false, true};
+ghost use Rattle.std.specs.Prelude.{◌≡◌, ◌⊎◌, ◌≤◌, ◌||◌, IfErr, IsErr, IsOk, IsSome, None, OnErr, false, true};
 ghost use Rattle.std.specs.Process.{exit_status};
 ghost use Rattle.blog_device.specs.Watched.{device_of, has_failed};
 ghost use Rattle.binlog.specs.Request.{asks_for_list};
 ghost use Rattle.binlog.specs.Status.{status_of};
-ghost use Rattle.binlog.specs.Runs.{MakesCopy, MayFollowList, MayHaveListed, WritesCopy, WritesCopyOf, WritesList, copy_fault, is_failed_read, is_failed_write, may_list};
+ghost use Rattle.binlog.specs.Runs.{MakesNewLog, MayFollowList, OfNewLog, OfList, WritesNewLog, WritesList, new_log_fault, is_failed_read, is_failed_write, may_list};
 ghost use Rattle.blog_device.specs.Devices.{is_read_fault, is_write_fault};
-ghost use Rattle.binlog.specs.declared.commands.Failure.TheVariants.{Words, List, Copy};
-ghost use Rattle.binlog.specs.declared.commands.CopyFault.TheVariants.{Run, Sums, Split};
-ghost use Rattle.binlog.specs.declared.words.Making.TheVariants as made;
+ghost use Rattle.binlog.specs.declared.commands.Failure.TheVariants.{Arguments, NewLog};
+ghost use Rattle.binlog.specs.declared.commands.NewLogFault.TheVariants.{Run, Sums, Split};
+ghost use Rattle.binlog.specs.declared.arguments.Making.TheVariants as made;
 
-use crate::words::{Asked, CopyTask, ListTask, Making, WordsFault, read_words};
+use crate::arguments::{ArgumentsFault, Asked, ListTask, Making, NewLogTask, read_arguments};
 use blog_device::{RunFault, Watched, put, read_log};
 use blog_event::Fault;
 use blog_list::list;
 use blog_split::{SplitFault, SplitRunFault, split, split_to};
 use blog_sum::{SumFault, plain};
-use std::alloc::{Allocator, Global};
+use std::alloc::Allocator;
 use std::fs::{File, Metadata};
 use std::io::{Read, Write};
 use std::os::unix::fs::MetadataExt;
@@ -27,28 +27,28 @@ use std::{fs, io};
 
 /// Why the program didn't do what its arguments ask for.
 #[derive(Drop)]
-pub enum Failure<'w, A: Allocator> {
+pub enum Failure<'a, A: Allocator> {
     /// The arguments ask for nothing.
-    Words(WordsFault<A>),
+    Arguments(ArgumentsFault<A>),
     /// The log of this path can't be opened.
-    NoLog(&'w str, io::Error),
+    NoLog(&'a str, io::Error),
     /// The result file, of this path, is the log.
-    LogIsResultFile(&'w str),
+    LogIsResultFile(&'a str),
     /// The result file of this path is there.
-    ResultFileIsThere(&'w str),
+    ResultFileIsThere(&'a str),
     /// The result file of this path can't be created.
-    NoResultFile(&'w str, io::Error),
-    /// The copy can't be made, or not be written.
-    Copy(CopyFault),
+    NoResultFile(&'a str, io::Error),
+    /// The new log can't be made, or not be written.
+    NewLog(NewLogFault),
     /// The list can't be made, or not be written.
     List(RunFault),
     /// The list was written of a log that ends too early.
     EndsEarly(Fault),
 }
 
-/// Why a copy can't be made or written.
+/// Why a new log can't be made or written.
 #[derive(Clone, Copy, Debug)]
-pub enum CopyFault {
+pub enum NewLogFault {
     /// A device failed, or the log can't be held.
     Run(RunFault),
     /// The log has no plain copy.
@@ -63,92 +63,84 @@ impl<A: Allocator> Failure<'_, A> {
         ensures { result ≡ status_of self.now }
     {
         match self {
-            Failure::Words(WordsFault::OutOfMemory) => 1,
-            Failure::Words(_) => 2,
+            Failure::Arguments(ArgumentsFault::OutOfMemory) => 1,
+            Failure::Arguments(_) => 2,
             _ => 1,
         }
     }
 }
 
-impl<'w, A: Allocator> From<WordsFault<A>> for Failure<'w, A> {
-    ghost from_gives = { λ fault failure. failure ≡ Words fault };
+impl<'a, A: Allocator> From<ArgumentsFault<A>> for Failure<'a, A> {
+    ghost from_gives = { λ fault failure. failure ≡ Arguments fault };
 
-    fn from(fault: WordsFault<A>) -> Failure<'w, A> {
-        Failure::Words(fault)
+    fn from(fault: ArgumentsFault<A>) -> Failure<'a, A> {
+        Failure::Arguments(fault)
     }
 }
 
 /// The system's answer where it gives no arguments.
-impl<'w, A: Allocator> From<io::Error> for Failure<'w, A> {
-    fn from(error: io::Error) -> Failure<'w, A> {
-        Failure::Words(if error.kind() == io::ErrorKind::OutOfMemory {
-            WordsFault::OutOfMemory
+impl<'a, A: Allocator> From<io::Error> for Failure<'a, A> {
+    fn from(error: io::Error) -> Failure<'a, A> {
+        Failure::Arguments(if error.kind() == io::ErrorKind::OutOfMemory {
+            ArgumentsFault::OutOfMemory
         } else {
-            WordsFault::NotText
+            ArgumentsFault::NotText
         })
     }
 }
 
-impl<'w, A: Allocator> From<CopyFault> for Failure<'w, A> {
-    ghost from_gives = { λ fault failure. failure ≡ Copy fault };
+impl<'a, A: Allocator> From<NewLogFault> for Failure<'a, A> {
+    ghost from_gives = { λ fault failure. failure ≡ NewLog fault };
 
-    fn from(fault: CopyFault) -> Failure<'w, A> {
-        Failure::Copy(fault)
+    fn from(fault: NewLogFault) -> Failure<'a, A> {
+        Failure::NewLog(fault)
     }
 }
 
-impl<'w, A: Allocator> From<RunFault> for Failure<'w, A> {
-    ghost from_gives = { λ run failure. failure ≡ List run };
-
-    fn from(fault: RunFault) -> Failure<'w, A> {
-        Failure::List(fault)
-    }
-}
-
-impl From<RunFault> for CopyFault {
+impl From<RunFault> for NewLogFault {
     ghost from_gives = { λ run fault. fault ≡ Run run };
 
-    fn from(fault: RunFault) -> CopyFault {
-        CopyFault::Run(fault)
+    fn from(fault: RunFault) -> NewLogFault {
+        NewLogFault::Run(fault)
     }
 }
 
-impl From<SumFault> for CopyFault {
+impl From<SumFault> for NewLogFault {
     ghost from_gives = { λ sums fault. fault ≡ Sums sums };
 
-    fn from(fault: SumFault) -> CopyFault {
-        CopyFault::Sums(fault)
+    fn from(fault: SumFault) -> NewLogFault {
+        NewLogFault::Sums(fault)
     }
 }
 
-impl From<SplitRunFault> for CopyFault {
-    ghost from_gives = { λ run fault. fault ≡ copy_fault run };
+impl From<SplitRunFault> for NewLogFault {
+    ghost from_gives = { λ run fault. fault ≡ new_log_fault run };
 
-    fn from(fault: SplitRunFault) -> CopyFault {
+    fn from(fault: SplitRunFault) -> NewLogFault {
         match fault {
-            SplitRunFault::Split(fault) => CopyFault::Split(fault),
-            SplitRunFault::Write => CopyFault::Run(RunFault::Write),
+            SplitRunFault::Split(fault) => NewLogFault::Split(fault),
+            SplitRunFault::Write => NewLogFault::Run(RunFault::Write),
         }
     }
 }
 
-impl From<SplitFault> for CopyFault {
+impl From<SplitFault> for NewLogFault {
     ghost from_gives = { λ cut fault. fault ≡ Split cut };
 
-    fn from(fault: SplitFault) -> CopyFault {
-        CopyFault::Split(fault)
+    fn from(fault: SplitFault) -> NewLogFault {
+        NewLogFault::Split(fault)
     }
 }
 
 /// Does what the arguments ask for, and answers the exit status: 0 where it is done, 1 where the log is
-/// refused or something failed, 2 where the arguments are wrong. `words` is the system's answer, which
+/// refused or something failed, 2 where the arguments are wrong. `arguments` is the system's answer, which
 /// begins with the program's name. Where the status isn't 0 the reason is printed to `errors`.
 ///
 /// Memory is taken from `alloc`; the parser of the arguments takes it from the system.
 pub fn command<R: Files + AllocGlobal, A: Allocator + Copy, O: Write, E: Write>(
     rt: &R,
     alloc: A,
-    words: io::Result<Vec<String>>,
+    arguments: io::Result<Vec<String>>,
     output: &mut Watched<O>,
     errors: &mut Watched<E>,
 ) -> ExitCode
@@ -158,20 +150,20 @@ pub fn command<R: Files + AllocGlobal, A: Allocator + Copy, O: Write, E: Write>(
     // or aren't there.
     ensures quiet { exit_status result ≡ 0 → errors.new ≡ errors.old }
     ensures unwritten { exit_status result ≡ 2 → output.new ≡ output.old }
-    ensures unread { IsErr words → (1 ≤ exit_status result) × (output.new ≡ output.old) }
+    ensures unread { IsErr arguments → (1 ≤ exit_status result) × (output.new ≡ output.old) }
 
     // A run that fails where the output doesn't has written nothing, but for the list of a log.
-    ensures refused { may_list words ≡ false → 1 ≤ exit_status result → has_failed output.new ≡ false
+    ensures refused { may_list arguments ≡ false → 1 ≤ exit_status result → has_failed output.new ≡ false
         → output.new ≡ output.old }
 {
-    let words = match words {
-        Ok(words) => words,
+    let arguments = match arguments {
+        Ok(arguments) => arguments,
         Err(error) => {
             let outcome: Result<(), Failure<A>> = Err(Failure::from(error));
             return report(outcome, errors);
         }
     };
-    let outcome = carry_out(rt, alloc, words.as_slice(), output);
+    let outcome = carry_out(rt, alloc, arguments.as_slice(), output);
     report(outcome, errors)
 }
 
@@ -192,55 +184,72 @@ fn report<A: Allocator, E: Write>(
     }
 }
 
-fn carry_out<'w, R: Files + AllocGlobal, A: Allocator + Copy, O: Write>(
+fn carry_out<'a, R: Files + AllocGlobal, A: Allocator + Copy, O: Write>(
     rt: &R,
     alloc: A,
-    words: &'w [String],
+    arguments: &'a [String],
     output: &mut Watched<O>,
-) -> Result<(), Failure<'w, A>>
+) -> Result<(), Failure<'a, A>>
     ensures unwritten { IfErr result (λ f. status_of f ≡ 2 → output.new ≡ output.old) }
-    ensures refused { OnErr result (asks_for_list words.now ≡ false → has_failed output.new ≡ false → output.new ≡ output.old) }
+    ensures refused { OnErr result (asks_for_list arguments.now ≡ false → has_failed output.new ≡ false → output.new ≡ output.old) }
     ensures begun { IfErr result (λ f. has_failed output.new ≡ false → (output.new ≡ output.old) ⊎ MayFollowList f) }
 {
-    match read_words(rt.alloc(), alloc, words)? {
-        Asked::Text(text) => put(output, text.as_bytes()).map_err(CopyFault::Run)?,
-        Asked::Copy(task) => run_copy(rt, alloc, &task, output)?,
-        Asked::List(task) => run_list(rt, alloc, &task, output)?,
+    match read_arguments(rt.alloc(), alloc, arguments)? {
+        Asked::Text(text) => put(output, text.as_bytes()).map_err(NewLogFault::Run)?,
+        Asked::NewLog(task) => {
+            let mut reader = open_log(rt, task.log)?;
+            run_new_log(rt, alloc, &mut reader, &task, output)?
+        }
+        Asked::List(task) => {
+            let mut reader = open_log(rt, task.log)?;
+            run_list(rt, alloc, &mut reader, &task, output)?
+        }
     }
     Ok(())
 }
 
-fn run_copy<'w, R: Files, A: Allocator + Copy, O: Write>(
+/// Opens the log of this path.
+fn open_log<'a, R: Files, A: Allocator>(
+    rt: &R,
+    path: &'a str,
+) -> Result<Watched<R::File>, Failure<'a, A>>
+    ensures status { IfErr result (λ f. status_of f ≡ 1) }
+{
+    match File::open(rt, path) {
+        Ok(log) => Ok(Watched::new(log)),
+        Err(cause) => Err(Failure::NoLog(path, cause)),
+    }
+}
+
+/// Makes what the task asks for of the log that is read, and writes it to standard output or to the result file.
+fn run_new_log<'a, R: Files, A: Allocator + Copy, D: Read, O: Write>(
     rt: &R,
     alloc: A,
-    task: &CopyTask<'w>,
+    reader: &mut Watched<D>,
+    task: &NewLogTask<'a>,
     output: &mut Watched<O>,
-) -> Result<(), Failure<'w, A>>
+) -> Result<(), Failure<'a, A>>
     ensures status { IfErr result (λ f. status_of f ≡ 1) }
     ensures refused { OnErr result (has_failed output.new ≡ false → output.new ≡ output.old) }
     ensures aside { IsSome task.now.result_file → output.new ≡ output.old }
-    ensures written { OnOk result (task.now.result_file ≡ None
-        → WritesCopyOf task.now.making (O.contents (device_of output.old)) (O.contents (device_of output.new))) }
+    ensures writes { task.now.result_file ≡ None
+        → OfNewLog (WritesNewLog task.now.making (D.remaining (device_of reader.old)) (D.remaining (device_of reader.new))
+        (O.contents (device_of output.old)) (O.contents (device_of output.new))) result }
 {
-    let log = match File::open(rt, task.log) {
-        Ok(log) => log,
-        Err(cause) => return Err(Failure::NoLog(task.log, cause)),
-    };
-    let mut reader = Watched::new(log);
     match task.result_file {
-        None => copy_to_output(alloc, &mut reader, task.making, output)?,
-        Some(path) => copy_to_file(rt, alloc, &mut reader, task, path)?,
+        None => new_log_to_output(alloc, reader, task.making, output)?,
+        Some(path) => new_log_to_file(rt, alloc, reader, task, path)?,
     }
     Ok(())
 }
 
 /// What is made of the log that is read.
-fn copy_text<A: Allocator + Copy, D: Read>(
+fn new_log_text<A: Allocator + Copy, D: Read>(
     alloc: A,
     reader: &mut Watched<D>,
     making: Making,
-) -> Result<Vec<u8, A>, CopyFault>
-    ensures makes { MakesCopy making (D.remaining (device_of reader.old)) (D.remaining (device_of reader.new)) result }
+) -> Result<Vec<u8, A>, NewLogFault>
+    ensures makes { MakesNewLog making (D.remaining (device_of reader.old)) (D.remaining (device_of reader.new)) result }
     ensures mark { has_failed reader.new ≡ (has_failed reader.old || is_failed_read result) }
 {
     let log = read_log(alloc, reader)?;
@@ -251,13 +260,13 @@ fn copy_text<A: Allocator + Copy, D: Read>(
 }
 
 /// Writes what is made of the log that is read to standard output. A plain log is held whole before.
-fn copy_to_output<A: Allocator + Copy, D: Read, O: Write>(
+fn new_log_to_output<A: Allocator + Copy, D: Read, O: Write>(
     alloc: A,
     reader: &mut Watched<D>,
     making: Making,
     output: &mut Watched<O>,
-) -> Result<(), CopyFault>
-    ensures writes { WritesCopy making (D.remaining (device_of reader.old)) (D.remaining (device_of reader.new))
+) -> Result<(), NewLogFault>
+    ensures writes { WritesNewLog making (D.remaining (device_of reader.old)) (D.remaining (device_of reader.new))
         (O.contents (device_of output.old)) (O.contents (device_of output.new)) result }
     ensures reader_mark { has_failed reader.new ≡ (has_failed reader.old || is_failed_read result) }
     ensures writer_mark { has_failed output.new ≡ (has_failed output.old || is_failed_write result) }
@@ -265,7 +274,7 @@ fn copy_to_output<A: Allocator + Copy, D: Read, O: Write>(
 {
     match making {
         Making::Plain => {
-            let text = copy_text(alloc, reader, making)?;
+            let text = new_log_text(alloc, reader, making)?;
             Ok(put(output, text.as_slice())?)
         }
         Making::Split(size) => split_to_output(alloc, reader, size, output),
@@ -278,8 +287,8 @@ fn split_to_output<A: Allocator + Copy, D: Read, O: Write>(
     reader: &mut Watched<D>,
     size: u32,
     output: &mut Watched<O>,
-) -> Result<(), CopyFault>
-    ensures writes { WritesCopy (made.Split size) (D.remaining (device_of reader.old)) (D.remaining (device_of reader.new))
+) -> Result<(), NewLogFault>
+    ensures writes { WritesNewLog (made.Split size) (D.remaining (device_of reader.old)) (D.remaining (device_of reader.new))
         (O.contents (device_of output.old)) (O.contents (device_of output.new)) result }
     ensures reader_mark { has_failed reader.new ≡ (has_failed reader.old || is_failed_read result) }
     ensures writer_mark { has_failed output.new ≡ (has_failed output.old || is_failed_write result) }
@@ -290,17 +299,17 @@ fn split_to_output<A: Allocator + Copy, D: Read, O: Write>(
 }
 
 /// Writes it to the file of this path, which is created once all is made. Where a write fails it is removed again.
-fn copy_to_file<'w, R: Files, A: Allocator + Copy, D: Read>(
+fn new_log_to_file<'a, R: Files, A: Allocator + Copy, D: Read>(
     rt: &R,
     alloc: A,
     reader: &mut Watched<D>,
-    task: &CopyTask<'w>,
-    path: &'w str,
-) -> Result<(), Failure<'w, A>>
+    task: &NewLogTask<'a>,
+    path: &'a str,
+) -> Result<(), Failure<'a, A>>
     ensures status { IfErr result (λ f. status_of f ≡ 1) }
 {
     check_result_file(rt, task, path)?;
-    let text = copy_text(alloc, reader, task.making)?;
+    let text = new_log_text(alloc, reader, task.making)?;
     let created = if task.force {
         File::create(rt, path)
     } else {
@@ -312,17 +321,17 @@ fn copy_to_file<'w, R: Files, A: Allocator + Copy, D: Read>(
     };
     let Ok(()) = put(&mut Watched::new(file), text.as_slice()) else {
         remove_file(rt, path);
-        return Err(Failure::Copy(CopyFault::Run(RunFault::Write)));
+        return Err(Failure::NewLog(NewLogFault::Run(RunFault::Write)));
     };
     Ok(())
 }
 
 /// The result file isn't the log, and isn't there unless it may be.
-fn check_result_file<'w, R: Files, A: Allocator>(
+fn check_result_file<'a, R: Files, A: Allocator>(
     rt: &R,
-    task: &CopyTask<'w>,
-    path: &'w str,
-) -> Result<(), Failure<'w, A>>
+    task: &NewLogTask<'a>,
+    path: &'a str,
+) -> Result<(), Failure<'a, A>>
     ensures status { IfErr result (λ f. status_of f ≡ 1) }
 {
     let Ok(there) = fs::metadata(rt, path) else {
@@ -354,47 +363,34 @@ fn remove_file<R: Files>(rt: &R, path: &str) {
     }
 }
 
-/// Lists the units of a log. One that ends too early has its list written all the same.
-fn run_list<'w, R: Files + AllocGlobal, A: Allocator + Copy, O: Write>(
+/// Writes the list of the log that is read to standard output. One that ends too early has its list written all the same.
+fn run_list<'a, R: AllocGlobal, A: Allocator + Copy, D: Read, O: Write>(
     rt: &R,
     alloc: A,
-    task: &ListTask<'w>,
+    reader: &mut Watched<D>,
+    task: &ListTask<'a>,
     output: &mut Watched<O>,
-) -> Result<(), Failure<'w, A>>
+) -> Result<(), Failure<'a, A>>
     ensures status { IfErr result (λ f. status_of f ≡ 1) }
     ensures begun { IfErr result (λ f. (output.new ≡ output.old) ⊎ MayFollowList f) }
+    ensures writes { OfList (WritesList (D.remaining (device_of reader.old)) (D.remaining (device_of reader.new))) result }
+    ensures reader_mark { OfList (λ listed. has_failed reader.new ≡ (has_failed reader.old || is_read_fault listed)) result }
+    ensures writer_mark { OfList (λ listed. has_failed output.new ≡ (has_failed output.old || is_write_fault listed)) result }
 {
-    let log = match File::open(rt, task.log) {
+    let log = match read_log(alloc, reader) {
         Ok(log) => log,
-        Err(cause) => return Err(Failure::NoLog(task.log, cause)),
+        Err(fault) => return Err(Failure::List(fault)),
     };
-    let mut reader = Watched::new(log);
-    match list_to_output(rt.alloc(), alloc, &mut reader, task, output)? {
-        Some(fault) => Err(Failure::EndsEarly(fault)),
-        None => Ok(()),
-    }
-}
-
-/// Writes the list of the log that is read to standard output, and answers why that ends too early, where it does.
-fn list_to_output<A: Allocator + Copy, D: Read, O: Write>(
-    global: Global,
-    alloc: A,
-    reader: &mut Watched<D>,
-    task: &ListTask<'_>,
-    output: &mut Watched<O>,
-) -> Result<Option<Fault>, RunFault>
-    ensures writes { WritesList (D.remaining (device_of reader.old)) (D.remaining (device_of reader.new)) result }
-    ensures begun { IfErr result (λ e. (output.new ≡ output.old) ⊎ MayHaveListed e) }
-    ensures reader_mark { has_failed reader.new ≡ (has_failed reader.old || is_read_fault result) }
-    ensures writer_mark { has_failed output.new ≡ (has_failed output.old || is_write_fault result) }
-{
-    let log = read_log(alloc, reader)?;
-    list(
-        global,
+    match list(
+        rt.alloc(),
         alloc,
         log.as_slice(),
         &task.wanted,
         task.form,
         output,
-    )
+    ) {
+        Ok(None) => Ok(()),
+        Ok(Some(fault)) => Err(Failure::EndsEarly(fault)),
+        Err(fault) => Err(Failure::List(fault)),
+    }
 }

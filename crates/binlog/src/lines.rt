@@ -1,7 +1,7 @@
 //! The lines on standard error.
 
-use crate::commands::{CopyFault, Failure};
-use crate::words::WordsFault;
+use crate::arguments::ArgumentsFault;
+use crate::commands::{Failure, NewLogFault};
 use blog_device::{RunFault, Watched, put};
 use blog_event::Fault;
 use blog_split::SplitFault;
@@ -14,7 +14,7 @@ impl<A: Allocator> Failure<'_, A> {
     /// Prints the failure. What can't be printed is dropped.
     pub fn print<E: Write>(&self, errors: &mut Watched<E>) {
         let _ = match self {
-            Failure::Words(WordsFault::Wrong(text)) => put(errors, text.as_bytes()),
+            Failure::Arguments(ArgumentsFault::Wrong(text)) => put(errors, text.as_bytes()),
             _ => put_line(errors, "binlog", self),
         };
     }
@@ -24,9 +24,9 @@ impl<A: Allocator> Failure<'_, A> {
 impl<A: Allocator> fmt::Display for Failure<'_, A> {
     fn fmt<W: fmt::Write>(&self, f: &mut fmt::Formatter<W>) -> fmt::Result {
         match self {
-            Failure::Words(WordsFault::Wrong(text)) => write!(f, "{text}"),
-            Failure::Words(WordsFault::NotText) => f.write_str(NOT_TEXT),
-            Failure::Words(WordsFault::OutOfMemory) => {
+            Failure::Arguments(ArgumentsFault::Wrong(text)) => write!(f, "{text}"),
+            Failure::Arguments(ArgumentsFault::NotText) => f.write_str(NOT_TEXT),
+            Failure::Arguments(ArgumentsFault::OutOfMemory) => {
                 let fault = Fault::OutOfMemory;
                 write!(f, "{fault}: {}", advice::of_log(&fault))
             }
@@ -46,21 +46,21 @@ impl<A: Allocator> fmt::Display for Failure<'_, A> {
                 f,
                 "cannot create the result file {path}: {cause}: {NO_RESULT_FILE}"
             ),
-            Failure::Copy(CopyFault::Run(fault)) | Failure::List(fault) => print_run_fault(
+            Failure::NewLog(NewLogFault::Run(fault)) | Failure::List(fault) => print_run_fault(
                 f, fault,
             ),
             Failure::EndsEarly(fault) => write!(f, "{fault}: {}", advice::of_end(fault)),
-            Failure::Copy(CopyFault::Sums(fault)) => write!(
+            Failure::NewLog(NewLogFault::Sums(fault)) => write!(
                 f,
                 "{fault}: {}",
                 advice::of_sums(fault)
             ),
-            Failure::Copy(CopyFault::Split(SplitFault::Log(fault))) => write!(
+            Failure::NewLog(NewLogFault::Split(SplitFault::Log(fault))) => write!(
                 f,
                 "{fault}: {}",
                 advice::of_whole_log(fault)
             ),
-            Failure::Copy(CopyFault::Split(SplitFault::TooLong)) => f.write_str(CUT_TOO_LONG),
+            Failure::NewLog(NewLogFault::Split(SplitFault::TooLong)) => f.write_str(CUT_TOO_LONG),
         }
     }
 }

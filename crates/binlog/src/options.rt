@@ -144,25 +144,25 @@ Examples:
 Exit status: 0 done, 1 the log is refused or something failed, 2 the arguments are wrong.";
 
 /// Every command that the program knows, with its options.
-pub fn all_words<'w>(alloc: Global) -> Result<Command<'w>, AllocError> {
+pub fn all_arguments<'a>(alloc: Global) -> Result<Command<'a>, AllocError> {
     Command::new(alloc, "binlog")
         .version(VERSION)
         .about(ABOUT)
         .override_usage(USAGE)
         .after_help(AFTER_HELP)
         .subcommand_required(true)
-        .subcommand(plain_words(alloc)?)?
-        .subcommand(list_words(alloc)?)?
-        .subcommand(split_words(alloc)?)
+        .subcommand(plain_arguments(alloc)?)?
+        .subcommand(list_arguments(alloc)?)?
+        .subcommand(split_arguments(alloc)?)
 }
 
 /// The command `plain`, with its options.
-fn plain_words<'w>(alloc: Global) -> Result<Command<'w>, AllocError> {
+fn plain_arguments<'a>(alloc: Global) -> Result<Command<'a>, AllocError> {
     let command = Command::new(alloc, PLAIN)
         .about(PLAIN_ABOUT)
         .override_usage(PLAIN_USAGE)
         .after_help(PLAIN_AFTER_HELP);
-    copying_words(
+    new_log_arguments(
         alloc,
         command,
         "Create FILE once LOG is checked, and write to it; it must not be there",
@@ -170,7 +170,7 @@ fn plain_words<'w>(alloc: Global) -> Result<Command<'w>, AllocError> {
 }
 
 /// The command `split`, with its options.
-fn split_words<'w>(alloc: Global) -> Result<Command<'w>, AllocError> {
+fn split_arguments<'a>(alloc: Global) -> Result<Command<'a>, AllocError> {
     let command = Command::new(alloc, SPLIT)
         .about(SPLIT_ABOUT)
         .override_usage(SPLIT_USAGE)
@@ -178,19 +178,19 @@ fn split_words<'w>(alloc: Global) -> Result<Command<'w>, AllocError> {
     let size = option(alloc, SIZE, "BYTES").help(
         "The most bytes of rows events of a statement, headers included; 8000000 if it isn't given",
     );
-    copying_words(
+    new_log_arguments(
         alloc,
         command.arg(size)?,
         "Create FILE once LOG is cut, and write to it; it must not be there",
     )
 }
 
-/// Adds the options of a copy, and its argument LOG.
-fn copying_words<'w>(
+/// Adds the options of a command that makes a new log, and its argument LOG.
+fn new_log_arguments<'a>(
     alloc: Global,
-    command: Command<'w>,
-    creating: &'w str,
-) -> Result<Command<'w>, AllocError> {
+    command: Command<'a>,
+    creating: &'a str,
+) -> Result<Command<'a>, AllocError> {
     let file = option(alloc, RESULT_FILE, "FILE").help(creating);
     let force = flag(alloc, FORCE).help("With -r: overwrite FILE if it is there");
     let log = Arg::new(alloc, LOG).help("The binary log, a file");
@@ -201,7 +201,7 @@ fn copying_words<'w>(
 }
 
 /// The command `list`, with its options.
-fn list_words<'w>(alloc: Global) -> Result<Command<'w>, AllocError> {
+fn list_arguments<'a>(alloc: Global) -> Result<Command<'a>, AllocError> {
     let command = Command::new(alloc, LIST)
         .about(LIST_ABOUT)
         .override_usage(LIST_USAGE)
@@ -214,7 +214,7 @@ fn list_words<'w>(alloc: Global) -> Result<Command<'w>, AllocError> {
     );
     let json = flag(alloc, JSON).help("Write JSON, an object a line");
     let log = Arg::new(alloc, LOG).help("The binary log, a file without checksums");
-    ranging_words(
+    range_arguments(
         alloc,
         command.arg(database.short('d'))?.arg(table.short('T'))?,
     )?
@@ -223,7 +223,7 @@ fn list_words<'w>(alloc: Global) -> Result<Command<'w>, AllocError> {
 }
 
 /// Adds the options that bound positions and times.
-fn ranging_words<'w>(alloc: Global, command: Command<'w>) -> Result<Command<'w>, AllocError> {
+fn range_arguments<'a>(alloc: Global, command: Command<'a>) -> Result<Command<'a>, AllocError> {
     let start = option(alloc, START, "POS").help("Only the units that start at POS or behind it");
     let stop = option(alloc, STOP, "POS").help("Only the units that start before POS");
     let from = option(alloc, START_TIME, "TIME").help(

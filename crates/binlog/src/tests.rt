@@ -1,5 +1,6 @@
 //! Runs of the program, over files in the folder for temporary files and writers in memory.
 
+mod commands;
 mod failing_writers;
 mod lists;
 mod refused_memory;
@@ -20,14 +21,14 @@ use testkit::runs::Outcome;
 const STOP: usize = 120;
 
 /// The arguments of a run, of which the first is the program's name.
-fn words_of(rt: &HostRuntime, words: &[&str]) -> Result<Vec<String>, AllocError> {
-    testkit::runs::words_of(rt, "binlog", words)
+fn arguments_of(rt: &HostRuntime, arguments: &[&str]) -> Result<Vec<String>, AllocError> {
+    testkit::runs::arguments_of(rt, "binlog", arguments)
 }
 
-fn run_given(rt: &HostRuntime, words: io::Result<Vec<String>>) -> Outcome {
+fn run_given(rt: &HostRuntime, arguments: io::Result<Vec<String>>) -> Outcome {
     let mut output = Watched::new(Vec::new(rt.alloc()));
     let mut errors = Watched::new(Vec::new(rt.alloc()));
-    let status = command(rt, rt.alloc(), words, &mut output, &mut errors);
+    let status = command(rt, rt.alloc(), arguments, &mut output, &mut errors);
     Outcome {
         status,
         output,
@@ -35,8 +36,8 @@ fn run_given(rt: &HostRuntime, words: io::Result<Vec<String>>) -> Outcome {
     }
 }
 
-fn run_words(rt: &HostRuntime, words: &[&str]) -> Result<Outcome, AllocError> {
-    Ok(run_given(rt, Ok(words_of(rt, words)?)))
+fn run_arguments(rt: &HostRuntime, arguments: &[&str]) -> Result<Outcome, AllocError> {
+    Ok(run_given(rt, Ok(arguments_of(rt, arguments)?)))
 }
 
 /// A path in the folder for temporary files that no other test has.
@@ -44,11 +45,11 @@ fn path_of(rt: &HostRuntime, name: &str) -> io::Result<PathBuf> {
     testkit::runs::path_of(rt, "binlog", name)
 }
 
-/// Runs the program with these words and a file of these bytes as the last word.
-fn run_log(rt: &HostRuntime, name: &str, log: &[u8], words: &[&str]) -> Result<Outcome, Fail> {
+/// Runs the program with these arguments and a file of these bytes as the last argument.
+fn run_log(rt: &HostRuntime, name: &str, log: &[u8], arguments: &[&str]) -> Result<Outcome, Fail> {
     let path = path_of(rt, name)?;
     fs::write(rt, path.as_path(), log)?;
-    let mut all = words_of(rt, words)?;
+    let mut all = arguments_of(rt, arguments)?;
     all.push(String::from_str(rt.alloc(), path.as_str())?)?;
     let outcome = run_given(rt, Ok(all));
     fs::remove_file(rt, path.as_path())?;
@@ -99,10 +100,10 @@ fn logs_that_cannot_be_read_are_told(rt: HostRuntime) -> Result<(), Fail> {
     let line = format!(in rt.alloc();
         "binlog: cannot open the log {absent_name}: No such file or directory (os error 2): "
     )?;
-    let outcome = run_words(&rt, &["plain", absent.as_str()])?;
+    let outcome = run_arguments(&rt, &["plain", absent.as_str()])?;
     assert!(rt; outcome.begins_refusal(1, line.as_str()));
     let folder = env::temp_dir(&rt)?;
-    let outcome = run_words(&rt, &["plain", folder.as_str()])?;
+    let outcome = run_arguments(&rt, &["plain", folder.as_str()])?;
     assert!(rt; outcome.begins_refusal(1, "binlog: read failed: "));
     Ok(())
 }
@@ -122,8 +123,8 @@ fn help_and_version_are_written(rt: HostRuntime) -> Result<(), Fail> {
         ),
         (&["--version"], "binlog 0.1.0 (proved with "),
     ];
-    for (words, text) in cases {
-        let outcome = run_words(&rt, words)?;
+    for (arguments, text) in cases {
+        let outcome = run_arguments(&rt, arguments)?;
         assert_eq!(rt; outcome.status, ExitCode::SUCCESS);
         assert!(rt; outcome.errors().is_empty());
         assert!(rt; str::from_utf8(outcome.output())?.contains(text), "{text}");
@@ -132,7 +133,7 @@ fn help_and_version_are_written(rt: HostRuntime) -> Result<(), Fail> {
 }
 
 #[test]
-fn wrong_words_end_in_two(rt: HostRuntime) -> Result<(), Fail> {
+fn wrong_arguments_end_in_two(rt: HostRuntime) -> Result<(), Fail> {
     let cases = [
         &[] as &[&str],
         &["plain"],
@@ -141,10 +142,10 @@ fn wrong_words_end_in_two(rt: HostRuntime) -> Result<(), Fail> {
         &["other", "a"],
         &["a"],
     ];
-    for words in cases {
+    for arguments in cases {
         assert!(rt;
-            run_words(&rt, words)?.begins_refusal(2, "error: "),
-            "{words:?}"
+            run_arguments(&rt, arguments)?.begins_refusal(2, "error: "),
+            "{arguments:?}"
         );
     }
     let not_text = run_given(&rt, Err(io::Error::from(io::ErrorKind::InvalidData)));

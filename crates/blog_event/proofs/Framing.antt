@@ -381,8 +381,8 @@ front-first bytes stop (e ∷ es) front =
     (events_from further.0 stop (end_of 4 (e ∷ es)) file.0, further.1)
 
 -- what is read is the one longest list
-pub reads-longest : (bytes : List ℕ) (stop : Option ℕ) → AreBytes bytes → ReadsLongest bytes stop
-reads-longest bytes stop are = record {
+pub reads_longest : (bytes : List ℕ) (stop : Option ℕ) → AreBytes bytes → ReadsLongest bytes stop
+reads_longest bytes stop are = record {
   is = record {
     front = read-front bytes stop are;
     longest = λ others front.

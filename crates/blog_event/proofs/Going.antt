@@ -89,8 +89,8 @@ are-read-within bytes stop at (e ∷ es) (below, stands, left) within =
     are-read-within bytes stop (at + event_size e) es left (omega (arith, length-drop at bytes))
 
 -- what is left from a position on
-pub is-left : (bytes : List ℕ) (stop : Option ℕ) (at : ℕ) (es : List Event) → AreRead bytes stop at es → IsLeft bytes stop at es
-is-left bytes stop at es read = record {
+pub is_left : (bytes : List ℕ) (stop : Option ℕ) (at : ℕ) (es : List Event) → AreRead bytes stop at es → IsLeft bytes stop at es
+is_left bytes stop at es read = record {
   are = read;
   only = λ others also. are-read-only bytes stop at es others read also;
   within = λ within. are-read-within bytes stop at es read within;
@@ -110,7 +110,7 @@ reads-on bytes stop e mark stands =
       later = later;
       read_is = read-first bytes stop e mark stands ∙ ap (λ (rest : List ℕ). e ∷ events_from (length bytes) stop at rest) behind;
       stands = stands;
-      left = is-left bytes stop at later are;
+      left = is_left bytes stop at later are;
       inside = are-read-within bytes stop at later are start;
     }
 
@@ -121,9 +121,9 @@ opened-reads-on bytes stop opened =
     reads-on bytes stop log.0 log.1.mark log.1.stands
 
 -- the items of a log are the events that are left, and a fault where they don't reach to its end
-pub items-left : (bytes : List ℕ) (at : ℕ) (es : List Event) → AreRead bytes None at es → items_from bytes at ≡ items_of at (length bytes) es
+pub items_left : (bytes : List ℕ) (at : ℕ) (es : List Event) → AreRead bytes None at es → items_from bytes at ≡ items_of at (length bytes) es
 unfolding items_from
-items-left bytes at es read =
+items_left bytes at es read =
     let computed = are-read (length bytes) bytes None at (omega (arith, length-drop at bytes)) in
     ap (items_of at (length bytes)) (are-read-only bytes None at es (events_from (length bytes) None at (drop at bytes)) read computed)
 
@@ -199,8 +199,8 @@ front-whole bytes stop (e ∷ es) some front ends =
     sym (further.1 ∙ ap (λ (later : List Event). (e ∷ es) ++ later) none ∙ append-nil (e ∷ es))
 
 -- the fronts of a file
-pub fronts-grow : (bytes : List ℕ) (stop : Option ℕ) → AreBytes bytes → FrontsGrow bytes stop
-fronts-grow bytes stop are = record {
+pub fronts_grow : (bytes : List ℕ) (stop : Option ℕ) → AreBytes bytes → FrontsGrow bytes stop
+fronts_grow bytes stop are = record {
   first = λ e mark stands. front-first-event bytes stop e are mark stands;
   longer = λ es e some front below stands. front-longer bytes stop es e are some front below stands;
   whole = λ es some front ends. front-whole bytes stop es some front ends;

@@ -14,7 +14,7 @@ event-at-short bytes short = let test : nat_le 19 (length bytes) ≡ false = lt-
 -- ---- what is appended
 
 -- a header and the body behind it are an event's text
-pub head-and-body : (old items new : List ℕ) (pos : ℕ) (header : Header) (body : List ℕ) (n : ℕ) → n ≡ length body → items ≡ old ++ header_text (ending pos (19 + n) header)
+pub head_and_body : (old items new : List ℕ) (pos : ℕ) (header : Header) (body : List ℕ) (n : ℕ) → n ≡ length body → items ≡ old ++ header_text (ending pos (19 + n) header)
     → new ≡ items ++ body → new ≡ old ++ event_text (appended pos header body)
 unfolding header_text event_text
-head-and-body old items new pos header body n len front behind = rw (behind, front, len) (append_assoc old (header_text (ending pos (19 + length body) header)) body)
+head_and_body old items new pos header body n len front behind = rw (behind, front, len) (append_assoc old (header_text (ending pos (19 + length body) header)) body)

@@ -97,5 +97,5 @@ pub opens-log : (bytes : List ℕ) (first : Event) → IsLog bytes first → ope
 opens-log bytes first log =
     opening-format bytes first log.short ((bytes_eq-Decides (take 4 bytes) magic).1 log.mark) log.stands ∙ ap (fault_at 4) log.accepted
 
-pub opens-logs : (bytes : List ℕ) → OpensLogs bytes
-opens-logs bytes = record { opened = opened-log bytes; opens = opens-log bytes }
+pub opens_logs : (bytes : List ℕ) → OpensLogs bytes
+opens_logs bytes = record { opened = opened-log bytes; opens = opens-log bytes }

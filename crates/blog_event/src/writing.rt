@@ -12,6 +12,7 @@ use byteorder::{ByteOrder, LittleEndian};
 use std::alloc::Allocator;
 
 /// The 19 bytes of a header (MySQL Internals manual, "Binary Log Event Header").
+#[tactic(auto, unfolding(crate::specs::Writing::header_text))]
 fn header_bytes(header: Header) -> [u8; 19]
     ensures { result ≡ header_text header }
 {
@@ -105,6 +106,7 @@ pub fn put_event<A: Allocator>(
 /// Appends an event to a part of a file: `out` holds the file's bytes from position `from` on. The rest is as for
 /// `put_event`, its errors too; `log_pos` is a position of the whole file.
 #[inline(always)]
+#[tactic(auto, using(crate::proofs::Headers::head_and_body))]
 pub fn put_event_from<A: Allocator>(
     out: &mut Vec<u8, A>,
     from: usize,

@@ -48,14 +48,6 @@ module _ {bytes : List ℕ} {sel : Selection} {e : Event} (h : IsOpened bytes se
   pub first-end : (n : ℕ) → option_map (λ e. 4 + event_size e) (event_at (drop 4 bytes)) ≡ Some n → 4 + event_size e ≡ n
   first-end n first = same_Some (4 + event_size e) n (ap (option_map (λ e. 4 + event_size e)) (sym h.stands) ∙ first)
 
-  -- and the groups behind it
-  pub laid-length : (order : Order) (n : ℕ) → option_map (λ e. 4 + event_size e) (event_at (drop 4 bytes)) ≡ Some n
-      → n + total (group_events (transactions_of order (placed_groups bytes sel))) ≡ length (laid_out_after (read bytes sel.stop) (groups_in order (groups bytes sel)))
-  unfolding groups
-  laid-length order n first =
-      let ts = groups_in order (groups bytes sel) in
-      omega (arith, ap length (first-laid ts), laid-out-length e ts, first-end n first)
-
   -- ---- its text
 
   -- the magic number and the event at 4 are copied

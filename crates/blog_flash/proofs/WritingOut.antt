@@ -49,9 +49,3 @@ pub way-end : (had has now : Option (List ℕ)) (text held left : List ℕ) → 
 way-end had has now text held left way none appended =
     subst (Appends had now) (ap (λ (bytes : List ℕ). way.done ++ bytes) (sym (append-nil held) ∙ ap (λ (bytes : List ℕ). held ++ bytes) (sym none)) ∙ way.all)
     (Appends-trans had has now way.done held way.written appended)
-
--- what is told of it
-pub written-whole : (had has : Option (List ℕ)) (text log : List ℕ) (r : Result Unit RunFault) → text ≡ log → OnOk r (Appends had has text) → OnErr r (AppendsBeginning had has text)
-    → IfErr r (λ e. e ≡ Write) → IsWritten had has log r
-written-whole had has text log (Ok done) same written beginning fault = subst (Appends had has) same written
-written-whole had has text log (Err e) same written beginning fault = subst (λ f. IsWritten had has log (Err f)) (sym fault) (subst (AppendsBeginning had has) same beginning)

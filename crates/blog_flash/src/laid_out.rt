@@ -28,7 +28,8 @@ fn front_of<'b, A: Allocator>(bytes: &'b [u8], index: &Index<'_, '_, A>) -> &'b 
 /// that is the log of these groups.
 pub fn front<'a, A: Allocator>(index: &Index<'a, '_, A>) -> &'a [u8]
     ensures any { (ts : List Transaction) → result.now ++ text_from (length result.now) (group_events ts) ≡ laid_out_after (read (index_bytes index.now) (index_selection index.now).stop) ts }
-    ensures within { length result.now ≤ 4294967295 }
+    ensures within { length result.now ≤ length (index_bytes index.now) }
+    ensures fits { length result.now ≤ 4294967295 }
     ensures short { (order : Order) → end_of (length result.now) (group_events (transactions_of order (index_groups index.now))) ≤ 4294967295 }
 {
     front_of(index.log().bytes(), index)

@@ -145,10 +145,6 @@ values-kept test (p ∷ maps) = by_case (test (event_value p)) (values-kept test
     by_case true more = ap (λ (es : List Event). event_value p ∷ es) more
     by_case false more = more
 
--- the first of the numbers that are left
-pub numbered-first : (maps : List Placed) (ns : List ℕ) (i n : ℕ) (p : Placed) → slice_get ns i ≡ Some n → slice_get maps n ≡ Some p → numbered maps (drop i ns) ≡ p ∷ numbered maps (drop (i + 1) ns)
-numbered-first maps ns i n p at here = ap (numbered maps) (drop-at ns i n at) ∙ ap (λ (o : Option Placed). cons_option o (numbered maps (drop (i + 1) ns))) here
-
 -- a number at its place
 pub number-at : (ns : List ℕ) (i d : ℕ) → i < length ns → slice_get ns i ≡ Some (get_or ns i d)
 number-at ns i d within = let n = at-some ns i within in n.1 ∙ ap Some (sym (get_or_from_slice_get ns i n.0 d n.1))

@@ -180,6 +180,6 @@ says-fault bytes =
     ) in
     says-first OfFront checks all
 
-pub faults-of-front : (bytes : List ℕ) (fault : Fault) → sum_fault bytes ≡ Some (Log fault) → is_of_a_front fault ≡ true
+pub faults_of_front : (bytes : List ℕ) (fault : Fault) → sum_fault bytes ≡ Some (Log fault) → is_of_a_front fault ≡ true
 unfolding Says OfFront
-faults-of-front bytes fault is = says-fault bytes (Log fault) is fault refl
+faults_of_front bytes fault is = says-fault bytes (Log fault) is fault refl

@@ -251,24 +251,24 @@ by-sums {A = A} bytes fine with_sums without = by_case (has_sums bytes) refl
     by_case true is = with_sums is
     by_case false is = let known = (is-summed bytes fine).known in let none : algorithm_of bytes ≡ 0 = grind (arith, nat_tests) in without none
 
-pub plain-fine : (bytes : List ℕ) → AreBytes bytes → sum_fault bytes ≡ None → sum_fault (plain_of bytes) ≡ None
-plain-fine bytes are fine =
+pub plain_fine : (bytes : List ℕ) → AreBytes bytes → sum_fault bytes ≡ None → sum_fault (plain_of bytes) ≡ None
+plain_fine bytes are fine =
     by-sums bytes fine (λ sums. plain-accepted bytes (has-plain bytes are fine sums))
     (λ none. ap sum_fault (unsummed-same bytes none) ∙ fine)
 
-pub plain-same : (bytes : List ℕ) → AreBytes bytes → sum_fault bytes ≡ None → plain_of (plain_of bytes) ≡ plain_of bytes
-plain-same bytes are fine =
+pub plain_same : (bytes : List ℕ) → AreBytes bytes → sum_fault bytes ≡ None → plain_of (plain_of bytes) ≡ plain_of bytes
+plain_same bytes are fine =
     by-sums bytes fine
     (λ sums.
     let plain = has-plain bytes are fine sums in
     unsummed-same (plain_of bytes) (summed-algorithm (plain_of bytes) (plain_format plain.format) (plain-stands bytes plain) ∙ plain.none))
     (λ none. ap plain_of (unsummed-same bytes none))
 
-pub plain-read-again : (bytes : List ℕ) → AreBytes bytes → sum_fault bytes ≡ None → has_sums bytes ≡ true → read (plain_of bytes) None ≡ plain_events (read bytes None)
-plain-read-again bytes are fine sums = let plain = has-plain bytes are fine sums in plain-read bytes plain ∙ sym plain.are
+pub plain_read_again : (bytes : List ℕ) → AreBytes bytes → sum_fault bytes ≡ None → has_sums bytes ≡ true → read (plain_of bytes) None ≡ plain_events (read bytes None)
+plain_read_again bytes are fine sums = let plain = has-plain bytes are fine sums in plain-read bytes plain ∙ sym plain.are
 
-pub plain-no-longer : (bytes : List ℕ) → AreBytes bytes → sum_fault bytes ≡ None → length (plain_of bytes) ≤ length bytes
-plain-no-longer bytes are fine =
+pub plain_no_longer : (bytes : List ℕ) → AreBytes bytes → sum_fault bytes ≡ None → length (plain_of bytes) ≤ length bytes
+plain_no_longer bytes are fine =
     by-sums bytes fine
     (λ sums. let plain = has-plain bytes are fine sums in let ends = plain.ends in omega (arith, plain-length bytes plain))
     (λ none. omega (arith, ap length (unsummed-same bytes none)))
@@ -277,8 +277,8 @@ plain-no-longer bytes are fine =
 format-accepted : (format : Event) → description_fault format ≡ None → algorithm format.body ≡ 0 → format_fault format ≡ None
 format-accepted format accepted none = format-by-algorithm format (ap (fault_at 4) accepted) ∙ (rw none refl)
 
-pub plain-opens : (bytes : List ℕ) → AreBytes bytes → sum_fault bytes ≡ None → opening_fault (plain_of bytes) ≡ None
-plain-opens bytes are fine =
+pub plain_opens : (bytes : List ℕ) → AreBytes bytes → sum_fault bytes ≡ None → opening_fault (plain_of bytes) ≡ None
+plain_opens bytes are fine =
     by-sums bytes fine
     (λ sums.
     let plain = has-plain bytes are fine sums in

@@ -24,10 +24,6 @@ reverse-behind x xs ys = ap (λ l. l ++ ys) (reverse-latest x xs) ∙ append_ass
 
 -- ---- checks
 
--- where no check fails, the first holds, and no other fails
-pub needs-passed : (b : Bool) (cause : Cause) (others : List (Option Cause)) → first_failing (needs b cause ∷ others) ≡ None → (b ≡ true) × (first_failing others ≡ None)
-needs-passed b cause others e = search rules
-
 -- the first check finds nothing, and no other does
 pub first-passed : (check : Option Cause) (others : List (Option Cause)) → first_failing (check ∷ others) ≡ None → (check ≡ None) × (first_failing others ≡ None)
 first-passed check others e = search rules

@@ -35,10 +35,6 @@ pub record Left {A : Type 0} (bytes : List ℕ) (sel : Selection) (at : ℕ) (bu
   pub whole : reverse earlier ++ placed_from at left ≡ placed_from 4 (read bytes sel.stop)
   pub ends : end_of at left ≡ end_of 4 (read bytes sel.stop)
 
--- no fault before others
-fault-behind : (check : Option Fault) (others : Option Fault) → check ≡ None → first_failing (check ∷ others ∷ []) ≡ others
-fault-behind check others none = ap (λ c. first_failing (c ∷ others ∷ [])) none ∙ alone others
-
 fault-first : (check : Option Fault) (others : List (Option Fault)) (f : Fault) → check ≡ Some f → first_failing (check ∷ others) ≡ Some f
 fault-first check others f is = ap (λ c. first_failing (c ∷ others)) is
 

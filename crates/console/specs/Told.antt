@@ -2,8 +2,8 @@
 use Rattle.std.specs.Prelude.{◌≡◌, ◌⊎◌}
 use Rattle.clap.specs.declared.error.kind.ErrorKind.{ErrorKind}
 use Rattle.clap.specs.declared.error.kind.ErrorKind.TheVariants.{DisplayHelp, DisplayVersion}
-use Rattle.console.specs.declared.words.Told.{Told}
-use Rattle.console.specs.declared.words.Told.TheVariants.{Asked, Wrong}
+use Rattle.console.specs.declared.arguments.Told.{Told}
+use Rattle.console.specs.declared.arguments.Told.TheVariants.{Asked, Wrong}
 
 -- it is the help, or the version
 abbrev pub AsksForText : ErrorKind → Type 0

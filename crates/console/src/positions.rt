@@ -12,13 +12,13 @@ use std::alloc::{AllocError, Allocator};
 pub const POSITION: &str = "a position: decimal digits, 0 to 4294967295";
 
 /// The byte position that a value means: decimal digits and nothing else, below 2^32. None of any other value.
-pub fn position_of(word: &str) -> Option<u32>
-    ensures { SomeIff result (IsPosition word.now) (digits_value 10 word.now) }
+pub fn position_of(value: &str) -> Option<u32>
+    ensures { SomeIff result (IsPosition value.now) (digits_value 10 value.now) }
 {
     // the parser of numbers takes a plus
-    match word.as_bytes().first() {
+    match value.as_bytes().first() {
         Some(b'+') => None,
-        _ => word.parse().ok(),
+        _ => value.parse().ok(),
     }
 }
 

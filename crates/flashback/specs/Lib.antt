@@ -1,2 +1,3 @@
 pub mod Request
 pub mod Status
+pub mod Runs

@@ -10,18 +10,18 @@ use Rattle.console.specs.Positions.{IsPositionOf, IsWrongPosition}
 use Rattle.console.specs.Told.{AsksForText}
 use Rattle.blog_flash.specs.declared.modes.Mode.{Mode}
 use Rattle.blog_flash.specs.declared.modes.Mode.TheVariants.{Flashback, Forward, FlashbackSql, ForwardSql, Summary}
-use Rattle.flashback.specs.declared.words.Asked.{Asked}
-use Rattle.flashback.specs.declared.words.Asked.TheVariants.{Help, Run}
-use Rattle.flashback.specs.declared.words.ModeFault.{ModeFault}
-use Rattle.flashback.specs.declared.words.ModeFault.TheVariants.{NotOneMode, SqlOfSummary}
-use Rattle.flashback.specs.declared.words.Task.{Task}
-use Rattle.flashback.specs.declared.words.WordsFault.{WordsFault}
-use Rattle.flashback.specs.declared.words.WordsFault.TheVariants.{Wrong, Mode as NoMode, NotText, OutOfMemory}
+use Rattle.flashback.specs.declared.arguments.Asked.{Asked}
+use Rattle.flashback.specs.declared.arguments.Asked.TheVariants.{Help, Run}
+use Rattle.flashback.specs.declared.arguments.ModeFault.{ModeFault}
+use Rattle.flashback.specs.declared.arguments.ModeFault.TheVariants.{NotOneMode, SqlOfSummary}
+use Rattle.flashback.specs.declared.arguments.Task.{Task}
+use Rattle.flashback.specs.declared.arguments.ArgumentsFault.{ArgumentsFault}
+use Rattle.flashback.specs.declared.arguments.ArgumentsFault.TheVariants.{Wrong, Mode as NoMode, NotText, OutOfMemory}
 
 -- ---- positions
 
 -- why an option has no position: its value means none, or memory was refused
-abbrev pub RefusesPosition : {A : Type 0} → Option (List ℕ) → WordsFault A → Type 0
+abbrev pub RefusesPosition : {A : Type 0} → Option (List ℕ) → ArgumentsFault A → Type 0
 RefusesPosition value (Wrong text) = IsWrongPosition value
 RefusesPosition value (NoMode fault) = ⊥
 RefusesPosition value NotText = ⊥
@@ -61,7 +61,7 @@ pub record IsAsked (found : Found) (task : Task) : Type 0 where
   pub log : task.log.now ≡ unwrap_or (first_value found (codes "LOG")) []
 
 -- why no run is asked for: a position is wrong, the flags choose no mode, or memory was refused
-abbrev pub RefusesRun : {A : Type 0} → Found → WordsFault A → Type 0
+abbrev pub RefusesRun : {A : Type 0} → Found → ArgumentsFault A → Type 0
 RefusesRun found (Wrong text) = IsWrongPosition (first_value found (codes "start-position")) ⊎ IsWrongPosition (first_value found (codes "stop-position"))
 RefusesRun found (NoMode fault) = asked_mode found ≡ Err fault
 RefusesRun found NotText = ⊥
@@ -71,7 +71,7 @@ RefusesRun found OutOfMemory = ⊤
 
 -- what is asked for by it: the run by what it found, a text where that is its answer, and else the arguments are wrong or
 -- memory was refused
-abbrev pub IsRead : {A : Type 0} → Result ArgMatches Error → Result (Asked A) (WordsFault A) → Type 0
+abbrev pub IsRead : {A : Type 0} → Result ArgMatches Error → Result (Asked A) (ArgumentsFault A) → Type 0
 IsRead (Ok matches) (Ok (Run task)) = IsAsked (found_of matches) task
 IsRead (Ok matches) (Ok (Help text)) = ⊥
 IsRead (Ok matches) (Err fault) = RefusesRun (found_of matches) fault

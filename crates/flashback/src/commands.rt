@@ -1,15 +1,16 @@
 //! One run of the program, from its arguments to its exit status.
 
-ghost use Rattle.std.specs.Prelude.{◌≡◌, ◌≤◌, ◌||◌, IfErr, IsErr, IsOk, IsSome, OnErr, false, true};
+ghost use Rattle.std.specs.Prelude.{◌≡◌, ◌≤◌, ◌||◌, IfErr, IsErr, IsOk, IsSome, None, OnErr, false, true};
 ghost use Rattle.std.specs.Process.{exit_status};
 ghost use Rattle.blog_trans.specs.Selection.{selection_of};
 ghost use Rattle.blog_device.specs.Devices.{is_write_fault};
 ghost use Rattle.blog_device.specs.Watched.{device_of, has_failed};
 ghost use Rattle.blog_flash.specs.Runs.{Prepares, Runs, ends_before_writing};
+ghost use Rattle.flashback.specs.Runs.{OfRun};
 ghost use Rattle.flashback.specs.Status.{status_of};
-ghost use Rattle.flashback.specs.declared.commands.Failure.TheVariants.{Words, Run};
+ghost use Rattle.flashback.specs.declared.commands.Failure.TheVariants.{Arguments, Run};
 
-use crate::words::{Asked, Task, WordsFault, read_words};
+use crate::arguments::{ArgumentsFault, Asked, Task, read_arguments};
 use blog_flash::{RunFault, Watched, prepare, put, run};
 use std::alloc::Allocator;
 use std::fs::File;
@@ -22,7 +23,7 @@ use std::rt::Files;
 #[derive(Drop)]
 pub enum Failure<A: Allocator> {
     /// The arguments ask for nothing.
-    Words(WordsFault<A>),
+    Arguments(ArgumentsFault<A>),
     /// The log can't be opened.
     NoLog,
     /// The result file can't be created.
@@ -37,28 +38,28 @@ impl<A: Allocator> Failure<A> {
         ensures { result ≡ status_of self.now }
     {
         match self {
-            Failure::Words(WordsFault::OutOfMemory) => 1,
-            Failure::Words(_) => 2,
+            Failure::Arguments(ArgumentsFault::OutOfMemory) => 1,
+            Failure::Arguments(_) => 2,
             Failure::NoLog | Failure::NoResultFile | Failure::Run(_) => 1,
         }
     }
 }
 
-impl<A: Allocator> From<WordsFault<A>> for Failure<A> {
-    ghost from_gives = { λ fault failure. failure ≡ Words fault };
+impl<A: Allocator> From<ArgumentsFault<A>> for Failure<A> {
+    ghost from_gives = { λ fault failure. failure ≡ Arguments fault };
 
-    fn from(fault: WordsFault<A>) -> Failure<A> {
-        Failure::Words(fault)
+    fn from(fault: ArgumentsFault<A>) -> Failure<A> {
+        Failure::Arguments(fault)
     }
 }
 
 /// The system's answer where it gives no arguments.
 impl<A: Allocator> From<io::Error> for Failure<A> {
     fn from(error: io::Error) -> Failure<A> {
-        Failure::Words(if error.kind() == io::ErrorKind::OutOfMemory {
-            WordsFault::OutOfMemory
+        Failure::Arguments(if error.kind() == io::ErrorKind::OutOfMemory {
+            ArgumentsFault::OutOfMemory
         } else {
-            WordsFault::NotText
+            ArgumentsFault::NotText
         })
     }
 }
@@ -72,14 +73,14 @@ impl<A: Allocator> From<RunFault> for Failure<A> {
 }
 
 /// Does what the arguments ask for, and answers the exit status: 0 where it is done, 1 where the log is
-/// refused or something failed, 2 where the arguments are wrong. `words` is the system's answer, which
+/// refused or something failed, 2 where the arguments are wrong. `arguments` is the system's answer, which
 /// begins with the program's name. Where the status isn't 0 the reason is printed to `errors`.
 ///
 /// Memory is taken from `alloc`; the parser of the arguments takes it from the system.
 pub fn command<R: Files + AllocGlobal, A: Allocator + Copy, O: Write, E: Write>(
     rt: &R,
     alloc: A,
-    words: io::Result<Vec<String>>,
+    arguments: io::Result<Vec<String>>,
     output: &mut Watched<O>,
     errors: &mut Watched<E>,
 ) -> ExitCode
@@ -89,13 +90,13 @@ pub fn command<R: Files + AllocGlobal, A: Allocator + Copy, O: Write, E: Write>(
     // or aren't there.
     ensures quiet { exit_status result ≡ 0 → errors.new ≡ errors.old }
     ensures unwritten { exit_status result ≡ 2 → output.new ≡ output.old }
-    ensures unread { IsErr words → (1 ≤ exit_status result) × (output.new ≡ output.old) }
+    ensures unread { IsErr arguments → (1 ≤ exit_status result) × (output.new ≡ output.old) }
 
     // A run that fails where the output doesn't has written nothing.
     ensures refused { 1 ≤ exit_status result → has_failed output.new ≡ false
         → output.new ≡ output.old }
 {
-    let outcome = carry_out(rt, alloc, words, output);
+    let outcome = carry_out(rt, alloc, arguments, output);
     report(outcome, errors)
 }
 
@@ -119,59 +120,63 @@ fn report<A: Allocator, E: Write>(
 fn carry_out<R: Files + AllocGlobal, A: Allocator + Copy, O: Write>(
     rt: &R,
     alloc: A,
-    words: io::Result<Vec<String>>,
+    arguments: io::Result<Vec<String>>,
     output: &mut Watched<O>,
 ) -> Result<(), Failure<A>>
     ensures unwritten { IfErr result (λ f. status_of f ≡ 2 → output.new ≡ output.old) }
-    ensures unread { IsErr words → IsErr result × (output.new ≡ output.old) }
+    ensures unread { IsErr arguments → IsErr result × (output.new ≡ output.old) }
     ensures refused { OnErr result (has_failed output.new ≡ false → output.new ≡ output.old) }
 {
-    let words = words?;
-    match read_words(rt.alloc(), alloc, words.as_slice())? {
+    let arguments = arguments?;
+    match read_arguments(rt.alloc(), alloc, arguments.as_slice())? {
         Asked::Help(text) => put(output, text.as_bytes())?,
-        Asked::Run(task) => run_task(rt, alloc, &task, output)?,
+        Asked::Run(task) => {
+            let mut reader = open_log(rt, task.log)?;
+            run_task(rt, alloc, &mut reader, &task, output)?
+        }
     }
     Ok(())
 }
 
-fn run_task<R: Files, A: Allocator + Copy, O: Write>(
+/// Opens the log of this path.
+fn open_log<R: Files, A: Allocator>(rt: &R, path: &str) -> Result<Watched<R::File>, Failure<A>>
+    ensures status { IfErr result (λ f. status_of f ≡ 1) }
+{
+    match File::open(rt, path) {
+        Ok(log) => Ok(Watched::new(log)),
+        Err(_) => Err(Failure::NoLog),
+    }
+}
+
+/// Runs the task over the log that is read, to standard output or to its result file.
+fn run_task<R: Files, A: Allocator + Copy, D: Read, O: Write>(
     rt: &R,
     alloc: A,
+    reader: &mut Watched<D>,
     task: &Task<'_>,
     output: &mut Watched<O>,
 ) -> Result<(), Failure<A>>
     ensures status { IfErr result (λ f. status_of f ≡ 1) }
     ensures refused { OnErr result (has_failed output.new ≡ false → output.new ≡ output.old) }
     ensures aside { IsSome task.now.result_file → output.new ≡ output.old }
+
+    // Without a result file the run is that of its mode and selection, to standard output.
+    ensures runs { task.now.result_file ≡ None → OfRun (Runs (D.remaining (device_of reader.old)) (D.remaining (device_of reader.new))
+        task.now.mode (selection_of task.now.selection)
+        (O.contents (device_of output.old)) (O.contents (device_of output.new))) result }
+    ensures untouched { task.now.result_file ≡ None
+        → OfRun (λ ran. ends_before_writing ran ≡ true → output.new ≡ output.old) result }
+    ensures mark { task.now.result_file ≡ None
+        → OfRun (λ ran. has_failed output.new ≡ (has_failed output.old || is_write_fault ran)) result }
 {
-    let Ok(log) = File::open(rt, task.log) else {
-        return Err(Failure::NoLog);
-    };
-    let mut reader = Watched::new(log);
     match task.result_file {
-        None => run_to_output(alloc, &mut reader, task, output)?,
-        Some(path) => run_to_file(rt, alloc, &mut reader, task, path)?,
+        None => run(alloc, reader, task.mode, &task.selection, output)?,
+        Some(path) => run_to_file(rt, alloc, reader, task, path)?,
     }
     Ok(())
 }
 
-/// Runs the task over the log that is read, to standard output.
-fn run_to_output<A: Allocator + Copy, D: Read, O: Write>(
-    alloc: A,
-    reader: &mut Watched<D>,
-    task: &Task<'_>,
-    output: &mut Watched<O>,
-) -> Result<(), RunFault>
-    ensures runs { Runs (D.remaining (device_of reader.old)) (D.remaining (device_of reader.new))
-        task.now.mode (selection_of task.now.selection)
-        (O.contents (device_of output.old)) (O.contents (device_of output.new)) result }
-    ensures untouched { ends_before_writing result ≡ true → output.new ≡ output.old }
-    ensures mark { has_failed output.new ≡ (has_failed output.old || is_write_fault result) }
-{
-    run(alloc, reader, task.mode, &task.selection, output)
-}
-
-/// The same, to the file of this path. It is created or emptied once the log is accepted.
+/// Runs the task, to the file of this path. It is created or emptied once the log is accepted.
 fn run_to_file<R: Files, A: Allocator + Copy, D: Read>(
     rt: &R,
     alloc: A,

@@ -1,7 +1,7 @@
 //! The lines on standard error.
 
+use crate::arguments::{ArgumentsFault, ModeFault};
 use crate::commands::Failure;
-use crate::words::{ModeFault, WordsFault};
 use blog_flash::{Fault, RunFault, Watched, put};
 use console::put_line;
 use std::alloc::Allocator;
@@ -18,7 +18,7 @@ impl<A: Allocator> Failure<A> {
     /// Prints the failure. What can't be printed is dropped.
     pub fn print<E: Write>(&self, errors: &mut Watched<E>) {
         let _ = match self {
-            Failure::Words(WordsFault::Wrong(text)) => put(errors, text.as_bytes()),
+            Failure::Arguments(ArgumentsFault::Wrong(text)) => put(errors, text.as_bytes()),
             _ => put_line(errors, "flashback", self),
         };
     }
@@ -27,10 +27,12 @@ impl<A: Allocator> Failure<A> {
 impl<A: Allocator> fmt::Display for Failure<A> {
     fn fmt<W: fmt::Write>(&self, f: &mut fmt::Formatter<W>) -> fmt::Result {
         match self {
-            Failure::Words(WordsFault::Wrong(text)) => write!(f, "{text}"),
-            Failure::Words(WordsFault::Mode(fault)) => write!(f, "{fault}"),
-            Failure::Words(WordsFault::NotText) => f.write_str("the arguments are not UTF-8"),
-            Failure::Words(WordsFault::OutOfMemory) => write!(f, "{}", Fault::OutOfMemory),
+            Failure::Arguments(ArgumentsFault::Wrong(text)) => write!(f, "{text}"),
+            Failure::Arguments(ArgumentsFault::Mode(fault)) => write!(f, "{fault}"),
+            Failure::Arguments(ArgumentsFault::NotText) => f.write_str(
+                "the arguments are not UTF-8",
+            ),
+            Failure::Arguments(ArgumentsFault::OutOfMemory) => write!(f, "{}", Fault::OutOfMemory),
             Failure::NoLog => f.write_str("cannot open the log"),
             Failure::NoResultFile => f.write_str("cannot create the result file"),
             Failure::Run(RunFault::Log(fault)) => write!(f, "{fault}"),

@@ -60,7 +60,7 @@ Examples:
 Exit status: 0 done, 1 the log is refused or something failed, 2 the arguments are wrong.";
 
 /// Every option that the program knows, and its argument LOG.
-pub fn all_words<'w>(alloc: Global) -> Result<Command<'w>, AllocError> {
+pub fn all_arguments<'a>(alloc: Global) -> Result<Command<'a>, AllocError> {
     let command = Command::new(alloc, "flashback")
         .version(VERSION)
         .about(ABOUT)
@@ -72,13 +72,13 @@ pub fn all_words<'w>(alloc: Global) -> Result<Command<'w>, AllocError> {
     let file = option(alloc, RESULT_FILE, "FILE").help(
         "Create or empty FILE once LOG is accepted, and write to it",
     );
-    selecting_words(alloc, mode_words(alloc, command)?)?
+    selection_arguments(alloc, mode_arguments(alloc, command)?)?
         .arg(file.short('r'))?
         .arg(log.required(true))
 }
 
 /// Adds the options that choose a mode and its form.
-fn mode_words<'w>(alloc: Global, command: Command<'w>) -> Result<Command<'w>, AllocError> {
+fn mode_arguments<'a>(alloc: Global, command: Command<'a>) -> Result<Command<'a>, AllocError> {
     let undo = flag(alloc, FLASHBACK).help("Write the log that undoes the changes of LOG");
     let forward = flag(alloc, FORWARD).help("Write a log of the changes as LOG makes them");
     let summary = flag(alloc, SUMMARY).help("Count the changed rows of each table");
@@ -91,7 +91,7 @@ fn mode_words<'w>(alloc: Global, command: Command<'w>) -> Result<Command<'w>, Al
 }
 
 /// Adds the options that select changes.
-fn selecting_words<'w>(alloc: Global, command: Command<'w>) -> Result<Command<'w>, AllocError> {
+fn selection_arguments<'a>(alloc: Global, command: Command<'a>) -> Result<Command<'a>, AllocError> {
     let start = option(alloc, START, "POS").help(
         "Begin at POS, an event's start or the end of LOG [default: 4]",
     );

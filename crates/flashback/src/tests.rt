@@ -8,7 +8,7 @@ mod result_files;
 mod selections;
 mod versions;
 mod writers;
-mod wrong_words;
+mod wrong_arguments;
 
 use crate::commands::command;
 use blog_flash::Watched;
@@ -19,21 +19,21 @@ use std::path::PathBuf;
 use std::process::{Abort, ExitCode};
 use std::test::Fail;
 use std::{env, fs, io};
-use testkit::runs::{Outcome, push_words};
+use testkit::runs::{Outcome, push_arguments};
 use writers::Broken;
 
 /// Where the rows event of `INSERT_ONE_ROW` has its type.
 const ROWS_TYPE: usize = 200;
 
 /// The arguments of a run, of which the first is the program's name.
-pub fn words_of(rt: &HostRuntime, words: &[&str]) -> Result<Vec<String>, AllocError> {
-    testkit::runs::words_of(rt, "flashback", words)
+pub fn arguments_of(rt: &HostRuntime, arguments: &[&str]) -> Result<Vec<String>, AllocError> {
+    testkit::runs::arguments_of(rt, "flashback", arguments)
 }
 
-fn run_given(rt: &HostRuntime, words: io::Result<Vec<String>>) -> Outcome {
+fn run_given(rt: &HostRuntime, arguments: io::Result<Vec<String>>) -> Outcome {
     let mut output = Watched::new(Vec::new(rt.alloc()));
     let mut errors = Watched::new(Vec::new(rt.alloc()));
-    let status = command(rt, rt.alloc(), words, &mut output, &mut errors);
+    let status = command(rt, rt.alloc(), arguments, &mut output, &mut errors);
     Outcome {
         status,
         output,
@@ -41,8 +41,8 @@ fn run_given(rt: &HostRuntime, words: io::Result<Vec<String>>) -> Outcome {
     }
 }
 
-fn run_words(rt: &HostRuntime, words: &[&str]) -> Result<Outcome, AllocError> {
-    Ok(run_given(rt, Ok(words_of(rt, words)?)))
+fn run_arguments(rt: &HostRuntime, arguments: &[&str]) -> Result<Outcome, AllocError> {
+    Ok(run_given(rt, Ok(arguments_of(rt, arguments)?)))
 }
 
 /// A path in the folder for temporary files that no other test has.
@@ -50,32 +50,32 @@ fn path_of(rt: &HostRuntime, name: &str) -> io::Result<PathBuf> {
     testkit::runs::path_of(rt, "flashback", name)
 }
 
-/// Fails where something doesn't hold of a run with these words.
-pub fn check(holds: bool, what: &str, words: &[&str]) -> Result<(), Fail> {
+/// Fails where something doesn't hold of a run with these arguments.
+pub fn check(holds: bool, what: &str, arguments: &[&str]) -> Result<(), Fail> {
     if holds {
         Ok(())
     } else {
-        Err(Fail::new(format_args!("{what}: {words:?}")))
+        Err(Fail::new(format_args!("{what}: {arguments:?}")))
     }
 }
 
-/// The run with these words did what was asked for, and wrote this.
-fn check_done(rt: &HostRuntime, words: &[&str], output: &[u8]) -> Result<(), Fail> {
-    let done = run_words(rt, words)?.is_done(output);
-    check(done, "not done", words)?;
+/// The run with these arguments did what was asked for, and wrote this.
+fn check_done(rt: &HostRuntime, arguments: &[&str], output: &[u8]) -> Result<(), Fail> {
+    let done = run_arguments(rt, arguments)?.is_done(output);
+    check(done, "not done", arguments)?;
     Ok(())
 }
 
-/// The run with these words ended with this status and this line.
-fn check_refusal(rt: &HostRuntime, words: &[&str], status: u8, line: &str) -> Result<(), Fail> {
-    let refused = run_words(rt, words)?.is_refusal(status, line);
-    check(refused, "not refused", words)?;
+/// The run with these arguments ended with this status and this line.
+fn check_refusal(rt: &HostRuntime, arguments: &[&str], status: u8, line: &str) -> Result<(), Fail> {
+    let refused = run_arguments(rt, arguments)?.is_refusal(status, line);
+    check(refused, "not refused", arguments)?;
     Ok(())
 }
 
-/// Runs the program with these words over a file of these bytes.
-fn run_log(rt: &HostRuntime, name: &str, log: &[u8], words: &[&str]) -> Result<Outcome, Fail> {
-    run_all(rt, name, log, words_of(rt, words)?)
+/// Runs the program with these arguments over a file of these bytes.
+fn run_log(rt: &HostRuntime, name: &str, log: &[u8], arguments: &[&str]) -> Result<Outcome, Fail> {
+    run_all(rt, name, log, arguments_of(rt, arguments)?)
 }
 
 /// The same, with `-r` and this file.
@@ -83,18 +83,23 @@ fn run_log_to(
     rt: &HostRuntime,
     name: &str,
     log: &[u8],
-    words: &[&str],
+    arguments: &[&str],
     file: &str,
 ) -> Result<Outcome, Fail> {
-    let mut all = words_of(rt, words)?;
-    push_words(&mut all, &["-r", file])?;
+    let mut all = arguments_of(rt, arguments)?;
+    push_arguments(&mut all, &["-r", file])?;
     run_all(rt, name, log, all)
 }
 
-/// Runs the program with all of these words over a file of these bytes.
-fn run_all(rt: &HostRuntime, name: &str, log: &[u8], words: Vec<String>) -> Result<Outcome, Fail> {
+/// Runs the program with all of these arguments over a file of these bytes.
+fn run_all(
+    rt: &HostRuntime,
+    name: &str,
+    log: &[u8],
+    arguments: Vec<String>,
+) -> Result<Outcome, Fail> {
     let path = path_of(rt, name)?;
-    run_path(rt, path.as_str(), log, words)
+    run_path(rt, path.as_str(), log, arguments)
 }
 
 /// The same over a file of this path, which is made for it.
@@ -102,25 +107,25 @@ fn run_path(
     rt: &HostRuntime,
     path: &str,
     log: &[u8],
-    mut words: Vec<String>,
+    mut arguments: Vec<String>,
 ) -> Result<Outcome, Fail> {
-    push_words(&mut words, &[path])?;
+    push_arguments(&mut arguments, &[path])?;
     fs::write(rt, path, log)?;
-    let outcome = run_given(rt, Ok(words));
+    let outcome = run_given(rt, Ok(arguments));
     fs::remove_file(rt, path)?;
     Ok(outcome)
 }
 
-/// The run with these words over a file of these bytes ended with the status 1 and this line.
+/// The run with these arguments over a file of these bytes ended with the status 1 and this line.
 fn check_log_refused(
     rt: &HostRuntime,
     name: &str,
     log: &[u8],
-    words: &[&str],
+    arguments: &[&str],
     line: &str,
 ) -> Result<(), Fail> {
-    let refused = run_log(rt, name, log, words)?.is_refusal(1, line);
-    check(refused, "not refused", words)?;
+    let refused = run_log(rt, name, log, arguments)?.is_refusal(1, line);
+    check(refused, "not refused", arguments)?;
     Ok(())
 }
 
@@ -182,18 +187,18 @@ const IN_EXAMPLES: [&str; 9] = [
     "-r ",
 ];
 
-/// The text holds each of these words.
-fn check_words(rt: &impl Abort, text: &str, words: &[&str]) {
-    for word in words {
-        assert!(rt; text.contains(*word), "{word}");
+/// The text holds each of these arguments.
+fn check_arguments(rt: &impl Abort, text: &str, arguments: &[&str]) {
+    for argument in arguments {
+        assert!(rt; text.contains(*argument), "{argument}");
     }
 }
 
-/// What a run with this word writes, which prints nothing.
-fn text_of(rt: &HostRuntime, word: &str) -> Result<String, Fail> {
-    let outcome = run_words(rt, &[word])?;
-    check(outcome.status == ExitCode::SUCCESS, "status", &[word])?;
-    check(outcome.errors().is_empty(), "errors", &[word])?;
+/// What a run with this argument writes, which prints nothing.
+fn text_of(rt: &HostRuntime, argument: &str) -> Result<String, Fail> {
+    let outcome = run_arguments(rt, &[argument])?;
+    check(outcome.status == ExitCode::SUCCESS, "status", &[argument])?;
+    check(outcome.errors().is_empty(), "errors", &[argument])?;
     let text = str::from_utf8(outcome.output())?;
     Ok(String::from_str(rt.alloc(), text)?)
 }
@@ -201,9 +206,9 @@ fn text_of(rt: &HostRuntime, word: &str) -> Result<String, Fail> {
 /// The text has the usage, each option, and each option's example.
 fn check_help(rt: &impl Abort, text: &str) {
     assert!(rt; text.contains("Usage: flashback (-B | --forward | --summary) [--sql] [-j POS]"));
-    check_words(rt, text, &OPTIONS);
+    check_arguments(rt, text, &OPTIONS);
     let examples = text.split_once("Examples:").map_or("", |(_, rest)| rest);
-    check_words(rt, examples, &IN_EXAMPLES);
+    check_arguments(rt, examples, &IN_EXAMPLES);
 }
 
 #[test]
@@ -215,25 +220,25 @@ fn the_help_is_written(rt: HostRuntime) -> Result<(), Fail> {
 
 #[test]
 fn the_version_is_written(rt: HostRuntime) -> Result<(), Fail> {
-    for word in ["-V", "--version"] {
-        let text = text_of(&rt, word)?;
+    for argument in ["-V", "--version"] {
+        let text = text_of(&rt, argument)?;
         assert!(rt; text.as_str().starts_with("flashback 0.1.0 "));
     }
     Ok(())
 }
 
-/// The run with these words fails at its first write, and prints that.
-fn check_unwritten(rt: &HostRuntime, words: &[&str]) -> Result<(), Fail> {
-    let all = words_of(rt, words)?;
+/// The run with these arguments fails at its first write, and prints that.
+fn check_unwritten(rt: &HostRuntime, arguments: &[&str]) -> Result<(), Fail> {
+    let all = arguments_of(rt, arguments)?;
     let mut output = Watched::new(Broken::new());
     let mut errors = Watched::new(Vec::new(rt.alloc()));
     let status = command(rt, rt.alloc(), Ok(all), &mut output, &mut errors);
-    check(status == ExitCode::FAILURE, "status", words)?;
-    check(output.device().writes() == 1, "writes", words)?;
+    check(status == ExitCode::FAILURE, "status", arguments)?;
+    check(output.device().writes() == 1, "writes", arguments)?;
     check(
         errors.device().as_slice() == b"flashback: write failed\n".as_slice(),
         "errors",
-        words,
+        arguments,
     )?;
     Ok(())
 }
@@ -249,15 +254,15 @@ fn a_failed_write_is_told(rt: HostRuntime) -> Result<(), Fail> {
     Ok(())
 }
 
-/// The run with these words ends with this status, though its line can't be printed.
-fn check_unprinted(rt: &HostRuntime, words: &[&str], status: u8) -> Result<(), Fail> {
-    let all = words_of(rt, words)?;
+/// The run with these arguments ends with this status, though its line can't be printed.
+fn check_unprinted(rt: &HostRuntime, arguments: &[&str], status: u8) -> Result<(), Fail> {
+    let all = arguments_of(rt, arguments)?;
     let mut output = Watched::new(Vec::new(rt.alloc()));
     let mut errors = Watched::new(Broken::new());
     let answer = command(rt, rt.alloc(), Ok(all), &mut output, &mut errors);
-    check(answer == ExitCode::from(status), "status", words)?;
-    check(output.device().is_empty(), "output", words)?;
-    check(errors.device().writes() == 1, "errors", words)?;
+    check(answer == ExitCode::from(status), "status", arguments)?;
+    check(output.device().is_empty(), "output", arguments)?;
+    check(errors.device().writes() == 1, "errors", arguments)?;
     Ok(())
 }
 

@@ -52,22 +52,22 @@ impl Outcome {
 }
 
 /// These arguments behind what is there.
-pub fn push_words(all: &mut Vec<String>, words: &[&str]) -> Result<(), AllocError> {
-    for word in words {
-        all.push(String::from_str(*all.allocator(), word)?)?;
+pub fn push_arguments(all: &mut Vec<String>, arguments: &[&str]) -> Result<(), AllocError> {
+    for argument in arguments {
+        all.push(String::from_str(*all.allocator(), argument)?)?;
     }
     Ok(())
 }
 
 /// The arguments of a run, of which the first is the program's name.
-pub fn words_of(
+pub fn arguments_of(
     rt: &HostRuntime,
     program: &str,
-    words: &[&str],
+    arguments: &[&str],
 ) -> Result<Vec<String>, AllocError> {
     let mut all = Vec::new(rt.alloc());
-    push_words(&mut all, &[program])?;
-    push_words(&mut all, words)?;
+    push_arguments(&mut all, &[program])?;
+    push_arguments(&mut all, arguments)?;
     Ok(all)
 }
 

@@ -1,7 +1,7 @@
 //! What is printed for each failure, and what to do about it.
 
-use crate::commands::{CopyFault, Failure};
-use crate::words::WordsFault;
+use crate::arguments::ArgumentsFault;
+use crate::commands::{Failure, NewLogFault};
 use blog_device::{RunFault, Watched};
 use blog_event::Fault;
 use blog_split::SplitFault;
@@ -50,12 +50,12 @@ fn each_fault_of_a_log_has_its_line(rt: HostRuntime) -> Result<(), Fail> {
         check(&rt, &Failure::List(RunFault::Log(*fault)), line)?;
         check(
             &rt,
-            &Failure::Copy(CopyFault::Run(RunFault::Log(*fault))),
+            &Failure::NewLog(NewLogFault::Run(RunFault::Log(*fault))),
             line,
         )?;
         check(
             &rt,
-            &Failure::Copy(CopyFault::Sums(SumFault::Log(*fault))),
+            &Failure::NewLog(NewLogFault::Sums(SumFault::Log(*fault))),
             line,
         )?;
     }
@@ -69,7 +69,7 @@ const NOT_WHOLE: &str =
 #[test]
 fn logs_that_are_not_cut_have_their_lines(rt: HostRuntime) -> Result<(), Fail> {
     for (fault, line) in &FAULTS {
-        let failure = Failure::Copy(CopyFault::Split(SplitFault::Log(*fault)));
+        let failure = Failure::NewLog(NewLogFault::Split(SplitFault::Log(*fault)));
         if matches!(
             fault,
             Fault::NotABinlog { .. }
@@ -90,7 +90,7 @@ fn logs_that_are_not_cut_have_their_lines(rt: HostRuntime) -> Result<(), Fail> {
     }
     check(
         &rt,
-        &Failure::Copy(CopyFault::Split(SplitFault::TooLong)),
+        &Failure::NewLog(NewLogFault::Split(SplitFault::TooLong)),
         "TooLong: cut so small the log would have more than 4294967295 bytes: give a larger --size",
     )
 }
@@ -121,27 +121,35 @@ fn other_failures_have_their_lines(rt: HostRuntime) -> Result<(), Fail> {
     let write =
         "write failed: see whether the disk is full, or the program that reads the output has ended";
     check(&rt, &Failure::List(RunFault::Read), read)?;
-    check(&rt, &Failure::Copy(CopyFault::Run(RunFault::Write)), write)?;
     check(
         &rt,
-        &Failure::Copy(CopyFault::Sums(SumFault::UnknownAlgorithm { pos: 4 })),
+        &Failure::NewLog(NewLogFault::Run(RunFault::Write)),
+        write,
+    )?;
+    check(
+        &rt,
+        &Failure::NewLog(NewLogFault::Sums(SumFault::UnknownAlgorithm { pos: 4 })),
         "UnknownAlgorithm at 4: the log has checksums that aren't CRC32: use the server's own tools",
     )?;
     check(
         &rt,
-        &Failure::Copy(CopyFault::Sums(SumFault::WrongSum { pos: 5 })),
+        &Failure::NewLog(NewLogFault::Sums(SumFault::WrongSum { pos: 5 })),
         "WrongSum at 5: the event isn't what the server wrote: copy the log from the server again",
     )?;
     let memory = "OutOfMemory: run it where twice the log's size is free in memory";
     check(
         &rt,
-        &Failure::Copy(CopyFault::Sums(SumFault::OutOfMemory)),
+        &Failure::NewLog(NewLogFault::Sums(SumFault::OutOfMemory)),
         memory,
     )?;
-    check(&rt, &Failure::Words(WordsFault::OutOfMemory), memory)?;
     check(
         &rt,
-        &Failure::Words(WordsFault::NotText),
+        &Failure::Arguments(ArgumentsFault::OutOfMemory),
+        memory,
+    )?;
+    check(
+        &rt,
+        &Failure::Arguments(ArgumentsFault::NotText),
         "the arguments are not UTF-8: give names in UTF-8",
     )
 }

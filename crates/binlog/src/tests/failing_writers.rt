@@ -1,6 +1,6 @@
 //! Runs whose writers fail.
 
-use super::{path_of, run_words, words_of};
+use super::{arguments_of, path_of, run_arguments};
 use crate::commands::command;
 use blog_device::Watched;
 use sample_logs::logs::insert_and_drop;
@@ -13,35 +13,40 @@ use testkit::devices::{ALL, Failure, KINDS, SlowWriter};
 /// The most bytes that standard output takes a call.
 const STEP: usize = 7;
 
-/// Whether a run with these words ends with a failed write, which it tells; and what was written.
+/// Whether a run with these arguments ends with a failed write, which it tells; and what was written.
 fn fails(
     rt: &HostRuntime,
-    words: &[&str],
+    arguments: &[&str],
     failure: Failure,
 ) -> Result<(bool, Watched<SlowWriter>), Fail> {
     let mut output = Watched::new(SlowWriter::new(rt, STEP, failure));
     let mut errors = Watched::new(Vec::new(rt.alloc()));
-    let words = words_of(rt, words)?;
-    let status = command(rt, rt.alloc(), Ok(words), &mut output, &mut errors);
+    let arguments = arguments_of(rt, arguments)?;
+    let status = command(rt, rt.alloc(), Ok(arguments), &mut output, &mut errors);
     let told = errors.device().starts_with(b"binlog: write failed: ");
     let is_failure = status == ExitCode::FAILURE && output.device().failed_calls == 1;
     Ok((told && is_failure, output))
 }
 
-/// Runs the program with these words, which writes this text in so many calls. Each call fails in turn.
-fn each_call_fails(rt: &HostRuntime, words: &[&str], text: &[u8], calls: u64) -> Result<(), Fail> {
+/// Runs the program with these arguments, which writes this text in so many calls. Each call fails in turn.
+fn each_call_fails(
+    rt: &HostRuntime,
+    arguments: &[&str],
+    text: &[u8],
+    calls: u64,
+) -> Result<(), Fail> {
     for kind in KINDS {
         let mut before = 0usize;
         for call in 1..=calls {
-            let (told, output) = fails(rt, words, Failure::At(call, kind))?;
+            let (told, output) = fails(rt, arguments, Failure::At(call, kind))?;
             if !told || Some(output.device().taken.as_slice()) != text.get(..before) {
-                return Err(Fail::new(format_args!("call {call}: {words:?}")));
+                return Err(Fail::new(format_args!("call {call}: {arguments:?}")));
             }
             before = before.saturating_add(STEP);
         }
-        let (told, output) = fails(rt, words, Failure::AtFlush(kind))?;
+        let (told, output) = fails(rt, arguments, Failure::AtFlush(kind))?;
         if !told || output.device().taken.as_slice() != text {
-            return Err(Fail::new(format_args!("the flush: {words:?}")));
+            return Err(Fail::new(format_args!("the flush: {arguments:?}")));
         }
     }
     Ok(())
@@ -51,8 +56,8 @@ fn each_call_fails(rt: &HostRuntime, words: &[&str], text: &[u8], calls: u64) ->
 fn a_failed_write_is_told(rt: HostRuntime) -> Result<(), Fail> {
     let log = path_of(&rt, "unwritten")?;
     fs::write(&rt, log.as_path(), SUMMED.as_slice())?;
-    let words = ["plain", log.as_str()];
-    each_call_fails(&rt, words.as_slice(), PLAIN.as_slice(), 20)?;
+    let arguments = ["plain", log.as_str()];
+    each_call_fails(&rt, arguments.as_slice(), PLAIN.as_slice(), 20)?;
     fs::remove_file(&rt, log.as_path())?;
     Ok(())
 }
@@ -62,8 +67,8 @@ fn a_failed_write_of_a_list_is_told(rt: HostRuntime) -> Result<(), Fail> {
     let log = path_of(&rt, "unwritten-list")?;
     fs::write(&rt, log.as_path(), insert_and_drop(&rt)?.as_slice())?;
     let text = b"{\"units\":0,\"not_undoable\":0,\"rows\":0}\n";
-    let words = ["list", "--json", "-j", "260", log.as_str()];
-    each_call_fails(&rt, words.as_slice(), text.as_slice(), 6)?;
+    let arguments = ["list", "--json", "-j", "260", log.as_str()];
+    each_call_fails(&rt, arguments.as_slice(), text.as_slice(), 6)?;
     fs::remove_file(&rt, log.as_path())?;
     Ok(())
 }
@@ -72,8 +77,8 @@ fn a_failed_write_of_a_list_is_told(rt: HostRuntime) -> Result<(), Fail> {
 fn a_failed_write_of_a_cut_log_is_told(rt: HostRuntime) -> Result<(), Fail> {
     let log = path_of(&rt, "unwritten-cut")?;
     fs::write(&rt, log.as_path(), INSERT_ONE_ROW.as_slice())?;
-    let words = ["split", log.as_str()];
-    each_call_fails(&rt, words.as_slice(), INSERT_ONE_ROW.as_slice(), 37)?;
+    let arguments = ["split", log.as_str()];
+    each_call_fails(&rt, arguments.as_slice(), INSERT_ONE_ROW.as_slice(), 37)?;
     fs::remove_file(&rt, log.as_path())?;
     Ok(())
 }
@@ -83,8 +88,8 @@ fn a_line_that_cannot_be_printed_is_dropped(rt: HostRuntime) -> Result<(), Fail>
     for kind in KINDS {
         let mut output = Watched::new(Vec::new(rt.alloc()));
         let mut errors = Watched::new(SlowWriter::new(&rt, ALL, Failure::At(1, kind)));
-        let words = words_of(&rt, &["plain", ""])?;
-        let status = command(&rt, rt.alloc(), Ok(words), &mut output, &mut errors);
+        let arguments = arguments_of(&rt, &["plain", ""])?;
+        let status = command(&rt, rt.alloc(), Ok(arguments), &mut output, &mut errors);
         assert_eq!(rt; status, ExitCode::FAILURE);
         assert!(rt; output.device().is_empty());
         assert_eq!(rt; errors.device().calls, 1);
@@ -98,7 +103,7 @@ fn a_long_line_is_cut(rt: HostRuntime) -> Result<(), Fail> {
     for _ in 0..5000 {
         name.push('a')?;
     }
-    let outcome = run_words(&rt, &["plain", name.as_str()])?;
+    let outcome = run_arguments(&rt, &["plain", name.as_str()])?;
     assert!(rt; outcome.begins_refusal(1, "binlog: cannot open the log aaa"));
     assert_eq!(rt; outcome.errors().len(), 4608);
     Ok(())

@@ -1,6 +1,6 @@
 //! Runs of `list`.
 
-use super::{path_of, run_log, run_words};
+use super::{path_of, run_arguments, run_log};
 use sample_logs::logs::insert_and_drop;
 use sample_logs::small::{INSERT_ONE_ROW, PLAIN, SUMMED};
 use std::process::{Abort, ExitCode};
@@ -14,8 +14,8 @@ const INSERT: &str = "       120        259  1970-01-01 00:00:00  `d`.`t` insert
 const DROP: &str = "       259        305  1970-01-01 00:00:00  Statement at 259: DROP TABLE t\n";
 
 /// Whether the run listed these lines and the last one below the header, and printed nothing.
-fn lists(rt: &HostRuntime, words: &[&str], lines: &[&str]) -> Result<(), Fail> {
-    let outcome = run_log(rt, "lists", insert_and_drop(rt)?.as_slice(), words)?;
+fn lists(rt: &HostRuntime, arguments: &[&str], lines: &[&str]) -> Result<(), Fail> {
+    let outcome = run_log(rt, "lists", insert_and_drop(rt)?.as_slice(), arguments)?;
     let mut text = String::from_str(rt.alloc(), HEADER)?;
     for line in lines {
         text.push_str(line)?;
@@ -23,7 +23,7 @@ fn lists(rt: &HostRuntime, words: &[&str], lines: &[&str]) -> Result<(), Fail> {
     if outcome.is_done(text.as_bytes()) {
         Ok(())
     } else {
-        Err(Fail::new(format_args!("{words:?}")))
+        Err(Fail::new(format_args!("{arguments:?}")))
     }
 }
 
@@ -57,9 +57,9 @@ fn units_are_listed_as_json(rt: HostRuntime) -> Result<(), Fail> {
         b"{\"start\":259,\"stop\":305,\"time\":\"1970-01-01 00:00:00\",\"gtid\":null,\"fault\":\"Statement\",\"position\":259,\"statement\":\"DROP TABLE t\"}
 {\"units\":1,\"not_undoable\":1,\"rows\":0}
 ";
-    let words = ["list", "--json", "-j", "121"];
+    let arguments = ["list", "--json", "-j", "121"];
     let log = insert_and_drop(&rt)?;
-    let outcome = run_log(&rt, "json", log.as_slice(), words.as_slice())?;
+    let outcome = run_log(&rt, "json", log.as_slice(), arguments.as_slice())?;
     assert!(rt; outcome.is_done(text.as_slice()));
     Ok(())
 }
@@ -105,7 +105,7 @@ fn logs_that_are_not_listed_are_told(rt: HostRuntime) -> Result<(), Fail> {
     let outcome = run_log(&rt, "no-log", b"no log", &["list"])?;
     assert!(rt; outcome.begins_refusal(1, "binlog: NotABinlog at 0: "));
     let absent = path_of(&rt, "unlisted")?;
-    let outcome = run_words(&rt, &["list", absent.as_str()])?;
+    let outcome = run_arguments(&rt, &["list", absent.as_str()])?;
     assert!(rt; outcome.begins_refusal(1, "binlog: cannot open the log /"));
     let outcome = run_log(&rt, "no-units", PLAIN.as_slice(), &["list", "--json"])?;
     assert!(rt; outcome.is_done(b"{\"units\":0,\"not_undoable\":0,\"rows\":0}\n"));
@@ -133,9 +133,9 @@ fn wrong_values_end_in_two(rt: HostRuntime) -> Result<(), Fail> {
         ),
         (["list", "--force", "-j", "4"], "error: "),
     ];
-    for (words, line) in cases {
-        let outcome = run_words(&rt, words.as_slice())?;
-        assert!(rt; outcome.begins_refusal(2, line), "{words:?}");
+    for (arguments, line) in cases {
+        let outcome = run_arguments(&rt, arguments.as_slice())?;
+        assert!(rt; outcome.begins_refusal(2, line), "{arguments:?}");
     }
     Ok(())
 }

@@ -1,6 +1,6 @@
 //! Runs in which one request for memory is refused, each in turn.
 
-use super::{path_of, words_of};
+use super::{arguments_of, path_of};
 use crate::commands::command;
 use blog_device::Watched;
 use linked_list_allocator::LocalHeap;
@@ -19,17 +19,21 @@ const ROOM: usize = 1 << 18;
 
 const OUT_OF_MEMORY: &str = "binlog: OutOfMemory: ";
 
-/// Runs the program with these words. All that it takes is given back. Answers also whether its request of this number was
+/// Runs the program with these arguments. All that it takes is given back. Answers also whether its request of this number was
 /// refused.
-fn run_refusing(rt: &HostRuntime, words: &[&str], number: usize) -> Result<(Outcome, bool), Fail> {
+fn run_refusing(
+    rt: &HostRuntime,
+    arguments: &[&str],
+    number: usize,
+) -> Result<(Outcome, bool), Fail> {
     let heap = LocalHeap::new(rt.alloc(), ROOM)?;
     let refusing = Refusing::new(&heap, number);
     let mut output = Watched::new(Vec::new(rt.alloc()));
     let mut errors = Watched::new(Vec::new(rt.alloc()));
-    let all = words_of(rt, words)?;
+    let all = arguments_of(rt, arguments)?;
     let status = command(rt, &refusing, Ok(all), &mut output, &mut errors);
     if heap.used() != 0 {
-        return Err(Fail::new(format_args!("kept memory: {words:?}")));
+        return Err(Fail::new(format_args!("kept memory: {arguments:?}")));
     }
     let outcome = Outcome {
         status,
@@ -41,14 +45,18 @@ fn run_refusing(rt: &HostRuntime, words: &[&str], number: usize) -> Result<(Outc
 
 /// Refuses each request of a run in turn: it ends with want of memory, and the result file isn't created. Answers the run
 /// that is refused none, and how many were refused before it.
-fn refuse_in_turn(rt: &HostRuntime, words: &[&str], file: &str) -> Result<(Outcome, usize), Fail> {
+fn refuse_in_turn(
+    rt: &HostRuntime,
+    arguments: &[&str],
+    file: &str,
+) -> Result<(Outcome, usize), Fail> {
     for number in 1..REQUESTS {
-        let (outcome, refused) = run_refusing(rt, words, number)?;
+        let (outcome, refused) = run_refusing(rt, arguments, number)?;
         if !refused {
             return Ok((outcome, number - 1));
         }
         if !outcome.begins_refusal(1, OUT_OF_MEMORY) || fs::exists(rt, file)? {
-            return Err(Fail::new(format_args!("request {number}: {words:?}")));
+            return Err(Fail::new(format_args!("request {number}: {arguments:?}")));
         }
     }
     Err(Fail::new("there are more requests"))
@@ -59,12 +67,12 @@ fn want_of_memory_leaves_nothing(rt: HostRuntime) -> Result<(), Fail> {
     let log = path_of(&rt, "unremembered")?;
     let result = path_of(&rt, "unmade")?;
     fs::write(&rt, log.as_path(), SUMMED.as_slice())?;
-    let words = ["plain", log.as_str()];
-    let (outcome, refused) = refuse_in_turn(&rt, words.as_slice(), result.as_str())?;
+    let arguments = ["plain", log.as_str()];
+    let (outcome, refused) = refuse_in_turn(&rt, arguments.as_slice(), result.as_str())?;
     assert!(rt; outcome.is_done(PLAIN.as_slice()));
     assert!(rt; refused >= 2, "{refused}");
-    let words = ["plain", "-r", result.as_str(), log.as_str()];
-    let (outcome, refused) = refuse_in_turn(&rt, words.as_slice(), result.as_str())?;
+    let arguments = ["plain", "-r", result.as_str(), log.as_str()];
+    let (outcome, refused) = refuse_in_turn(&rt, arguments.as_slice(), result.as_str())?;
     assert!(rt; outcome.is_done(b""));
     assert!(rt; refused >= 2, "{refused}");
     let written = fs::read(&rt, result.as_path())?;
@@ -78,12 +86,12 @@ fn want_of_memory_leaves_nothing(rt: HostRuntime) -> Result<(), Fail> {
 fn want_of_memory_lists_nothing(rt: HostRuntime) -> Result<(), Fail> {
     let log = path_of(&rt, "unlisted-log")?;
     fs::write(&rt, log.as_path(), insert_and_drop(&rt)?.as_slice())?;
-    let words = ["list", log.as_str()];
-    let (outcome, refused) = refuse_in_turn(&rt, words.as_slice(), "")?;
+    let arguments = ["list", log.as_str()];
+    let (outcome, refused) = refuse_in_turn(&rt, arguments.as_slice(), "")?;
     assert!(rt; outcome.errors().is_empty());
     assert!(rt; refused >= 5, "{refused}");
-    let words = ["list", "--json", log.as_str()];
-    let (outcome, refused) = refuse_in_turn(&rt, words.as_slice(), "")?;
+    let arguments = ["list", "--json", log.as_str()];
+    let (outcome, refused) = refuse_in_turn(&rt, arguments.as_slice(), "")?;
     assert!(rt; outcome.errors().is_empty());
     assert!(rt; refused >= 5, "{refused}");
     fs::remove_file(&rt, log.as_path())?;
@@ -95,8 +103,8 @@ fn want_of_memory_cuts_nothing(rt: HostRuntime) -> Result<(), Fail> {
     let log = path_of(&rt, "uncut-log")?;
     let result = path_of(&rt, "uncut")?;
     fs::write(&rt, log.as_path(), INSERT_ONE_ROW.as_slice())?;
-    let words = ["split", "-r", result.as_str(), log.as_str()];
-    let (outcome, refused) = refuse_in_turn(&rt, words.as_slice(), result.as_str())?;
+    let arguments = ["split", "-r", result.as_str(), log.as_str()];
+    let (outcome, refused) = refuse_in_turn(&rt, arguments.as_slice(), result.as_str())?;
     assert!(rt; outcome.is_done(b""));
     assert!(rt; refused >= 5, "{refused}");
     let written = fs::read(&rt, result.as_path())?;

@@ -1,6 +1,6 @@
 //! Runs whose output goes to a file.
 
-use super::{STOP, path_of, run_log, run_words, with_byte};
+use super::{STOP, path_of, run_arguments, run_log, with_byte};
 use sample_logs::small::{PLAIN, SUMMED};
 use std::test::Fail;
 use std::{env, fs};
@@ -8,8 +8,8 @@ use std::{env, fs};
 /// Whether the option names the file that is created.
 fn creates(rt: &HostRuntime, option: &str) -> Result<bool, Fail> {
     let result = path_of(rt, "created")?;
-    let words = ["plain", option, result.as_str()];
-    let outcome = run_log(rt, "creates", SUMMED.as_slice(), words.as_slice())?;
+    let arguments = ["plain", option, result.as_str()];
+    let outcome = run_log(rt, "creates", SUMMED.as_slice(), arguments.as_slice())?;
     let written = fs::read(rt, result.as_path())?;
     fs::remove_file(rt, result.as_path())?;
     Ok(outcome.is_done(b"") && written.as_slice() == PLAIN.as_slice())
@@ -27,15 +27,15 @@ fn a_file_that_is_there_is_kept_unless_forced(rt: HostRuntime) -> Result<(), Fai
     let result = path_of(&rt, "there")?;
     let long = [0x2A; 300];
     fs::write(&rt, result.as_path(), long.as_slice())?;
-    let words = ["plain", "-r", result.as_str()];
-    let outcome = run_log(&rt, "keeps", SUMMED.as_slice(), words.as_slice())?;
+    let arguments = ["plain", "-r", result.as_str()];
+    let outcome = run_log(&rt, "keeps", SUMMED.as_slice(), arguments.as_slice())?;
     assert!(rt; outcome.begins_refusal(1, "binlog: the result file is there: "));
     assert_eq!(rt;
         fs::read(&rt, result.as_path())?.as_slice(),
         long.as_slice()
     );
-    let words = ["plain", "--force", "-r", result.as_str()];
-    assert!(rt; run_log(&rt, "forces", SUMMED.as_slice(), words.as_slice())?.is_done(b""));
+    let arguments = ["plain", "--force", "-r", result.as_str()];
+    assert!(rt; run_log(&rt, "forces", SUMMED.as_slice(), arguments.as_slice())?.is_done(b""));
     let written = fs::read(&rt, result.as_path())?;
     fs::remove_file(&rt, result.as_path())?;
     assert_eq!(rt; written.as_slice(), PLAIN.as_slice());
@@ -46,12 +46,12 @@ fn a_file_that_is_there_is_kept_unless_forced(rt: HostRuntime) -> Result<(), Fai
 fn a_refused_log_leaves_the_file_alone(rt: HostRuntime) -> Result<(), Fail> {
     let result = path_of(&rt, "alone")?;
     let wrong = with_byte(&rt, STOP + 5, 2)?;
-    let words = ["plain", "--force", "-r", result.as_str()];
-    let outcome = run_log(&rt, "refuses", wrong.as_slice(), words.as_slice())?;
+    let arguments = ["plain", "--force", "-r", result.as_str()];
+    let outcome = run_log(&rt, "refuses", wrong.as_slice(), arguments.as_slice())?;
     assert!(rt; outcome.begins_refusal(1, "binlog: WrongSum at 120: "));
     assert!(rt; !fs::exists(&rt, result.as_path())?);
     fs::write(&rt, result.as_path(), b"kept")?;
-    let outcome = run_log(&rt, "refuses", wrong.as_slice(), words.as_slice())?;
+    let outcome = run_log(&rt, "refuses", wrong.as_slice(), arguments.as_slice())?;
     let kept = fs::read(&rt, result.as_path())?;
     fs::remove_file(&rt, result.as_path())?;
     assert!(rt; outcome.begins_refusal(1, "binlog: WrongSum at 120: "));
@@ -64,8 +64,8 @@ fn the_log_is_no_result_file(rt: HostRuntime) -> Result<(), Fail> {
     let path = path_of(&rt, "itself")?;
     fs::write(&rt, path.as_path(), SUMMED.as_slice())?;
     let outcomes = [
-        run_words(&rt, &["plain", "-r", path.as_str(), path.as_str()])?,
-        run_words(
+        run_arguments(&rt, &["plain", "-r", path.as_str(), path.as_str()])?,
+        run_arguments(
             &rt,
             &["plain", "--force", "-r", path.as_str(), path.as_str()],
         )?,
@@ -82,16 +82,16 @@ fn the_log_is_no_result_file(rt: HostRuntime) -> Result<(), Fail> {
 #[test]
 fn a_file_that_cannot_be_created_is_told(rt: HostRuntime) -> Result<(), Fail> {
     let result = path_of(&rt, "no-folder")?.join(rt.alloc(), "plain.binlog")?;
-    let words = ["plain", "-r", result.as_str()];
-    let outcome = run_log(&rt, "homeless", SUMMED.as_slice(), words.as_slice())?;
+    let arguments = ["plain", "-r", result.as_str()];
+    let outcome = run_log(&rt, "homeless", SUMMED.as_slice(), arguments.as_slice())?;
     let result_name = result.as_str();
     let line = format!(in rt.alloc();
         "binlog: cannot create the result file {result_name}: No such file or directory (os error 2): "
     )?;
     assert!(rt; outcome.begins_refusal(1, line.as_str()));
     let folder = env::temp_dir(&rt)?;
-    let words = ["plain", "--force", "-r", folder.as_str()];
-    let outcome = run_log(&rt, "in-folder", SUMMED.as_slice(), words.as_slice())?;
+    let arguments = ["plain", "--force", "-r", folder.as_str()];
+    let outcome = run_log(&rt, "in-folder", SUMMED.as_slice(), arguments.as_slice())?;
     let folder_name = folder.as_str();
     let line = format!(in rt.alloc();
         "binlog: cannot create the result file {folder_name}: Is a directory (os error 21): "
@@ -102,8 +102,8 @@ fn a_file_that_cannot_be_created_is_told(rt: HostRuntime) -> Result<(), Fail> {
 
 #[test]
 fn a_full_device_is_a_failed_write_and_stays(rt: HostRuntime) -> Result<(), Fail> {
-    let words = ["plain", "--force", "-r", "/dev/full"];
-    let outcome = run_log(&rt, "overflows", SUMMED.as_slice(), words.as_slice())?;
+    let arguments = ["plain", "--force", "-r", "/dev/full"];
+    let outcome = run_log(&rt, "overflows", SUMMED.as_slice(), arguments.as_slice())?;
     assert!(rt; outcome.begins_refusal(1, "binlog: write failed: "));
     assert!(rt; fs::exists(&rt, "/dev/full")?);
     Ok(())

@@ -1,6 +1,6 @@
 //! Runs of `split`.
 
-use super::{path_of, run_log, run_words};
+use super::{path_of, run_arguments, run_log};
 use sample_logs::builder::{BEGIN, Part, T, XID, build, insert};
 use sample_logs::logs::insert_and_drop;
 use sample_logs::small::{INSERT_ONE_ROW, SUMMED};
@@ -22,10 +22,10 @@ fn cut(rt: &impl AllocGlobal) -> Result<Vec<u8>, AllocError> {
     build(rt, &[BEGIN, MAP, rows, MAP, rows, XID])
 }
 
-/// Whether a run with these words writes this log for the whole statement.
-fn writes(rt: &HostRuntime, words: &[&str], text: &[u8]) -> Result<bool, Fail> {
+/// Whether a run with these arguments writes this log for the whole statement.
+fn writes(rt: &HostRuntime, arguments: &[&str], text: &[u8]) -> Result<bool, Fail> {
     let log = whole(rt)?;
-    Ok(run_log(rt, "uncut", log.as_slice(), words)?.is_done(text))
+    Ok(run_log(rt, "uncut", log.as_slice(), arguments)?.is_done(text))
 }
 
 #[test]
@@ -44,9 +44,9 @@ fn a_cut_log_is_written_to_a_file(rt: HostRuntime) -> Result<(), Fail> {
     let log = whole(&rt)?;
     let cut = cut(&rt)?;
     let result = path_of(&rt, "cut-file")?;
-    let words = ["split", "--size", "40", "-r", result.as_str()];
-    let outcome = run_log(&rt, "to-file", log.as_slice(), words.as_slice())?;
-    let kept = run_log(&rt, "to-file", log.as_slice(), words.as_slice())?;
+    let arguments = ["split", "--size", "40", "-r", result.as_str()];
+    let outcome = run_log(&rt, "to-file", log.as_slice(), arguments.as_slice())?;
+    let kept = run_log(&rt, "to-file", log.as_slice(), arguments.as_slice())?;
     let written = fs::read(&rt, result.as_path())?;
     fs::remove_file(&rt, result.as_path())?;
     assert!(rt; outcome.is_done(b""));
@@ -91,9 +91,9 @@ fn wrong_sizes_end_in_two(rt: HostRuntime) -> Result<(), Fail> {
         (["split", "--size", "8MB", "a"], "error: invalid value "),
         (["split", "--json", "4", "a"], "error: "),
     ];
-    for (words, line) in cases {
-        let outcome = run_words(&rt, words.as_slice())?;
-        assert!(rt; outcome.begins_refusal(2, line), "{words:?}");
+    for (arguments, line) in cases {
+        let outcome = run_arguments(&rt, arguments.as_slice())?;
+        assert!(rt; outcome.begins_refusal(2, line), "{arguments:?}");
     }
     Ok(())
 }

@@ -1,8 +1,8 @@
 //! What is printed for each failure.
 
+use crate::arguments::ArgumentsFault;
 use crate::commands::Failure;
 use crate::tests::check;
-use crate::words::WordsFault;
 use blog_flash::{Fault, RunFault, Watched};
 use std::alloc::Global;
 use std::test::Fail;
@@ -69,5 +69,5 @@ fn check_memory(rt: &HostRuntime, failure: &Failure<Global>) -> Result<(), Fail>
 #[test]
 fn prints_want_of_memory(rt: HostRuntime) -> Result<(), Fail> {
     check_memory(&rt, &Failure::Run(RunFault::Log(Fault::OutOfMemory)))?;
-    check_memory(&rt, &Failure::Words(WordsFault::OutOfMemory))
+    check_memory(&rt, &Failure::Arguments(ArgumentsFault::OutOfMemory))
 }

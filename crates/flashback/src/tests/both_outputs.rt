@@ -45,18 +45,22 @@ fn result_of(rt: &HostRuntime, name: &str) -> io::Result<PathBuf> {
     path_of(rt, file.as_str())
 }
 
-/// Of a file of `log` these words make `wanted` in the file of this path, and nothing elsewhere.
+/// Of a file of `log` these arguments make `wanted` in the file of this path, and nothing elsewhere.
 fn check_file(
     rt: &HostRuntime,
     name: &str,
     log: &[u8],
-    words: &[&str],
+    arguments: &[&str],
     file: &str,
     wanted: &[u8],
 ) -> Result<(), Fail> {
-    let done = run_log_to(rt, name, log, words, file)?.is_done(b"");
-    check(done, "not done with a file", words)?;
-    check(has_bytes(rt, file, Some(wanted))?, "not in the file", words)?;
+    let done = run_log_to(rt, name, log, arguments, file)?.is_done(b"");
+    check(done, "not done with a file", arguments)?;
+    check(
+        has_bytes(rt, file, Some(wanted))?,
+        "not in the file",
+        arguments,
+    )?;
     Ok(())
 }
 
@@ -65,76 +69,76 @@ fn check_files(
     rt: &HostRuntime,
     name: &str,
     log: &[u8],
-    words: &[&str],
+    arguments: &[&str],
     file: &str,
     wanted: &[u8],
 ) -> Result<(), Fail> {
-    check_file(rt, name, log, words, file, wanted)?;
+    check_file(rt, name, log, arguments, file, wanted)?;
     fs::write(rt, file, [0x2A; 300].as_slice())?;
-    check_file(rt, name, log, words, file, wanted)?;
+    check_file(rt, name, log, arguments, file, wanted)?;
     fs::remove_file(rt, file)?;
     Ok(())
 }
 
-/// Of a file of `log` these words make `wanted`: first on standard output, then with `-r` in a file
+/// Of a file of `log` these arguments make `wanted`: first on standard output, then with `-r` in a file
 /// that isn't there, and in one with more bytes.
 pub fn check_both_outputs(
     rt: &HostRuntime,
     name: &str,
     log: &[u8],
-    words: &[&str],
+    arguments: &[&str],
     wanted: &[u8],
 ) -> Result<(), Fail> {
-    let written = run_log(rt, name, log, words)?.is_done(wanted);
-    check(written, "not written", words)?;
+    let written = run_log(rt, name, log, arguments)?.is_done(wanted);
+    check(written, "not written", arguments)?;
     let result = result_of(rt, name)?;
-    check_files(rt, name, log, words, result.as_str(), wanted)
+    check_files(rt, name, log, arguments, result.as_str(), wanted)
 }
 
-/// The same for each of these words and what they make.
+/// The same for each of these arguments and what they make.
 pub fn check_printed(
     rt: &HostRuntime,
     name: &str,
     log: &[u8],
     cases: &[(&[&str], &str)],
 ) -> Result<(), Fail> {
-    for (words, wanted) in cases {
-        check_both_outputs(rt, name, log, words, wanted.as_bytes())?;
+    for (arguments, wanted) in cases {
+        check_both_outputs(rt, name, log, arguments, wanted.as_bytes())?;
     }
     Ok(())
 }
 
-/// Of a file of `log` these words end with this line and the status 1, and the file of this path is as before.
+/// Of a file of `log` these arguments end with this line and the status 1, and the file of this path is as before.
 fn check_kept(
     rt: &HostRuntime,
     name: &str,
     log: &[u8],
-    words: &[&str],
+    arguments: &[&str],
     line: &str,
     file: &str,
     before: Option<&[u8]>,
 ) -> Result<(), Fail> {
-    let refused = run_log_to(rt, name, log, words, file)?.is_refusal(1, line);
-    check(refused, "not refused with a file", words)?;
-    check(has_bytes(rt, file, before)?, "not kept", words)?;
+    let refused = run_log_to(rt, name, log, arguments, file)?.is_refusal(1, line);
+    check(refused, "not refused with a file", arguments)?;
+    check(has_bytes(rt, file, before)?, "not kept", arguments)?;
     Ok(())
 }
 
-/// Of a file of `log` these words end with this line and the status 1, and nothing is written: first to
+/// Of a file of `log` these arguments end with this line and the status 1, and nothing is written: first to
 /// standard output, then with `-r` to a file that isn't there, and to one that is.
 pub fn check_refused(
     rt: &HostRuntime,
     name: &str,
     log: &[u8],
-    words: &[&str],
+    arguments: &[&str],
     line: &str,
 ) -> Result<(), Fail> {
-    check_log_refused(rt, name, log, words, line)?;
+    check_log_refused(rt, name, log, arguments, line)?;
     let result = result_of(rt, name)?;
     let file = result.as_str();
-    check_kept(rt, name, log, words, line, file, None)?;
+    check_kept(rt, name, log, arguments, line, file, None)?;
     fs::write(rt, file, b"kept")?;
-    check_kept(rt, name, log, words, line, file, Some(b"kept"))?;
+    check_kept(rt, name, log, arguments, line, file, Some(b"kept"))?;
     fs::remove_file(rt, file)?;
     Ok(())
 }

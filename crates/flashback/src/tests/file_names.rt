@@ -120,9 +120,9 @@ fn a_file_with_a_blank_is_another_file(rt: HostRuntime) -> Result<(), Fail> {
     let result = path.as_str();
     // there is no folder of one blank
     let other = format!(in rt.alloc(); " {result}")?;
-    let words = ["-B", "-r", other.as_str()];
+    let arguments = ["-B", "-r", other.as_str()];
     let line = "flashback: cannot create the result file\n";
-    check_log_refused(&rt, "blanks", INSERT_ONE_ROW.as_slice(), &words, line)?;
+    check_log_refused(&rt, "blanks", INSERT_ONE_ROW.as_slice(), &arguments, line)?;
     check_bytes(&rt, result, None)?;
     Ok(())
 }

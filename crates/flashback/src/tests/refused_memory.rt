@@ -3,7 +3,7 @@
 use super::both_outputs::{COUNTED, DONE, UNDONE};
 use super::file_names::{check_bytes, has_bytes};
 use super::logs::with_byte;
-use super::{ROWS_TYPE, check, path_of, words_of};
+use super::{ROWS_TYPE, arguments_of, check, path_of};
 use crate::commands::command;
 use blog_flash::Watched;
 use linked_list_allocator::LocalHeap;
@@ -13,7 +13,7 @@ use std::alloc::Allocator;
 use std::fs;
 use std::process::ExitCode;
 use std::test::Fail;
-use testkit::runs::{Outcome, push_words};
+use testkit::runs::{Outcome, push_arguments};
 
 /// More requests than each of these runs makes.
 const REQUESTS: usize = 200;
@@ -24,10 +24,10 @@ const ROOM: usize = 1 << 18;
 const OUT_OF_MEMORY: &str = "flashback: OutOfMemory\n";
 
 /// Runs the program with memory of this allocator.
-fn run_with<A: Allocator + Copy>(rt: &HostRuntime, alloc: A, words: Vec<String>) -> Outcome {
+fn run_with<A: Allocator + Copy>(rt: &HostRuntime, alloc: A, arguments: Vec<String>) -> Outcome {
     let mut output = Watched::new(Vec::new(rt.alloc()));
     let mut errors = Watched::new(Vec::new(rt.alloc()));
-    let status = command(rt, alloc, Ok(words), &mut output, &mut errors);
+    let status = command(rt, alloc, Ok(arguments), &mut output, &mut errors);
     Outcome {
         status,
         output,
@@ -35,20 +35,20 @@ fn run_with<A: Allocator + Copy>(rt: &HostRuntime, alloc: A, words: Vec<String>)
     }
 }
 
-/// Runs the program with these words over the log of this path. All that it takes is given back.
+/// Runs the program with these arguments over the log of this path. All that it takes is given back.
 /// Answers also whether its request of this number was refused.
 fn run_refusing(
     rt: &HostRuntime,
-    words: &[&str],
+    arguments: &[&str],
     log: &str,
     number: usize,
 ) -> Result<(Outcome, bool), Fail> {
-    let mut all = words_of(rt, words)?;
-    push_words(&mut all, &[log])?;
+    let mut all = arguments_of(rt, arguments)?;
+    push_arguments(&mut all, &[log])?;
     let heap = LocalHeap::new(rt.alloc(), ROOM)?;
     let refusing = Refusing::new(&heap, number);
     let outcome = run_with(rt, &refusing, all);
-    check(heap.used() == 0, "kept memory", words)?;
+    check(heap.used() == 0, "kept memory", arguments)?;
     Ok((outcome, refusing.has_refused()))
 }
 
@@ -56,45 +56,45 @@ fn run_refusing(
 /// Answers the run that is refused none, and how many were refused before it.
 fn refuse_in_turn(
     rt: &HostRuntime,
-    words: &[&str],
+    arguments: &[&str],
     log: &str,
     file: &str,
     before: Option<&[u8]>,
 ) -> Result<(Outcome, usize), Fail> {
     for number in 1..REQUESTS {
-        let (outcome, refused) = run_refusing(rt, words, log, number)?;
+        let (outcome, refused) = run_refusing(rt, arguments, log, number)?;
         if !refused {
             return Ok((outcome, number - 1));
         }
         check(
             outcome.is_refusal(1, OUT_OF_MEMORY),
             "another outcome",
-            words,
+            arguments,
         )?;
-        check(has_bytes(rt, file, before)?, "another outcome", words)?;
+        check(has_bytes(rt, file, before)?, "another outcome", arguments)?;
     }
     Err(Fail::new("there are more requests"))
 }
 
-/// Words with which the log is printed, and what is.
+/// Arguments with which the log is printed, and what is.
 static PRINTED: [(&[&str], &str); 3] = [
     (&["-B", "--sql"], UNDONE),
     (&["--forward", "--sql"], DONE),
     (&["--summary"], COUNTED),
 ];
 
-/// The run with these words over the log of this path takes memory more than once, and writes this.
+/// The run with these arguments over the log of this path takes memory more than once, and writes this.
 fn check_mode(
     rt: &HostRuntime,
-    words: &[&str],
+    arguments: &[&str],
     log: &str,
     file: &str,
     wanted: &[u8],
 ) -> Result<(), Fail> {
-    let (outcome, refused) = refuse_in_turn(rt, words, log, file, None)?;
+    let (outcome, refused) = refuse_in_turn(rt, arguments, log, file, None)?;
     // one to read the log, and others to answer it
-    check(refused > 1, "requests", words)?;
-    check(outcome.is_done(wanted), "outcome", words)?;
+    check(refused > 1, "requests", arguments)?;
+    check(outcome.is_done(wanted), "outcome", arguments)?;
     Ok(())
 }
 
@@ -102,8 +102,8 @@ fn check_modes(rt: &HostRuntime, log: &str, file: &str) -> Result<(), Fail> {
     let undone = with_byte(rt.alloc(), ROWS_TYPE, 0x20)?;
     check_mode(rt, &["-B"], log, file, undone.as_slice())?;
     check_mode(rt, &["--forward"], log, file, INSERT_ONE_ROW.as_slice())?;
-    for (words, wanted) in &PRINTED {
-        check_mode(rt, words, log, file, wanted.as_bytes())?;
+    for (arguments, wanted) in &PRINTED {
+        check_mode(rt, arguments, log, file, wanted.as_bytes())?;
     }
     Ok(())
 }
@@ -165,25 +165,25 @@ fn check_help(rt: &HostRuntime, file: &str) -> Result<(), Fail> {
 
 /// The option's wrong value is told once no request is refused.
 fn check_wrong_value(rt: &HostRuntime, option: &str, file: &str) -> Result<(), Fail> {
-    let words = ["-B", option, "x", "-r", file];
-    let (outcome, refused) = refuse_in_turn(rt, &words, "a.binlog", file, None)?;
+    let arguments = ["-B", option, "x", "-r", file];
+    let (outcome, refused) = refuse_in_turn(rt, &arguments, "a.binlog", file, None)?;
     // one for what is wrong, and others for the text around it
-    check(refused > 1, "requests", &words)?;
-    check(outcome.is_wrong(), "outcome", &words)?;
+    check(refused > 1, "requests", &arguments)?;
+    check(outcome.is_wrong(), "outcome", &arguments)?;
     check(
         str::from_utf8(outcome.errors())?.contains("invalid value 'x'"),
         "errors",
-        &words,
+        &arguments,
     )?;
     Ok(())
 }
 
 /// The wrong option is told once no request is refused.
 fn check_wrong_option(rt: &HostRuntime, file: &str) -> Result<(), Fail> {
-    let words = ["-B", "--no-such-word", "-r", file];
-    let (outcome, refused) = refuse_in_turn(rt, &words, "a.binlog", file, None)?;
-    check(refused > 0, "requests", &words)?;
-    check(outcome.is_wrong(), "outcome", &words)?;
+    let arguments = ["-B", "--no-such-word", "-r", file];
+    let (outcome, refused) = refuse_in_turn(rt, &arguments, "a.binlog", file, None)?;
+    check(refused > 0, "requests", &arguments)?;
+    check(outcome.is_wrong(), "outcome", &arguments)?;
     Ok(())
 }
 

@@ -42,18 +42,24 @@ fn a_refused_log_leaves_the_file_alone(rt: HostRuntime) -> Result<(), Fail> {
 fn a_log_that_cannot_be_opened_leaves_the_file_alone(rt: HostRuntime) -> Result<(), Fail> {
     let result = path_of(&rt, "not-made")?;
     let absent = path_of(&rt, "not-there")?;
-    let words = ["-B", "-r", result.as_str(), absent.as_str()];
-    check_refusal(&rt, &words, 1, "flashback: cannot open the log\n")?;
+    let arguments = ["-B", "-r", result.as_str(), absent.as_str()];
+    check_refusal(&rt, &arguments, 1, "flashback: cannot open the log\n")?;
     check_bytes(&rt, result.as_str(), None)?;
     Ok(())
 }
 
 /// The file of this path can't be created, of which the run tells behind what is wrong with the log.
 fn check_uncreated(rt: &HostRuntime, name: &str, file: &str) -> Result<(), Fail> {
-    let words = ["-B", "-r", file];
+    let arguments = ["-B", "-r", file];
     let line = "flashback: cannot create the result file\n";
-    check_log_refused(rt, name, INSERT_ONE_ROW.as_slice(), &words, line)?;
-    check_log_refused(rt, name, b"no log", &words, "flashback: NotABinlog at 0\n")
+    check_log_refused(rt, name, INSERT_ONE_ROW.as_slice(), &arguments, line)?;
+    check_log_refused(
+        rt,
+        name,
+        b"no log",
+        &arguments,
+        "flashback: NotABinlog at 0\n",
+    )
 }
 
 #[test]
@@ -71,7 +77,7 @@ fn a_folder_is_no_result_file(rt: HostRuntime) -> Result<(), Fail> {
 
 #[test]
 fn a_full_device_is_a_failed_write(rt: HostRuntime) -> Result<(), Fail> {
-    let words = ["-B", "-r", "/dev/full"];
+    let arguments = ["-B", "-r", "/dev/full"];
     let line = "flashback: write failed\n";
-    check_log_refused(&rt, "overflow", INSERT_ONE_ROW.as_slice(), &words, line)
+    check_log_refused(&rt, "overflow", INSERT_ONE_ROW.as_slice(), &arguments, line)
 }

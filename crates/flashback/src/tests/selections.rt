@@ -43,8 +43,8 @@ static NOTHING: [&[&str]; 6] = [
 
 /// Each of these selections of the log has this output.
 fn check_selections(rt: &HostRuntime, selections: &[&[&str]], wanted: &[u8]) -> Result<(), Fail> {
-    for words in selections {
-        check_both_outputs(rt, "selected", INSERT_ONE_ROW.as_slice(), words, wanted)?;
+    for arguments in selections {
+        check_both_outputs(rt, "selected", INSERT_ONE_ROW.as_slice(), arguments, wanted)?;
     }
     Ok(())
 }
@@ -74,8 +74,14 @@ static REFUSED: [(&[&str], &str); 5] = [
 
 #[test]
 fn each_selection_has_its_fault(rt: HostRuntime) -> Result<(), Fail> {
-    for (words, line) in &REFUSED {
-        check_refused(&rt, "unselected", INSERT_ONE_ROW.as_slice(), words, line)?;
+    for (arguments, line) in &REFUSED {
+        check_refused(
+            &rt,
+            "unselected",
+            INSERT_ONE_ROW.as_slice(),
+            arguments,
+            line,
+        )?;
     }
     Ok(())
 }
@@ -89,8 +95,8 @@ fn a_cut_log_leaves_the_file_alone(rt: HostRuntime) -> Result<(), Fail> {
 fn check_stop(rt: &HostRuntime, log: &[u8]) -> Result<(), Fail> {
     let undone = with_byte(rt.alloc(), ROWS_TYPE, 0x20)?;
     check_refused(rt, "drop", log, &["-B"], "flashback: Statement at 259\n")?;
-    let words = ["-B", "--stop-position", "259"];
-    check_both_outputs(rt, "drop", log, &words, undone.as_slice())
+    let arguments = ["-B", "--stop-position", "259"];
+    check_both_outputs(rt, "drop", log, &arguments, undone.as_slice())
 }
 
 #[test]

@@ -1,29 +1,30 @@
 //! Which arguments mean what.
 
-ghost use Rattle.std.specs.Prelude.{◌≡◌, IfErr, IfOk, IfSome, Ok, Some, codes, option_map, true};
-ghost use Rattle.clap.specs.Words.{first_value, found_of, rows_of, subcommand_name_of, subcommand_rows_of};
+ghost use Rattle.std.specs.Prelude.{◌≡◌, IfErr, IfOk, Ok, codes, true};
+ghost use Rattle.clap.specs.Words.{first_value, found_of};
 ghost use Rattle.console.specs.Positions.{IsPositionOf};
-ghost use Rattle.binlog.specs.Request.{IsCopyOf, IsCopyTask, IsListTask, IsSizeOf, IsRead, IsTimeOf, RefusesList, RefusesPosition, RefusesSplit, RefusesTime, asks_for_list, form_of, is_given, is_list};
-ghost use Rattle.binlog.specs.declared.words.WordsFault.TheVariants.{OutOfMemory};
+ghost use Rattle.binlog.specs.Request.{IsNewLogTask, IsListTask, IsSizeOf, IsRead, IsTimeOf, RefusesList, RefusesPosition, RefusesTime, asks_for_list, form_of, is_given, is_list};
+ghost use Rattle.binlog.specs.declared.arguments.ArgumentsFault.TheVariants.{OutOfMemory};
 
 use crate::options::{
     DATABASE, DEFAULT_SIZE, FORCE, JSON, LIST, LOG, PLAIN, RESULT_FILE, SIZE, SPLIT, START,
-    START_TIME, STOP, STOP_TIME, TABLE, all_words,
+    START_TIME, STOP, STOP_TIME, TABLE, all_arguments,
 };
 use blog_list::{Form, Wanted, seconds_of};
+use clap::error::ErrorKind;
 use clap::{ArgMatches, Command, Error};
 use console::{POSITION, Told, position_of, read_error, wrong_value};
 use std::alloc::{AllocError, Allocator, Global};
 
 /// What the arguments ask for.
 #[derive(Drop)]
-pub enum Asked<'w, A: Allocator> {
+pub enum Asked<'a, A: Allocator> {
     /// The text of the help, or of the version.
     Text(String<A>),
-    /// A copy of a log.
-    Copy(CopyTask<'w>),
+    /// A new log, made of a log.
+    NewLog(NewLogTask<'a>),
     /// The list of the units of a log.
-    List(ListTask<'w>),
+    List(ListTask<'a>),
 }
 
 /// What is made of a log.
@@ -35,33 +36,33 @@ pub enum Making {
     Split(u32),
 }
 
-/// A copy of a log.
+/// A new log, made of a log.
 #[derive(Clone, Copy, Debug)]
-pub struct CopyTask<'w> {
+pub struct NewLogTask<'a> {
     /// The path of the log.
-    pub log: &'w str,
-    /// The path of the file for the copy; none where that goes to standard output.
-    pub result_file: Option<&'w str>,
+    pub log: &'a str,
+    /// The path of the file for the new log; none where that goes to standard output.
+    pub result_file: Option<&'a str>,
     /// Whether that file may be there.
     pub force: bool,
-    /// What the copy is.
+    /// What the new log is.
     pub making: Making,
 }
 
 /// The list of the units of a log.
 #[derive(Clone, Copy, Debug)]
-pub struct ListTask<'w> {
+pub struct ListTask<'a> {
     /// The path of the log.
-    pub log: &'w str,
+    pub log: &'a str,
     /// Which of its units are wanted.
-    pub wanted: Wanted<'w>,
+    pub wanted: Wanted<'a>,
     /// In which form they are listed.
     pub form: Form,
 }
 
 /// Why the arguments ask for nothing.
 #[derive(Drop)]
-pub enum WordsFault<A: Allocator> {
+pub enum ArgumentsFault<A: Allocator> {
     /// The arguments are wrong, as this text tells.
     Wrong(String<A>),
     /// An argument isn't UTF-8.
@@ -70,108 +71,100 @@ pub enum WordsFault<A: Allocator> {
     OutOfMemory,
 }
 
-impl<A: Allocator> From<AllocError> for WordsFault<A> {
+impl<A: Allocator> From<AllocError> for ArgumentsFault<A> {
     ghost from_gives = { λ _ fault. fault ≡ OutOfMemory };
 
-    fn from(_error: AllocError) -> WordsFault<A> {
-        WordsFault::OutOfMemory
+    fn from(_error: AllocError) -> ArgumentsFault<A> {
+        ArgumentsFault::OutOfMemory
     }
 }
 
 /// Answers what the arguments ask for, of which the first is the program's name. A list is asked for by the second one alone.
 /// The parser takes its memory from `global`.
-pub fn read_words<'w, A: Allocator + Copy>(
+pub fn read_arguments<'a, A: Allocator + Copy>(
     global: Global,
     alloc: A,
-    words: &'w [String],
-) -> Result<Asked<'w, A>, WordsFault<A>>
-    ensures list { IfOk result (λ asked. is_list asked ≡ true → asks_for_list words.now ≡ true) }
+    arguments: &'a [String],
+) -> Result<Asked<'a, A>, ArgumentsFault<A>>
+    ensures list { IfOk result (λ asked. is_list asked ≡ true → asks_for_list arguments.now ≡ true) }
 {
-    let lists = asks_for_list(words);
-    let mut command = all_words(global)?;
-    let parsed = command.try_get_matches_from_mut(words);
+    let lists = asks_for_list(arguments);
+    let mut command = all_arguments(global)?;
+    let parsed = command.try_get_matches_from_mut(arguments);
     read_parsed(alloc, &mut command, parsed, lists)
 }
 
 /// Whether the argument behind the program's name is `list`.
-fn asks_for_list(words: &[String]) -> bool
-    ensures { result ≡ asks_for_list words.now }
+fn asks_for_list(arguments: &[String]) -> bool
+    ensures { result ≡ asks_for_list arguments.now }
 {
-    match words.get(1) {
-        Some(word) => word.as_str() == LIST,
+    match arguments.get(1) {
+        Some(name) => name.as_str() == LIST,
         None => false,
     }
 }
 
 /// What the parser's answer asks for, which is a list only if one may be asked for.
-fn read_parsed<'w, A: Allocator + Copy>(
+fn read_parsed<'a, A: Allocator + Copy>(
     alloc: A,
-    command: &mut Command<'w>,
-    parsed: Result<ArgMatches<'w>, Error>,
+    command: &mut Command<'a>,
+    parsed: Result<ArgMatches<'a>, Error>,
     lists: bool,
-) -> Result<Asked<'w, A>, WordsFault<A>>
-    ensures read { IsRead parsed.entry result }
+) -> Result<Asked<'a, A>, ArgumentsFault<A>>
+    ensures read { IsRead lists parsed.entry result }
     ensures list { IfOk result (λ asked. is_list asked ≡ true → lists ≡ true) }
 {
     match parsed {
         Ok(matches) => read_matches(alloc, command, &matches, lists),
         Err(error) => match read_error(alloc, &error)? {
             Told::Asked(text) => Ok(Asked::Text(text)),
-            Told::Wrong(text) => Err(WordsFault::Wrong(text)),
+            Told::Wrong(text) => Err(ArgumentsFault::Wrong(text)),
         },
     }
 }
 
-/// What is asked for by what the parser found.
-fn read_matches<'w, A: Allocator + Copy>(
+/// What is asked for by what the parser found: by the command that is among it, of which a list only if one may be asked for.
+fn read_matches<'a, A: Allocator + Copy>(
     alloc: A,
-    command: &mut Command<'w>,
-    matches: &ArgMatches<'w>,
+    command: &mut Command<'a>,
+    matches: &ArgMatches<'a>,
     lists: bool,
-) -> Result<Asked<'w, A>, WordsFault<A>>
-    ensures read { IsRead (Ok matches.now) result }
+) -> Result<Asked<'a, A>, ArgumentsFault<A>>
+    ensures read { IsRead lists (Ok matches.now) result }
     ensures list { IfOk result (λ asked. is_list asked ≡ true → lists ≡ true) }
 {
-    match found_list(matches) {
-        Some(found) if lists => Ok(Asked::List(read_list(alloc, command, found)?)),
-        _ => Ok(Asked::Copy(read_copy(alloc, command, matches)?)),
+    match matches.subcommand() {
+        Some((name, found)) if name == PLAIN => {
+            Ok(Asked::NewLog(read_task(found, Making::Plain)))
+        }
+        Some((name, found)) if name == SPLIT => {
+            let size = read_size(alloc, command, found)?;
+            Ok(Asked::NewLog(read_task(found, Making::Split(size))))
+        }
+        Some((name, found)) if name == LIST && lists => {
+            Ok(Asked::List(read_list(alloc, command, found)?))
+        }
+        _ => Err(ArgumentsFault::Wrong(wrong_command(alloc, command)?)),
     }
 }
 
-/// What the parser found behind the command `list`, where it found that command.
-fn found_list<'m, 'w>(matches: &'m ArgMatches<'w>) -> Option<&'m ArgMatches<'w>>
-    ensures named { IfSome result (λ _. subcommand_name_of matches.now ≡ Some (codes "list")) }
-    ensures rows { IfSome result (λ found. option_map (λ part. part.1) (subcommand_rows_of matches.now) ≡ Some (rows_of (found_of found.now))) }
-{
-    matches.subcommand_matches(LIST)
-}
+/// What is told where there is no command, or another one. The parser tells it by itself of most arguments.
+const GIVE_A_COMMAND: &str = "give a command: plain, list or split";
 
-/// The copy that is asked for by what the parser found.
-fn read_copy<'w, A: Allocator + Copy>(
+fn wrong_command<A: Allocator>(
     alloc: A,
-    command: &mut Command<'w>,
-    matches: &ArgMatches<'w>,
-) -> Result<CopyTask<'w>, WordsFault<A>>
-    ensures copy { IfOk result (IsCopyOf matches.now) }
-    ensures refused { IfErr result (RefusesSplit matches.now) }
-{
-    if let Some(found) = matches.subcommand_matches(SPLIT) {
-        let making = Making::Split(read_size(alloc, command, found)?);
-        return Ok(read_task(found, making));
-    }
-    match matches.subcommand_matches(PLAIN) {
-        Some(found) => Ok(read_task(found, Making::Plain)),
-        // the parser has refused arguments without a command
-        None => Ok(read_task(matches, Making::Plain)),
-    }
+    command: &mut Command<'_>,
+) -> Result<String<A>, AllocError> {
+    let error = command.error(ErrorKind::MissingSubcommand, GIVE_A_COMMAND)?;
+    error.to_string(alloc)
 }
 
 /// How many bytes the rows events of a statement may have.
-fn read_size<'w, A: Allocator + Copy>(
+fn read_size<'a, A: Allocator + Copy>(
     alloc: A,
-    command: &mut Command<'w>,
-    found: &ArgMatches<'w>,
-) -> Result<u32, WordsFault<A>>
+    command: &mut Command<'a>,
+    found: &ArgMatches<'a>,
+) -> Result<u32, ArgumentsFault<A>>
     ensures size { IfOk result (IsSizeOf (first_value (found_of found.now) (codes "size"))) }
     ensures wrong { IfErr result (RefusesPosition (first_value (found_of found.now) (codes "size"))) }
 {
@@ -179,11 +172,11 @@ fn read_size<'w, A: Allocator + Copy>(
     Ok(size.unwrap_or(DEFAULT_SIZE))
 }
 
-fn read_task<'w>(found: &ArgMatches<'w>, making: Making) -> CopyTask<'w>
-    ensures task { IsCopyTask (found_of found.now) result }
+fn read_task<'a>(found: &ArgMatches<'a>, making: Making) -> NewLogTask<'a>
+    ensures task { IsNewLogTask (found_of found.now) result }
     ensures making { result.making ≡ making }
 {
-    CopyTask {
+    NewLogTask {
         // the parser has refused arguments without a LOG
         log: found.get_str(LOG).unwrap_or(""),
         result_file: found.get_str(RESULT_FILE),
@@ -192,11 +185,11 @@ fn read_task<'w>(found: &ArgMatches<'w>, making: Making) -> CopyTask<'w>
     }
 }
 
-fn read_list<'w, A: Allocator + Copy>(
+fn read_list<'a, A: Allocator + Copy>(
     alloc: A,
-    command: &mut Command<'w>,
-    found: &ArgMatches<'w>,
-) -> Result<ListTask<'w>, WordsFault<A>>
+    command: &mut Command<'a>,
+    found: &ArgMatches<'a>,
+) -> Result<ListTask<'a>, ArgumentsFault<A>>
     ensures asked { IfOk result (IsListTask (found_of found.now)) }
     ensures refused { IfErr result (RefusesList (found_of found.now)) }
 {
@@ -231,48 +224,48 @@ fn read_form(found: &ArgMatches<'_>) -> Form
 const BYTES: &str = "a number of bytes: decimal digits, 0 to 4294967295";
 
 /// The number that this option has, where it is there: a position, or so many bytes.
-fn read_number<'w, A: Allocator + Copy>(
+fn read_number<'a, A: Allocator + Copy>(
     alloc: A,
-    command: &mut Command<'w>,
-    found: &ArgMatches<'w>,
+    command: &mut Command<'a>,
+    found: &ArgMatches<'a>,
     name: &str,
     value: &str,
     has_to_be: &str,
-) -> Result<Option<u32>, WordsFault<A>>
+) -> Result<Option<u32>, ArgumentsFault<A>>
     ensures found { IfOk result (IsPositionOf (first_value (found_of found.now) name.now)) }
     ensures wrong { IfErr result (RefusesPosition (first_value (found_of found.now) name.now)) }
 {
-    let Some(word) = found.get_str(name) else {
+    let Some(text) = found.get_str(name) else {
         return Ok(None);
     };
-    if let Some(number) = position_of(word) {
+    if let Some(number) = position_of(text) {
         return Ok(Some(number));
     }
     let option = format!(in alloc; "{name} <{value}>")?;
-    let text = wrong_value(alloc, command, option.as_str(), word, has_to_be)?;
-    Err(WordsFault::Wrong(text))
+    let told = wrong_value(alloc, command, option.as_str(), text, has_to_be)?;
+    Err(ArgumentsFault::Wrong(told))
 }
 
 /// What a time is, as it is told of a value that is none.
 const TIME: &str = "a time: YYYY-MM-DD hh:mm:ss, 1970-01-01 00:00:00 to 2106-02-07 06:28:15";
 
 /// The time that this option has, where it is there, in seconds since 1970 in UTC.
-fn read_time<'w, A: Allocator + Copy>(
+fn read_time<'a, A: Allocator + Copy>(
     alloc: A,
-    command: &mut Command<'w>,
-    found: &ArgMatches<'w>,
+    command: &mut Command<'a>,
+    found: &ArgMatches<'a>,
     name: &str,
-) -> Result<Option<u32>, WordsFault<A>>
+) -> Result<Option<u32>, ArgumentsFault<A>>
     ensures found { IfOk result (IsTimeOf (first_value (found_of found.now) name.now)) }
     ensures wrong { IfErr result (RefusesTime (first_value (found_of found.now) name.now)) }
 {
-    let Some(word) = found.get_str(name) else {
+    let Some(text) = found.get_str(name) else {
         return Ok(None);
     };
-    if let Some(seconds) = seconds_of(word) {
+    if let Some(seconds) = seconds_of(text) {
         return Ok(Some(seconds));
     }
     let option = format!(in alloc; "{name} <TIME>")?;
-    let text = wrong_value(alloc, command, option.as_str(), word, TIME)?;
-    Err(WordsFault::Wrong(text))
+    let told = wrong_value(alloc, command, option.as_str(), text, TIME)?;
+    Err(ArgumentsFault::Wrong(told))
 }

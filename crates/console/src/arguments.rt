@@ -9,12 +9,12 @@ use clap::{Arg, ArgAction, Error};
 use std::alloc::{AllocError, Allocator, Global};
 
 /// An option `--name` that takes no value.
-pub fn flag<'w>(alloc: Global, name: &'w str) -> Arg<'w> {
+pub fn flag<'a>(alloc: Global, name: &'a str) -> Arg<'a> {
     Arg::new(alloc, name).long(name).action(ArgAction::SetTrue)
 }
 
 /// An option `--name` that takes a value, whatever that begins with, as `mysqlbinlog` does.
-pub fn option<'w>(alloc: Global, name: &'w str, value: &'w str) -> Arg<'w> {
+pub fn option<'a>(alloc: Global, name: &'a str, value: &'a str) -> Arg<'a> {
     Arg::new(alloc, name)
         .long(name)
         .value_name(value)

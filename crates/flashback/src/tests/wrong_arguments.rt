@@ -1,6 +1,6 @@
-//! Words that ask for nothing.
+//! Arguments that ask for nothing.
 
-use super::{check, check_refusal, run_given, run_words};
+use super::{check, check_refusal, run_arguments, run_given};
 use std::io;
 use std::test::Fail;
 
@@ -8,7 +8,7 @@ const CHOOSE_ONE: &str = "flashback: choose one of -B, --forward, --summary\n";
 
 const SQL_OF_SUMMARY: &str = "flashback: --sql goes with -B or --forward\n";
 
-/// Words that choose no mode, or several.
+/// Arguments that choose no mode, or several.
 static NOT_ONE_MODE: [&[&str]; 10] = [
     &["a.binlog"],
     &["-j", "4", "-r", "undo.binlog", "a.binlog"],
@@ -24,13 +24,13 @@ static NOT_ONE_MODE: [&[&str]; 10] = [
 
 #[test]
 fn wants_exactly_one_mode(rt: HostRuntime) -> Result<(), Fail> {
-    for words in &NOT_ONE_MODE {
-        check_refusal(&rt, words, 2, CHOOSE_ONE)?;
+    for arguments in &NOT_ONE_MODE {
+        check_refusal(&rt, arguments, 2, CHOOSE_ONE)?;
     }
     Ok(())
 }
 
-/// Words that ask for a summary as pseudo-SQL.
+/// Arguments that ask for a summary as pseudo-SQL.
 static SUMMARIES: [&[&str]; 3] = [
     &["--summary", "--sql", "a.binlog"],
     &["--sql", "a.binlog", "--summary"],
@@ -39,13 +39,13 @@ static SUMMARIES: [&[&str]; 3] = [
 
 #[test]
 fn a_summary_is_no_sql(rt: HostRuntime) -> Result<(), Fail> {
-    for words in &SUMMARIES {
-        check_refusal(&rt, words, 2, SQL_OF_SUMMARY)?;
+    for arguments in &SUMMARIES {
+        check_refusal(&rt, arguments, 2, SQL_OF_SUMMARY)?;
     }
     Ok(())
 }
 
-/// Words that the parser refuses.
+/// Arguments that the parser refuses.
 static WRONG: [&[&str]; 10] = [
     &[],
     &["-B"],
@@ -60,22 +60,22 @@ static WRONG: [&[&str]; 10] = [
 ];
 
 #[test]
-fn refuses_wrong_words(rt: HostRuntime) -> Result<(), Fail> {
-    for words in &WRONG {
-        let wrong = run_words(&rt, words)?.is_wrong();
-        assert!(rt; wrong, "{words:?}");
+fn refuses_wrong_arguments(rt: HostRuntime) -> Result<(), Fail> {
+    for arguments in &WRONG {
+        let wrong = run_arguments(&rt, arguments)?.is_wrong();
+        assert!(rt; wrong, "{arguments:?}");
     }
     Ok(())
 }
 
 #[test]
-fn what_a_word_may_hold_comes_before_the_count_of_modes(rt: HostRuntime) -> Result<(), Fail> {
-    let outcome = run_words(&rt, &["--no-such-word"])?;
+fn what_an_argument_may_hold_comes_before_the_count_of_modes(rt: HostRuntime) -> Result<(), Fail> {
+    let outcome = run_arguments(&rt, &["--no-such-word"])?;
     assert!(rt; !outcome.is_refusal(2, CHOOSE_ONE));
     Ok(())
 }
 
-/// Words that are no position.
+/// Arguments that are no position.
 static NO_POSITIONS: [&str; 12] = [
     "x",
     "",
@@ -91,29 +91,29 @@ static NO_POSITIONS: [&str; 12] = [
     "18446744073709551620",
 ];
 
-/// The word is refused as this option's value.
-fn check_no_position(rt: &HostRuntime, option: &str, word: &str) -> Result<(), Fail> {
-    let outcome = run_words(rt, &["-B", option, word, "a.binlog"])?;
-    check(outcome.is_wrong(), "outcome", &[option, word])?;
+/// The argument is refused as this option's value.
+fn check_no_position(rt: &HostRuntime, option: &str, argument: &str) -> Result<(), Fail> {
+    let outcome = run_arguments(rt, &["-B", option, argument, "a.binlog"])?;
+    check(outcome.is_wrong(), "outcome", &[option, argument])?;
     check(
         str::from_utf8(outcome.errors())?.contains("invalid value"),
         "errors",
-        &[option, word],
+        &[option, argument],
     )?;
     Ok(())
 }
 
 #[test]
 fn refuses_wrong_positions(rt: HostRuntime) -> Result<(), Fail> {
-    for word in &NO_POSITIONS {
-        check_no_position(&rt, "-j", word)?;
-        check_no_position(&rt, "--stop-position", word)?;
+    for argument in &NO_POSITIONS {
+        check_no_position(&rt, "-j", argument)?;
+        check_no_position(&rt, "--stop-position", argument)?;
     }
     Ok(())
 }
 
 #[test]
-fn refuses_words_that_the_system_does_not_give(rt: HostRuntime) {
+fn refuses_arguments_that_the_system_does_not_give(rt: HostRuntime) {
     let outcome = run_given(&rt, Err(io::Error::from(io::ErrorKind::InvalidData)));
     assert!(rt; outcome.is_refusal(2, "flashback: the arguments are not UTF-8\n"));
     let outcome = run_given(&rt, Err(io::Error::from(io::ErrorKind::OutOfMemory)));

@@ -4,10 +4,10 @@ ghost use Rattle.std.specs.Prelude.{◌≡◌, Err, IfErr, IfOk};
 ghost use Rattle.clap.specs.Words.{first_value, found_of, kind_of};
 ghost use Rattle.console.specs.Positions.{IsPositionOf};
 ghost use Rattle.flashback.specs.Request.{IsAsked, IsRead, RefusesPosition, RefusesRun, asked_mode, is_given};
-ghost use Rattle.flashback.specs.declared.words.WordsFault.TheVariants.{OutOfMemory};
+ghost use Rattle.flashback.specs.declared.arguments.ArgumentsFault.TheVariants.{OutOfMemory};
 
 use crate::options::{
-    DATABASE, FLASHBACK, FORWARD, LOG, RESULT_FILE, SQL, START, STOP, SUMMARY, TABLE, all_words,
+    DATABASE, FLASHBACK, FORWARD, LOG, RESULT_FILE, SQL, START, STOP, SUMMARY, TABLE, all_arguments,
 };
 use blog_flash::{Mode, Selection};
 use clap::error::ErrorKind;
@@ -17,24 +17,24 @@ use std::alloc::{AllocError, Allocator, Global};
 
 /// What the arguments ask for.
 #[derive(Drop)]
-pub enum Asked<'w, A: Allocator> {
+pub enum Asked<'a, A: Allocator> {
     /// The text of the help, or of the version.
     Help(String<A>),
     /// A run over a log.
-    Run(Task<'w>),
+    Run(Task<'a>),
 }
 
 /// A run over a log.
 #[derive(Clone, Copy, Debug)]
-pub struct Task<'w> {
+pub struct Task<'a> {
     /// What is to be made of the log.
     pub mode: Mode,
     /// Which of its changes are meant.
-    pub selection: Selection<'w>,
+    pub selection: Selection<'a>,
     /// The path of the log.
-    pub log: &'w str,
+    pub log: &'a str,
     /// The path of the file for what is made of it; none where that goes to standard output.
-    pub result_file: Option<&'w str>,
+    pub result_file: Option<&'a str>,
 }
 
 /// Why the arguments choose no mode.
@@ -48,7 +48,7 @@ pub enum ModeFault {
 
 /// Why the arguments ask for nothing.
 #[derive(Drop)]
-pub enum WordsFault<A: Allocator> {
+pub enum ArgumentsFault<A: Allocator> {
     /// The arguments are wrong, as this text tells.
     Wrong(String<A>),
     /// They choose no mode.
@@ -59,42 +59,42 @@ pub enum WordsFault<A: Allocator> {
     OutOfMemory,
 }
 
-impl<A: Allocator> From<ModeFault> for WordsFault<A> {
-    ghost use Rattle.flashback.specs.declared.words.WordsFault.TheVariants.{Mode};
+impl<A: Allocator> From<ModeFault> for ArgumentsFault<A> {
+    ghost use Rattle.flashback.specs.declared.arguments.ArgumentsFault.TheVariants.{Mode};
 
     ghost from_gives = { λ of_mode fault. fault ≡ Mode of_mode };
 
-    fn from(fault: ModeFault) -> WordsFault<A> {
-        WordsFault::Mode(fault)
+    fn from(fault: ModeFault) -> ArgumentsFault<A> {
+        ArgumentsFault::Mode(fault)
     }
 }
 
-impl<A: Allocator> From<AllocError> for WordsFault<A> {
+impl<A: Allocator> From<AllocError> for ArgumentsFault<A> {
     ghost from_gives = { λ _ fault. fault ≡ OutOfMemory };
 
-    fn from(_error: AllocError) -> WordsFault<A> {
-        WordsFault::OutOfMemory
+    fn from(_error: AllocError) -> ArgumentsFault<A> {
+        ArgumentsFault::OutOfMemory
     }
 }
 
 /// Answers what the arguments ask for, of which the first is the program's name. The parser takes its
 /// memory from `global`.
-pub fn read_words<'w, A: Allocator + Copy>(
+pub fn read_arguments<'a, A: Allocator + Copy>(
     global: Global,
     alloc: A,
-    words: &'w [String],
-) -> Result<Asked<'w, A>, WordsFault<A>> {
-    let mut command = all_words(global)?;
-    let parsed = command.try_get_matches_from_mut(words);
+    arguments: &'a [String],
+) -> Result<Asked<'a, A>, ArgumentsFault<A>> {
+    let mut command = all_arguments(global)?;
+    let parsed = command.try_get_matches_from_mut(arguments);
     read_parsed(alloc, &mut command, parsed)
 }
 
 /// What the parser's answer asks for.
-fn read_parsed<'w, A: Allocator + Copy>(
+fn read_parsed<'a, A: Allocator + Copy>(
     alloc: A,
-    command: &mut Command<'w>,
-    parsed: Result<ArgMatches<'w>, Error>,
-) -> Result<Asked<'w, A>, WordsFault<A>>
+    command: &mut Command<'a>,
+    parsed: Result<ArgMatches<'a>, Error>,
+) -> Result<Asked<'a, A>, ArgumentsFault<A>>
     ensures read { IsRead parsed.entry result }
 {
     match parsed {
@@ -129,11 +129,11 @@ fn has_flag(matches: &ArgMatches<'_>, flag: &str) -> bool
     matches.get_one::<bool>(flag).unwrap_or(false)
 }
 
-fn read_task<'w, A: Allocator + Copy>(
+fn read_task<'a, A: Allocator + Copy>(
     alloc: A,
-    command: &mut Command<'w>,
-    matches: &ArgMatches<'w>,
-) -> Result<Task<'w>, WordsFault<A>>
+    command: &mut Command<'a>,
+    matches: &ArgMatches<'a>,
+) -> Result<Task<'a>, ArgumentsFault<A>>
     ensures asked { IfOk result (IsAsked (found_of matches.now)) }
     ensures refused { IfErr result (RefusesRun (found_of matches.now)) }
 {
@@ -154,34 +154,34 @@ fn read_task<'w, A: Allocator + Copy>(
 }
 
 /// The position that this option has, where it is there. A wrong one is told as the parser would.
-fn read_position<'w, A: Allocator + Copy>(
+fn read_position<'a, A: Allocator + Copy>(
     alloc: A,
-    command: &mut Command<'w>,
-    matches: &ArgMatches<'w>,
+    command: &mut Command<'a>,
+    matches: &ArgMatches<'a>,
     name: &str,
-) -> Result<Option<u32>, WordsFault<A>>
+) -> Result<Option<u32>, ArgumentsFault<A>>
     ensures found { IfOk result (IsPositionOf (first_value (found_of matches.now) name.now)) }
     ensures wrong { IfErr result (RefusesPosition (first_value (found_of matches.now) name.now)) }
 {
-    let Some(word) = matches.get_str(name) else {
+    let Some(value) = matches.get_str(name) else {
         return Ok(None);
     };
-    if let Some(position) = position_of(word) {
+    if let Some(position) = position_of(value) {
         return Ok(Some(position));
     }
     let option = format!(in alloc; "{name} <POS>")?;
-    let text = wrong_value(alloc, command, option.as_str(), word, POSITION)?;
-    Err(WordsFault::Wrong(text))
+    let text = wrong_value(alloc, command, option.as_str(), value, POSITION)?;
+    Err(ArgumentsFault::Wrong(text))
 }
 
 /// What the parser answers in place of matches: the help that was asked for, or what is wrong.
-fn read_error<'w, A: Allocator>(alloc: A, error: &Error) -> Result<Asked<'w, A>, WordsFault<A>>
+fn read_error<'a, A: Allocator>(alloc: A, error: &Error) -> Result<Asked<'a, A>, ArgumentsFault<A>>
     ensures memory { kind_of error.now ≡ ErrorKind.OutOfMemory → result ≡ Err OutOfMemory }
     ensures read { IsRead (Err error.now) result }
 {
     match console::read_error(alloc, error)? {
         Told::Asked(text) => Ok(Asked::Help(text)),
-        Told::Wrong(text) => Err(WordsFault::Wrong(text)),
+        Told::Wrong(text) => Err(ArgumentsFault::Wrong(text)),
     }
 }
 

@@ -1,7 +1,7 @@
-//! What the words ask for.
+//! What the arguments ask for.
 
-use super::{Asked, ModeFault, Task, WordsFault, read_words};
-use crate::tests::{check, words_of};
+use super::{ArgumentsFault, Asked, ModeFault, Task, read_arguments};
+use crate::tests::{arguments_of, check};
 use blog_flash::{Mode, Selection};
 use std::alloc::Global;
 use std::test::Fail;
@@ -38,23 +38,23 @@ fn is_task(found: &Task<'_>, wanted: &Task<'_>) -> bool {
     mode && log && file && selection
 }
 
-/// Whether the words ask for this run.
-fn asks_for(alloc: Global, words: &[String], wanted: &Task<'_>) -> bool {
-    match read_words(alloc, alloc, words) {
+/// Whether the arguments ask for this run.
+fn asks_for(alloc: Global, arguments: &[String], wanted: &Task<'_>) -> bool {
+    match read_arguments(alloc, alloc, arguments) {
         Ok(Asked::Run(task)) => is_task(&task, wanted),
         _ => false,
     }
 }
 
-/// These words ask for this run.
+/// These arguments ask for this run.
 fn check_task(rt: &HostRuntime, given: &[&str], wanted: &Task<'_>) -> Result<(), Fail> {
-    let words = words_of(rt, given)?;
-    let asked = asks_for(rt.alloc(), words.as_slice(), wanted);
+    let arguments = arguments_of(rt, given)?;
+    let asked = asks_for(rt.alloc(), arguments.as_slice(), wanted);
     check(asked, "another run", given)?;
     Ok(())
 }
 
-/// Words that choose a mode of the whole log.
+/// Arguments that choose a mode of the whole log.
 static MODES: [(&[&str], Mode); 8] = [
     (&["-B", "a.binlog"], Mode::Flashback),
     (&["--flashback", "a.binlog"], Mode::Flashback),
@@ -76,13 +76,13 @@ fn a_mode_alone_means_the_whole_log(rt: HostRuntime) -> Result<(), Fail> {
 
 #[test]
 fn sql_goes_with_two_modes(rt: HostRuntime) -> Result<(), Fail> {
-    let words = words_of(&rt, &["--summary", "--sql", "a.binlog"])?;
-    let answer = read_words(rt.alloc(), rt.alloc(), words.as_slice());
-    assert!(rt; matches!(answer, Err(WordsFault::Mode(ModeFault::SqlOfSummary))));
+    let arguments = arguments_of(&rt, &["--summary", "--sql", "a.binlog"])?;
+    let answer = read_arguments(rt.alloc(), rt.alloc(), arguments.as_slice());
+    assert!(rt; matches!(answer, Err(ArgumentsFault::Mode(ModeFault::SqlOfSummary))));
     Ok(())
 }
 
-/// One run's words, by options that are short, that hold their values, and that are long.
+/// One run's arguments, by options that are short, that hold their values, and that are long.
 const SHORT: [&str; 12] = [
     "-B",
     "-j",
@@ -140,7 +140,7 @@ fn options_have_a_short_and_a_long_form(rt: HostRuntime) -> Result<(), Fail> {
     Ok(())
 }
 
-/// Words that are positions.
+/// Arguments that are positions.
 static POSITIONS: [(&str, u32); 4] = [
     ("0", 0),
     ("0004", 4),
@@ -148,25 +148,25 @@ static POSITIONS: [(&str, u32); 4] = [
     ("00000000000232", 232),
 ];
 
-/// The word is the position of a start, and of a stop.
-fn check_position(rt: &HostRuntime, word: &str, position: u32) -> Result<(), Fail> {
+/// The argument is the position of a start, and of a stop.
+fn check_position(rt: &HostRuntime, argument: &str, position: u32) -> Result<(), Fail> {
     let from = part(Mode::Flashback, position, None);
-    check_task(rt, &["-B", "--start-position", word, "a.binlog"], &from)?;
+    check_task(rt, &["-B", "--start-position", argument, "a.binlog"], &from)?;
     let up_to = part(Mode::Flashback, 4, Some(position));
-    check_task(rt, &["-B", "--stop-position", word, "a.binlog"], &up_to)
+    check_task(rt, &["-B", "--stop-position", argument, "a.binlog"], &up_to)
 }
 
 #[test]
 fn positions_are_digits_alone(rt: HostRuntime) -> Result<(), Fail> {
-    for (word, position) in &POSITIONS {
-        check_position(&rt, word, *position)?;
+    for (argument, position) in &POSITIONS {
+        check_position(&rt, argument, *position)?;
     }
     Ok(())
 }
 
 static NAMES: [&str; 8] = ["", " ", "-B", "--", "--help", "a=b", "`", "Käse"];
 
-/// The name of a schema, of a table and of a file is this word.
+/// The name of a schema, of a table and of a file is this argument.
 fn check_name(rt: &HostRuntime, name: &str) -> Result<(), Fail> {
     let wanted = Task {
         mode: Mode::Flashback,
@@ -187,14 +187,14 @@ fn check_name(rt: &HostRuntime, name: &str) -> Result<(), Fail> {
 }
 
 #[test]
-fn names_are_the_bytes_of_their_words(rt: HostRuntime) -> Result<(), Fail> {
+fn names_are_the_bytes_of_their_arguments(rt: HostRuntime) -> Result<(), Fail> {
     for name in &NAMES {
         check_name(&rt, name)?;
     }
     Ok(())
 }
 
-/// Words that the parser refuses, whatever mode they choose.
+/// Arguments that the parser refuses, whatever mode they choose.
 static WRONG: [&[&str]; 5] = [
     &["-j", "x", "a.binlog"],
     &["--forward", "-B", "--no-such-word"],
@@ -203,16 +203,19 @@ static WRONG: [&[&str]; 5] = [
     &["--summary", "--sql", "-j", "x", "a.binlog"],
 ];
 
-/// Whether the parser refuses these words.
-fn is_refused(alloc: Global, words: &[String]) -> bool {
-    matches!(read_words(alloc, alloc, words), Err(WordsFault::Wrong(_)))
+/// Whether the parser refuses these arguments.
+fn is_refused(alloc: Global, arguments: &[String]) -> bool {
+    matches!(
+        read_arguments(alloc, alloc, arguments),
+        Err(ArgumentsFault::Wrong(_))
+    )
 }
 
 #[test]
 fn what_the_parser_refuses_comes_before_the_mode(rt: HostRuntime) -> Result<(), Fail> {
     for given in &WRONG {
-        let words = words_of(&rt, given)?;
-        assert!(rt; is_refused(rt.alloc(), words.as_slice()));
+        let arguments = arguments_of(&rt, given)?;
+        assert!(rt; is_refused(rt.alloc(), arguments.as_slice()));
     }
     Ok(())
 }

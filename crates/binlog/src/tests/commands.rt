@@ -1,0 +1,77 @@
+//! Runs without a command, with an unknown one, and of the help.
+
+use super::{path_of, run_arguments};
+use sample_logs::small::PLAIN;
+use std::fs;
+use std::process::Abort;
+use std::test::Fail;
+
+/// What is printed after each wrong command.
+const USAGE: &str = "
+
+Usage: binlog plain [-r FILE [--force]] LOG
+       binlog list [-d NAME] [-T NAME] [-j POS] [--stop-position POS]
+                   [--start-datetime TIME] [--stop-datetime TIME] [--json] LOG
+       binlog split [--size BYTES] [-r FILE [--force]] LOG
+
+For more information, try '--help'.
+";
+
+/// Lines of the help.
+static HELP_LINES: [&str; 9] = [
+    "Usage: binlog plain [-r FILE [--force]] LOG",
+    "       binlog list [-d NAME] [-T NAME] [-j POS] [--stop-position POS]",
+    "       binlog split [--size BYTES] [-r FILE [--force]] LOG",
+    "Commands:",
+    "  plain  Checks every checksum of LOG and writes the same log without checksums.",
+    "  list   Lists the units of LOG: its transactions, and what stands between them and can't be undone.",
+    "  split  Cuts each statement of LOG into statements whose rows events have at most BYTES bytes together,",
+    "  help   Print this message or the help of the given subcommand(s)",
+    "Exit status: 0 done, 1 the log is refused or something failed, 2 the arguments are wrong.",
+];
+
+/// The arguments are wrong, as this line and the usage say.
+fn check_wrong(rt: &HostRuntime, arguments: &[&str], line: &str) -> Result<(), Fail> {
+    let wanted = format!(in rt.alloc(); "{line}{USAGE}")?;
+    if run_arguments(rt, arguments)?.is_refusal(2, wanted.as_str()) {
+        Ok(())
+    } else {
+        Err(Fail::new(format_args!("{arguments:?}")))
+    }
+}
+
+#[test]
+fn a_missing_command_is_an_error(rt: HostRuntime) -> Result<(), Fail> {
+    let line =
+        "error: 'binlog' requires a subcommand but one was not provided\n  [subcommands: plain, list, split, help]";
+    check_wrong(&rt, &[], line)
+}
+
+#[test]
+fn an_unknown_command_is_an_error(rt: HostRuntime) -> Result<(), Fail> {
+    let log = path_of(&rt, "uncommanded")?;
+    let name = log.as_str();
+    fs::write(&rt, name, PLAIN.as_slice())?;
+    let line = format!(in rt.alloc(); "error: unrecognized subcommand '{name}'")?;
+    check_wrong(&rt, &[name], line.as_str())?;
+    check_wrong(&rt, &["foo", name], "error: unrecognized subcommand 'foo'")?;
+    fs::remove_file(&rt, name)?;
+    check_wrong(&rt, &["LOG"], "error: unrecognized subcommand 'LOG'")
+}
+
+#[test]
+fn the_help_has_every_command(rt: HostRuntime) -> Result<(), Fail> {
+    let help = run_arguments(&rt, &["--help"])?;
+    assert!(rt; help.is_done(help.output()));
+    let text = str::from_utf8(help.output())?;
+    for wanted in &HELP_LINES {
+        assert!(rt; text.lines().any(|line| line == *wanted), "{wanted}");
+    }
+    for argument in ["-h", "help"] {
+        assert!(rt;
+            run_arguments(&rt, &[argument])?.is_done(help.output()),
+            "{argument}"
+        );
+    }
+    Ok(())
+}
