@@ -2,4 +2,5 @@
 pub mod Greedy
 pub mod Marks
 pub mod CutView
+pub mod CutWritten
 pub mod Sizes
