@@ -1,9 +1,12 @@
 -- Written events whose statements are cut, as they come: what is known of the open statement is what came before.
-use Rattle.std.specs.Prelude.{ℕ, ◌+◌, Bool, true, false, ◌≤◌, nat_le, if◌then◌else◌, List, [], ◌∷◌, ◌++◌, map, filter}
+use Rattle.std.specs.Prelude.{ℕ, ◌+◌, ◌<◌, Bool, true, false, nat_le, if◌then◌else◌, List, [], ◌∷◌, ◌++◌, length, map, filter, ⊤, bytes_eq}
+use Rattle.std.specs.List.{IsDistinct}
 use Rattle.blog_event.specs.Event.{Event}
+use Rattle.blog_row.specs.RowsEvent.{table_id}
 use Rattle.blog_trans.specs.Groups.{RowsEvent}
 use Rattle.blog_flash.specs.Written.{Written, Same, Maps, Changes, rows_written}
 use Rattle.blog_split.specs.Cuts.{is_used_by, rows_bytes}
+use Rattle.blog_split.specs.declared.most.Most.{Most}
 
 -- rows events of a statement with these maps, as a statement of their own; nothing where there are none
 abbrev pub piece_written : List Event → List RowsEvent → List Written
@@ -30,26 +33,17 @@ cut_written limit maps piece (Maps m ∷ ws) = piece_written maps piece ++ cut_w
 cut_written limit maps piece (Changes r true ∷ ws) = ended limit maps piece r ++ (piece_written maps (joined limit piece r) ++ cut_written limit [] [] ws)
 cut_written limit maps piece (Changes r false ∷ ws) = ended limit maps piece r ++ cut_written limit maps (joined limit piece r) ws
 
--- ---- room
+-- ---- what can be cut
 
--- a written event ends its statement
-abbrev pub ends_statement : Written → Bool
-ends_statement (Same e) = true
-ends_statement (Maps m) = false
-ends_statement (Changes r last) = last
+-- maps of a statement are told apart by their table ids
+abbrev pub AreApart : List Event → Type 0
+AreApart maps = IsDistinct bytes_eq (map (λ m. table_id m.body) maps)
 
--- it is a map, or a rows event: 1 where it is
-abbrev pub one_map : Written → ℕ
-one_map (Same e) = 0
-one_map (Maps m) = 1
-one_map (Changes r last) = 0
-
-abbrev pub one_rows : Written → ℕ
-one_rows (Same e) = 0
-one_rows (Maps m) = 0
-one_rows (Changes r last) = 1
-
--- in each statement there are at most `most` of those that count, where the open one has so many already
-abbrev pub HasAtMost : (Written → ℕ) → ℕ → ℕ → List Written → Type 0
-HasAtMost count most have [] = have ≤ most
-HasAtMost count most have (w ∷ ws) = (have + count w ≤ most) × HasAtMost count most (if ends_statement w then 0 else have + count w) ws
+-- behind these maps and so many rows events of an open statement, each statement has its maps apart, and no more maps and rows
+-- events than these
+abbrev pub CanBeCut : Most → List Event → ℕ → List Written → Type 0
+CanBeCut most maps rows [] = ⊤
+CanBeCut most maps rows (Same e ∷ ws) = CanBeCut most [] 0 ws
+CanBeCut most maps rows (Maps m ∷ ws) = (length maps < most.maps) × AreApart (maps ++ m ∷ []) × CanBeCut most (maps ++ m ∷ []) rows ws
+CanBeCut most maps rows (Changes r true ∷ ws) = (rows < most.rows) × CanBeCut most [] 0 ws
+CanBeCut most maps rows (Changes r false ∷ ws) = (rows < most.rows) × CanBeCut most maps (rows + 1) ws
