@@ -1,7 +1,7 @@
 -- What is known of events that passed their checks.
-use Rattle.std.proofs.Common.{arith, ◌≡◌, Bool, true, List, [], ◌∷◌, ◌++◌, reverse, Option, Some, None, is_some, ap, ◌∙◌, append_assoc, rules}
+use Rattle.std.proofs.Common.{arith, ◌≡◌, true, List, [], ◌∷◌, ◌++◌, reverse, Option, Some, None, is_some, ap, ◌∙◌, append_assoc, rules}
 use Rattle.std.proofs.lemmas.List.{reverse-append}
-use Rattle.blog_event.specs.Fault.{Cause, needs, first_failing}
+use Rattle.blog_event.specs.Fault.{Cause, first_failing}
 use Rattle.blog_event.specs.File.{Placed}
 use Rattle.blog_row.specs.RowsEvent.{table_id}
 use Rattle.blog_row.specs.declared.event_kinds.EventKind.{EventKind}

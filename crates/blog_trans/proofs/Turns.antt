@@ -1,5 +1,5 @@
 -- Events of groups in turn: what comes first of what is left, and what is left behind it.
-use Rattle.std.proofs.Common.{◌≡◌, ◌≢◌, ℕ, ◌+◌, ◌<◌, ◌≤◌, Bool, true, false, List, [], ◌∷◌, length, take, drop, Option, Some, IsSome, is_some, option_map, sym, ap, ◌∙◌, arith}
+use Rattle.std.proofs.Common.{◌≡◌, ◌≢◌, ℕ, ◌+◌, ◌<◌, ◌≤◌, Bool, true, false, List, [], ◌∷◌, length, take, drop, Option, Some, IsSome, is_some, option_map, sym, ap, subst, ◌∙◌, arith}
 use Rattle.std.specs.Prelude.{option_and_then, slice_get}
 use Rattle.std.proofs.lemmas.List.{drop_all, length-drop, length-take, length-take-le, length-reverse, reverse-append, get_or-take}
 use Rattle.std.proofs.lemmas.Option.{slice_get_within, slice_get-get_or, get_or_from_slice_get}
@@ -10,7 +10,9 @@ use Rattle.blog_row.specs.declared.order.Order.TheVariants.{Forward, Backward}
 use Rattle.std.specs.declared.ops.Range.{Range}
 use Rattle.blog_trans.specs.Groups.{PlacedRows}
 use Rattle.blog_trans.specs.code.InTurn.{Changes, TakesNumber, in_order, rows_in_turn}
-use Rattle.blog_trans.specs.code.GroupEventsView.{among}
+use Rattle.blog_trans.specs.code.GroupEventsView.{IsTaken, IsTurn, among}
+use Rattle.blog_trans.specs.declared.group_events.GroupEvents.{GroupEvents}
+use Rattle.blog_trans.specs.declared.group_events.Turn.{Turn}
 use Rattle.std.specs.Option.{option_map_or}
 use Rattle.blog_trans.proofs.EntriesFound.{take_next, inner, counted}
 use Rattle.blog_trans.proofs.IndexFacts.{found, some_found}
@@ -65,3 +67,7 @@ some-in-order order xs numbers some here = λ none.
 -- the first rows event is the last where no other is left
 pub rows-last : (r : PlacedRows) (rest : List PlacedRows) (last : Bool) → (last ≡ true → rest ≡ []) → (last ≡ false → rest ≢ []) → rows_in_turn (r ∷ rest) ≡ Changes r last ∷ rows_in_turn rest
 rows-last r rest last none some = grind arith
+
+-- the event of a turn that was taken
+pub taken-is : {A : Type 0} (before after : GroupEvents A) (which w : Turn) (taken : IsTaken before which after) → which ≡ w → IsTurn after.index.now w taken.event
+taken-is before after which w taken is = subst (λ i. IsTurn i.now w taken.event) (sym taken.index) (subst (λ x. IsTurn before.index.now x taken.event) is taken.is)

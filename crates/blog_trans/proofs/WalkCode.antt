@@ -22,7 +22,6 @@ use Rattle.blog_trans.specs.code.ListsView.{all_ended}
 use Rattle.blog_trans.specs.code.BuilderView.{HasTaken, IsWithin, Keeps}
 use Rattle.blog_trans.specs.code.WalkView.{walk_fault, IsPassedBy, Lead, IsReached, IsThrough, end_fault}
 use Rattle.blog_trans.proofs.IndexCode.{end-refused, last-is, progress-is}
-use Rattle.blog_trans.proofs.CheckingRows.{alone}
 use Rattle.blog_trans.proofs.ProgressSteps.{reverse-latest, reverse-behind}
 
 -- the events that were read, the latest first, and those that are left

@@ -5,6 +5,7 @@ ghost use Rattle.std.specs.Option.{ForSome};
 ghost use Rattle.blog_event.specs.Event.{event_at, event_of};
 ghost use Rattle.blog_trans.specs.code.InTurn.{TakesNumber};
 ghost use Rattle.blog_trans.specs.code.IndexView.{index_bytes, index_groups, map_at, rows_at, rows_place, statement_at};
+ghost use Rattle.blog_trans.specs.code.Entries.{statement_place};
 
 use crate::groups::{Index, MapRead};
 use blog_event::Event;
@@ -40,6 +41,40 @@ pub enum GroupEvent<'a> {
     End(Event<'a>),
 }
 
+/// A rows event of groups that was passed over.
+#[derive(Clone, Copy, Debug)]
+pub struct PassedRows<'a> {
+    /// The event.
+    pub event: Event<'a>,
+    /// How many bytes the body has that is written for it, in either order.
+    pub len: usize,
+    /// Whether it is the last of its statement in the order in which the events are gone through.
+    pub last: bool,
+}
+
+/// An event of groups that was passed over.
+#[derive(Clone, Copy, Debug)]
+pub enum PassedEvent<'a> {
+    /// The `BEGIN` of a transaction.
+    Begin(Event<'a>),
+    /// A table map of a statement.
+    Map(Event<'a>),
+    /// A rows event of a statement.
+    Rows(PassedRows<'a>),
+    /// The event that ends a transaction: a `COMMIT` or an Xid.
+    End(Event<'a>),
+}
+
+/// Which event comes next: what it is, and the number of its entry.
+#[derive(Clone, Copy, Debug)]
+enum Turn {
+    Begin(usize),
+    Map(usize),
+    /// And whether it is the last of its statement.
+    Rows(usize, bool),
+    End(usize),
+}
+
 /// The events of the groups of an index, in an order.
 #[derive(Drop)]
 pub struct GroupEvents<'i, 'a, 's, A: Allocator = Global> {
@@ -56,7 +91,8 @@ pub struct GroupEvents<'i, 'a, 's, A: Allocator = Global> {
     statement: usize,
     maps: Range<usize>,
     rows: Range<usize>,
-    // The entry of its first rows event.
+    // The entries of its first map and of its first rows event.
+    first_map: usize,
     first_rows: usize,
     // The map that was read last.
     read: Option<MapRead<'a>>,
@@ -65,6 +101,7 @@ pub struct GroupEvents<'i, 'a, 's, A: Allocator = Global> {
     ghost statements_known: { (s : ℕ) → statements.start ≤ s → s < statements.end → IsSome (statement_at (index_groups index.now) transaction s) },
     ghost maps_known: { (m : ℕ) → maps.start ≤ m → m < maps.end → IsSome (map_at (index_groups index.now) transaction statement m) },
     ghost rows_known: { (r : ℕ) → rows.start ≤ r → r < rows.end → IsSome (rows_at (index_groups index.now) transaction statement r) },
+    ghost maps_placed: { maps.start < maps.end → first_map ≡ statement_place (index_groups index.now) transaction statement },
     ghost rows_placed: { rows.start < rows.end → first_rows ≡ rows_place (index_groups index.now) transaction statement },
     ghost read_stands: { ForSome read (λ m. event_at (drop m.event.pos (index_bytes index.now)) ≡ Some (event_of m.event)) },
 }
@@ -99,6 +136,7 @@ impl<'a, 's, A: Allocator> Index<'a, 's, A> {
             statement: 0,
             maps: 0..0,
             rows: 0..0,
+            first_map: 0,
             first_rows: 0,
             read: None,
         }
@@ -106,13 +144,16 @@ impl<'a, 's, A: Allocator> Index<'a, 's, A> {
 }
 
 impl<'i, 'a, 's, A: Allocator> GroupEvents<'i, 'a, 's, A> {
-    ghost use Rattle.blog_trans.specs.code.GroupEventsView.{GivesEvent};
+    ghost use Rattle.blog_trans.specs.Groups.{PlacedRows};
+    ghost use Rattle.blog_trans.specs.code.InTurn.{Changes};
+    ghost use Rattle.blog_trans.specs.code.IndexView.{IsRowsOfEntry};
+    ghost use Rattle.blog_trans.specs.code.GroupEventsView.{IsByMap, PassesEvent, TakesTurn, events_left, rows_seen};
 
     /// Begins the next transaction, if any is left.
     #[inline(always)]
-    fn begin(&mut self) -> Option<GroupEvent<'a>>
+    fn begin(&mut self) -> Option<Turn>
         requires { self.old.is_open ≡ false }
-        ensures { GivesEvent self.old result self.new }
+        ensures { TakesTurn self.old result self.new }
     {
         let t = take(&mut self.transactions, self.order)?;
         self.is_open = true;
@@ -120,27 +161,67 @@ impl<'i, 'a, 's, A: Allocator> GroupEvents<'i, 'a, 's, A> {
         self.statements = 0..self.index.statements(t);
         self.maps = 0..0;
         self.rows = 0..0;
-        Some(GroupEvent::Begin(self.index.begin(t)))
+        Some(Turn::Begin(self.index.begin_entry(t)))
     }
 
-    /// The next rows event of the open statement.
+    /// Goes to the next event, if one is left.
     #[inline(always)]
-    fn rows(&mut self) -> Option<GroupEvent<'a>>
-        requires open { self.old.is_open ≡ true }
-        requires no_maps { self.old.maps.end ≤ self.old.maps.start }
-        requires some { self.old.rows.start < self.old.rows.end }
-        ensures { GivesEvent self.old result self.new }
+    fn turn(&mut self) -> Option<Turn>
+        ensures { TakesTurn self.old result self.new }
     {
+        if !self.is_open {
+            return self.begin();
+        }
+        'statements: while self.maps.is_empty() && self.rows.is_empty() {
+            let Some(s) = take(&mut self.statements, self.order) else {
+                self.is_open = false;
+                return Some(Turn::End(self.index.end_entry(self.transaction)));
+            };
+            self.statement = s;
+            self.maps = 0..self.index.maps(self.transaction, s);
+            self.rows = 0..self.index.rows(self.transaction, s);
+            self.first_map = self.index.first_map(self.transaction, s);
+            self.first_rows = self.index.first_rows(self.transaction, s);
+        }
+        if let Some(m) = take(&mut self.maps, Order::Forward) {
+            return Some(Turn::Map(self.first_map + m));
+        }
         let r = take(&mut self.rows, self.order)?;
-        let (event, map, rows) = self.index.group_rows(self.first_rows + r, self.read);
+        Some(Turn::Rows(self.first_rows + r, self.rows.is_empty()))
+    }
+
+    /// The rows event of an entry.
+    #[inline(always)]
+    fn rows(&mut self, n: usize, last: bool) -> GroupRows<'a>
+        requires { (r : PlacedRows) × IsRowsOfEntry self.old.index.now n r }
+        ensures left { events_left self.new ≡ events_left self.old }
+        ensures rows { (r : PlacedRows) → IsRowsOfEntry self.old.index.now n r → rows_seen result ≡ Changes r last }
+        ensures whole { IsByMap result }
+    {
+        let (event, map, rows) = self.index.group_rows(n, self.read);
         self.read = Some(map);
-        Some(GroupEvent::Rows(GroupRows {
+        GroupRows {
             event,
             map: map.event,
             table: map.table,
             rows,
-            last: self.rows.is_empty(),
-        }))
+            last,
+        }
+    }
+
+    /// Skips the next event, if one is left, and returns what is known of it without its map and its rows.
+    pub fn pass(&mut self) -> Option<PassedEvent<'a>>
+        ensures { PassesEvent self.old result self.new }
+    {
+        match self.turn()? {
+            Turn::Begin(n) => Some(PassedEvent::Begin(self.index.event(n))),
+            Turn::Map(n) => Some(PassedEvent::Map(self.index.event(n))),
+            Turn::Rows(n, last) => {
+                let (event, len) = self.index.rows_len(n);
+                Some(PassedEvent::Rows(PassedRows { event, len, last }))
+            }
+            Turn::End(n) => Some(PassedEvent::End(self.index.event(n))),
+        }
     }
 }
 
@@ -156,23 +237,11 @@ impl<'i, 'a, 's, A: Allocator> Iterator for GroupEvents<'i, 'a, 's, A> {
 
     #[inline(always)]
     fn next(&mut self) -> Option<GroupEvent<'a>> {
-        if !self.is_open {
-            return self.begin();
+        match self.turn()? {
+            Turn::Begin(n) => Some(GroupEvent::Begin(self.index.event(n))),
+            Turn::Map(n) => Some(GroupEvent::Map(self.index.event(n))),
+            Turn::Rows(n, last) => Some(GroupEvent::Rows(self.rows(n, last))),
+            Turn::End(n) => Some(GroupEvent::End(self.index.event(n))),
         }
-        'statements: while self.maps.is_empty() && self.rows.is_empty() {
-            let Some(s) = take(&mut self.statements, self.order) else {
-                self.is_open = false;
-                return Some(GroupEvent::End(self.index.end(self.transaction)));
-            };
-            self.statement = s;
-            self.maps = 0..self.index.maps(self.transaction, s);
-            self.rows = 0..self.index.rows(self.transaction, s);
-            self.first_rows = self.index.first_rows(self.transaction, s);
-        }
-        if let Some(m) = take(&mut self.maps, Order::Forward) {
-            let (event, _) = self.index.map(self.transaction, self.statement, m);
-            return Some(GroupEvent::Map(event));
-        }
-        self.rows()
     }
 }

@@ -127,12 +127,31 @@ impl<'a, 's, A: Allocator> Index<'a, 's, A> {
     }
 
     /// The event of an entry.
-    fn event(&self, n: usize) -> Event<'a>
+    #[inline(always)]
+    pub(crate) fn event(&self, n: usize) -> Event<'a>
         requires { (p : Placed) × IsOfEntry self.now n p }
         ensures event { (p : Placed) → IsOfEntry self.now n p → placed result ≡ p }
         ensures size { result.header.size ≡ event_size (event_of result) }
     {
         self.event_at(self.entries[n].at)
+    }
+
+    /// The entry of the `BEGIN` of transaction `t`.
+    #[inline(always)]
+    pub(crate) fn begin_entry(&self, t: usize) -> usize
+        requires { t < length (index_groups self.now) }
+        ensures { result ≡ transaction_place (index_groups self.now) t }
+    {
+        self.transaction(t).0
+    }
+
+    /// The entry of the event that ends transaction `t`.
+    #[inline(always)]
+    pub(crate) fn end_entry(&self, t: usize) -> usize
+        requires { t < length (index_groups self.now) }
+        ensures { result + 1 ≡ transaction_place (index_groups self.now) (t + 1) }
+    {
+        self.transaction(t + 1).0 - 1
     }
 
     /// The `BEGIN` of transaction `t`.
@@ -141,7 +160,7 @@ impl<'a, 's, A: Allocator> Index<'a, 's, A> {
         ensures event { option_map (λ x. x.begin) (slice_get (index_groups self.now) t) ≡ Some (placed result) }
         ensures size { result.header.size ≡ event_size (event_of result) }
     {
-        self.event(self.transaction(t).0)
+        self.event(self.begin_entry(t))
     }
 
     /// The event that ends transaction `t`: a `COMMIT` or an Xid.
@@ -150,7 +169,7 @@ impl<'a, 's, A: Allocator> Index<'a, 's, A> {
         ensures event { option_map (λ x. x.end) (slice_get (index_groups self.now) t) ≡ Some (placed result) }
         ensures size { result.header.size ≡ event_size (event_of result) }
     {
-        self.event(self.transaction(t + 1).0 - 1)
+        self.event(self.end_entry(t))
     }
 
     /// The number of statements of transaction `t`.
@@ -240,7 +259,16 @@ impl<'a, 's, A: Allocator> Index<'a, 's, A> {
         self.statement_end(t, s) - self.first_rows(t, s)
     }
 
-    /// The number of the entry of the first rows event of statement `s` of transaction `t`.
+    /// The entry of the first map of statement `s` of transaction `t`.
+    #[inline(always)]
+    pub(crate) fn first_map(&self, t: usize, s: usize) -> usize
+        requires { IsSome (statement_at (index_groups self.now) t s) }
+        ensures { result ≡ statement_place (index_groups self.now) t s }
+    {
+        self.statement(t, s).entry as usize
+    }
+
+    /// The entry of the first rows event of statement `s` of transaction `t`.
     pub(crate) fn first_rows(&self, t: usize, s: usize) -> usize
         requires { IsSome (statement_at (index_groups self.now) t s) }
         ensures { result ≡ rows_place (index_groups self.now) t s }
@@ -272,7 +300,7 @@ impl<'a, 's, A: Allocator> Index<'a, 's, A> {
 
     /// The rows event of an entry, and how many bytes the body has that is written for it. Its map isn't read.
     #[inline(always)]
-    fn rows_len(&self, n: usize) -> (Event<'a>, usize)
+    pub(crate) fn rows_len(&self, n: usize) -> (Event<'a>, usize)
         requires { (r : PlacedRows) × IsRowsOfEntry self.now n r }
         ensures event { (r : PlacedRows) → IsRowsOfEntry self.now n r → placed result.0 ≡ r.event }
         ensures len { (r : PlacedRows) → IsRowsOfEntry self.now n r → result.1 ≡ length (written_body true (content_of r.kind r.body)) }

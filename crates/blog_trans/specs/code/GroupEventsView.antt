@@ -1,5 +1,5 @@
 -- What a contract sees of an iterator over the events of groups.
-use Rattle.std.specs.Prelude.{◌≡◌, ℕ, List, [], ◌∷◌, ◌++◌, map, drop, take, if◌then◌else◌, Option, Some, IfSome, Ok, slice_get}
+use Rattle.std.specs.Prelude.{◌≡◌, ℕ, true, List, [], ◌∷◌, ◌++◌, length, map, drop, take, if◌then◌else◌, Option, None, Some, IfSome, Ok, slice_get}
 use Rattle.std.specs.Option.{option_map_or}
 use Rattle.std.specs.List.{flat_map}
 use Rattle.std.specs.Iterator.{YieldsFirstBy}
@@ -8,22 +8,32 @@ use Rattle.blog_event.specs.Event.{event_of, event_size}
 use Rattle.blog_row.specs.TableMap.{names_of, layout_of, map_names}
 use Rattle.blog_row.specs.code.LayoutView.{layout_columns}
 use Rattle.blog_row.specs.code.RowsEventView.{rows_kind, rows_layout, rows_body}
+use Rattle.blog_row.specs.RowsWriting.{content_of, written_body}
 use Rattle.blog_event.specs.File.{Placed}
 use Rattle.blog_trans.specs.Groups.{PlacedRows, PlacedTransaction}
 use Rattle.blog_trans.specs.code.Entries.{statements_at}
 use Rattle.blog_trans.specs.code.InTurn.{GroupEvent, Begins, Maps, Changes, Ends, in_order, rows_in_turn, statement_in_turn, transaction_in_turn}
-use Rattle.blog_trans.specs.code.IndexView.{index_groups, maps_in, placed, rows_in}
+use Rattle.blog_trans.specs.code.IndexView.{IsOfEntry, IsRowsOfEntry, index_groups, maps_in, placed, rows_in}
 use Rattle.blog_trans.specs.declared.group_events.GroupRows.{GroupRows}
 use Rattle.blog_trans.specs.declared.group_events.GroupEvent as seen
 use Rattle.blog_trans.specs.declared.group_events.GroupEvent.TheVariants as given
+use Rattle.blog_trans.specs.declared.group_events.PassedEvent as passed
+use Rattle.blog_trans.specs.declared.group_events.PassedEvent.TheVariants as over
+use Rattle.blog_trans.specs.declared.group_events.Turn.{Turn}
+use Rattle.blog_trans.specs.declared.group_events.Turn.TheVariants as turn
 use Rattle.blog_trans.specs.declared.group_events.GroupEvents.{GroupEvents}
+use Rattle.blog_trans.specs.declared.groups.Index.{Index}
 use Rattle.std.specs.declared.ops.Range.{Range}
+
+-- which rows event it is
+abbrev pub rows_seen : GroupRows → GroupEvent
+rows_seen rows = Changes (record { event = placed rows.event; map = placed rows.map; kind = rows_kind rows.rows; body = rows_body rows.rows }) rows.last
 
 -- which event of the groups it is
 abbrev pub event_seen : seen.GroupEvent → GroupEvent
 event_seen (given.Begin event) = Begins (placed event)
 event_seen (given.Map event) = Maps (placed event)
-event_seen (given.Rows rows) = Changes (record { event = placed rows.event; map = placed rows.map; kind = rows_kind rows.rows; body = rows_body rows.rows }) rows.last
+event_seen (given.Rows rows) = rows_seen rows
 event_seen (given.End event) = Ends (placed event)
 
 abbrev pub HasSize : told.Event → Type 0
@@ -68,7 +78,37 @@ events_left events =
     (if events.is_open then open_left events else [])
     ++ flat_map (transaction_in_turn events.order) (in_order events.order (among events.transactions (index_groups events.index.now)))
 
+-- an event of the groups by its entry
+abbrev pub IsTurn : {A : Type 0} → Index A → Turn → GroupEvent → Type 0
+IsTurn index (turn.Begin n) e = (p : Placed) × IsOfEntry index n p × (e ≡ Begins p)
+IsTurn index (turn.Map n) e = (p : Placed) × IsOfEntry index n p × (e ≡ Maps p)
+IsTurn index (turn.Rows n last) e = (r : PlacedRows) × IsRowsOfEntry index n r × (e ≡ Changes r last)
+IsTurn index (turn.End n) e = (p : Placed) × IsOfEntry index n p × (e ≡ Ends p)
+
+-- the first event that is left is taken
+pub record IsTaken {A : Type 0} (before : GroupEvents A) (which : Turn) (after : GroupEvents A) : Type 0 where
+  pub index : after.index ≡ before.index
+  pub event : GroupEvent
+  pub first : events_left before ≡ event ∷ events_left after
+  pub is : IsTurn before.index.now which event
+
+abbrev pub TakesTurn : {A : Type 0} → GroupEvents A → Option Turn → GroupEvents A → Type 0
+TakesTurn before None after = (events_left before ≡ []) × (events_left after ≡ [])
+TakesTurn before (Some which) after = IsTaken before which after
+
 -- a step gives the first event that is left, and none where none is
 pub record GivesEvent {A : Type 0} (before : GroupEvents A) (event : Option seen.GroupEvent) (after : GroupEvents A) : Type 0 where
   pub first : YieldsFirstBy event_seen events_left before event after
   pub whole : IfSome event IsWhole
+
+-- what is known of an event that was passed over
+abbrev pub IsPassed : passed.PassedEvent → GroupEvent → Type 0
+IsPassed (over.Begin event) e = e ≡ Begins (placed event)
+IsPassed (over.Map event) e = e ≡ Maps (placed event)
+IsPassed (over.Rows rows) e = (r : PlacedRows) × (e ≡ Changes r rows.last) × (placed rows.event ≡ r.event) × (rows.len ≡ length (written_body true (content_of r.kind r.body)))
+IsPassed (over.End event) e = e ≡ Ends (placed event)
+
+-- the first event that is left is passed over, and none where none is
+abbrev pub PassesEvent : {A : Type 0} → GroupEvents A → Option passed.PassedEvent → GroupEvents A → Type 0
+PassesEvent before None after = (events_left before ≡ []) × (events_left after ≡ [])
+PassesEvent before (Some event) after = (e : GroupEvent) × (events_left before ≡ e ∷ events_left after) × IsPassed event e
