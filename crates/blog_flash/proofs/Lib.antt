@@ -27,4 +27,5 @@ pub mod Digits
 pub mod PrintedParts
 pub mod Answering
 pub mod InTurn
+pub mod Skipping
 pub mod PrintedInTurn

@@ -1,7 +1,7 @@
 -- Events that are to be written, as values, by what each of them is in its transaction.
-use Rattle.std.specs.Prelude.{◌≡◌, ℕ, ◌+◌, Bool, true, false, List, [], ◌∷◌, ◌++◌, map, Option, Some, None}
+use Rattle.std.specs.Prelude.{Bool, true, false, List, [], ◌∷◌, ◌++◌, map}
 use Rattle.std.specs.List.{flat_map}
-use Rattle.blog_event.specs.Event.{Event, event_size}
+use Rattle.blog_event.specs.Event.{Event}
 use Rattle.blog_trans.specs.Groups.{RowsEvent, Statement, Transaction}
 use Rattle.blog_flash.specs.Texts.{rows_event}
 
@@ -31,10 +31,3 @@ transaction_written t = Same t.begin ∷ (flat_map statement_written t.statement
 
 abbrev pub groups_written : List Transaction → List Written
 groups_written ts = flat_map transaction_written ts
-
--- ---- passed over
-
--- what is to come begins with an event whose body has so many bytes, and the others are left; none where nothing is to come
-abbrev pub Passes : {S : Type 0} → (S → List Written) → S → Option ℕ → S → Type 0
-Passes to_come before None after = to_come before ≡ []
-Passes to_come before (Some len) after = (w : Written) × (to_come before ≡ w ∷ to_come after) × (event_size (event_written w) ≡ 19 + len)

@@ -2,5 +2,6 @@
 pub mod LaidOut
 pub mod PrintedRows
 pub mod WrittenView
+pub mod Skipping
 pub mod WrittenGroupsView
 pub mod Measured

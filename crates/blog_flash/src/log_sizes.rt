@@ -1,11 +1,14 @@
 //! How long a log will be: from sizes alone, so that no row is read.
 
-ghost use Rattle.std.specs.Prelude.{◌≤◌, map};
+ghost use Rattle.std.specs.Prelude.{◌≡◌, ◌+◌, ◌≤◌, map};
+ghost use Rattle.blog_event.specs.Event.{event_size};
 ghost use Rattle.blog_flash.specs.code.Measured.{GetsLonger, Measures};
-ghost use Rattle.blog_flash.specs.Written.{event_written};
+ghost use Rattle.blog_flash.specs.Written.{Written, event_written};
+ghost use Rattle.blog_flash.specs.code.Skipping.{IsSkipped};
 
 use crate::written_events::WrittenEvents;
 use blog_event::HEADER_LEN;
+use blog_trans::SkippedEvent;
 
 /// The size of a log and of its largest event after the front, or upper bounds of these.
 #[derive(Clone, Copy, Debug)]
@@ -35,6 +38,18 @@ fn with_event(sizes: LogSizes, body_len: usize) -> Option<LogSizes>
     })
 }
 
+/// Returns how many bytes the body has that is written for an event.
+fn body_len(event: &SkippedEvent<'_>) -> usize
+    ensures { (w : Written) → IsSkipped event.now w → event_size (event_written w) ≡ 19 + result }
+{
+    match event {
+        SkippedEvent::Begin(event) | SkippedEvent::Map(event) | SkippedEvent::End(event) => {
+            event.body.len()
+        }
+        SkippedEvent::Rows(rows) => rows.len,
+    }
+}
+
 /// Returns the sizes of a log with a front of `front_len` bytes and these events after it, or `None` if it would have more than
 /// 4,294,967,295 bytes.
 pub fn sizes_of<'a, E: WrittenEvents<'a>>(front_len: usize, events: &mut E) -> Option<LogSizes>
@@ -45,8 +60,8 @@ pub fn sizes_of<'a, E: WrittenEvents<'a>>(front_len: usize, events: &mut E) -> O
         len: front_len,
         largest: 0,
     };
-    'events: while let Some(body_len) = events.pass() {
-        sizes = with_event(sizes, body_len)?;
+    'events: while let Some(event) = events.skip_event() {
+        sizes = with_event(sizes, body_len(&event))?;
     }
     Some(sizes)
 }

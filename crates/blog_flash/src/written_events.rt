@@ -4,13 +4,14 @@ ghost use Rattle.std.specs.Prelude.{◌≡◌, List, map};
 
 use crate::written_event::{WrittenEvent, WrittenRows};
 use blog_row::Order;
-use blog_trans::{GroupEvent, GroupEvents, Index};
+use blog_trans::{GroupEvent, GroupEvents, Index, SkippedEvent};
 use std::alloc::{Allocator, Global};
 
 /// A source of events to write, in order.
 pub trait WrittenEvents<'a> {
     ghost use Rattle.std.specs.Iterator.{YieldsFirstBy};
-    ghost use Rattle.blog_flash.specs.Written.{Passes, Written};
+    ghost use Rattle.blog_flash.specs.Written.{Written};
+    ghost use Rattle.blog_flash.specs.code.Skipping.{Skips};
     ghost use Rattle.blog_flash.specs.code.WrittenView.{written_told};
 
     // The events that are still to come, as values.
@@ -20,9 +21,9 @@ pub trait WrittenEvents<'a> {
     fn next_event(&mut self) -> Option<WrittenEvent<'a>>
         ensures first { YieldsFirstBy written_told to_come self.old result self.new };
 
-    /// Skips the next event and returns how many bytes its body has, or `None` if no event is left.
-    fn pass(&mut self) -> Option<usize>
-        ensures { Passes to_come self.old result self.new };
+    /// Skips the next event, if one is left. Returns what is known of it without its map and its rows.
+    fn skip_event(&mut self) -> Option<SkippedEvent<'a>>
+        ensures { Skips to_come self.old result self.new };
 }
 
 /// The events of the groups of an index, in one of the two orders.
@@ -69,8 +70,8 @@ impl<'i, 'a, 's, A: Allocator> WrittenEvents<'a> for WrittenGroups<'i, 'a, 's, A
         }
     }
 
-    fn pass(&mut self) -> Option<usize> {
-        let event = self.next_event()?;
-        Some(event.body_len())
+    #[inline(always)]
+    fn skip_event(&mut self) -> Option<SkippedEvent<'a>> {
+        self.events.skip_event()
     }
 }

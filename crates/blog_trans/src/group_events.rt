@@ -41,9 +41,9 @@ pub enum GroupEvent<'a> {
     End(Event<'a>),
 }
 
-/// A rows event of groups that was passed over.
+/// A rows event of groups that was skipped.
 #[derive(Clone, Copy, Debug)]
-pub struct PassedRows<'a> {
+pub struct SkippedRows<'a> {
     /// The event.
     pub event: Event<'a>,
     /// How many bytes the body has that is written for it, in either order.
@@ -52,15 +52,15 @@ pub struct PassedRows<'a> {
     pub last: bool,
 }
 
-/// An event of groups that was passed over.
+/// An event of groups that was skipped.
 #[derive(Clone, Copy, Debug)]
-pub enum PassedEvent<'a> {
+pub enum SkippedEvent<'a> {
     /// The `BEGIN` of a transaction.
     Begin(Event<'a>),
     /// A table map of a statement.
     Map(Event<'a>),
     /// A rows event of a statement.
-    Rows(PassedRows<'a>),
+    Rows(SkippedRows<'a>),
     /// The event that ends a transaction: a `COMMIT` or an Xid.
     End(Event<'a>),
 }
@@ -147,7 +147,7 @@ impl<'i, 'a, 's, A: Allocator> GroupEvents<'i, 'a, 's, A> {
     ghost use Rattle.blog_trans.specs.Groups.{PlacedRows};
     ghost use Rattle.blog_trans.specs.code.InTurn.{Changes};
     ghost use Rattle.blog_trans.specs.code.IndexView.{IsRowsOfEntry};
-    ghost use Rattle.blog_trans.specs.code.GroupEventsView.{IsByMap, PassesEvent, TakesTurn, events_left, rows_seen};
+    ghost use Rattle.blog_trans.specs.code.GroupEventsView.{IsByMap, SkipsEvent, TakesTurn, events_left, rows_seen};
 
     /// Begins the next transaction, if any is left.
     #[inline(always)]
@@ -210,17 +210,17 @@ impl<'i, 'a, 's, A: Allocator> GroupEvents<'i, 'a, 's, A> {
     }
 
     /// Skips the next event, if one is left, and returns what is known of it without its map and its rows.
-    pub fn pass(&mut self) -> Option<PassedEvent<'a>>
-        ensures { PassesEvent self.old result self.new }
+    pub fn skip_event(&mut self) -> Option<SkippedEvent<'a>>
+        ensures { SkipsEvent self.old result self.new }
     {
         match self.turn()? {
-            Turn::Begin(n) => Some(PassedEvent::Begin(self.index.event(n))),
-            Turn::Map(n) => Some(PassedEvent::Map(self.index.event(n))),
+            Turn::Begin(n) => Some(SkippedEvent::Begin(self.index.event(n))),
+            Turn::Map(n) => Some(SkippedEvent::Map(self.index.event(n))),
             Turn::Rows(n, last) => {
                 let (event, len) = self.index.rows_len(n);
-                Some(PassedEvent::Rows(PassedRows { event, len, last }))
+                Some(SkippedEvent::Rows(SkippedRows { event, len, last }))
             }
-            Turn::End(n) => Some(PassedEvent::End(self.index.event(n))),
+            Turn::End(n) => Some(SkippedEvent::End(self.index.event(n))),
         }
     }
 }

@@ -16,7 +16,7 @@ mod table_name;
 
 pub use blog_row::{EventKind, event_kind, query_text};
 pub use builder::{index, index_from};
-pub use group_events::{GroupEvent, GroupEvents, GroupRows, PassedEvent, PassedRows};
+pub use group_events::{GroupEvent, GroupEvents, GroupRows, SkippedEvent, SkippedRows};
 pub use groups::{Index, MapRead, RowsRead, TableCount};
 pub use laws::{
     accepted_logs_have_groups, groups_are_of_events, opening_asks_the_first_lines,

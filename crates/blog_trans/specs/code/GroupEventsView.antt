@@ -8,6 +8,7 @@ use Rattle.blog_event.specs.Event.{event_of, event_size}
 use Rattle.blog_row.specs.TableMap.{names_of, layout_of, map_names}
 use Rattle.blog_row.specs.code.LayoutView.{layout_columns}
 use Rattle.blog_row.specs.code.RowsEventView.{rows_kind, rows_layout, rows_body}
+use Rattle.blog_row.specs.RowsEvent.{table_id}
 use Rattle.blog_row.specs.RowsWriting.{content_of, written_body}
 use Rattle.blog_event.specs.File.{Placed}
 use Rattle.blog_trans.specs.Groups.{PlacedRows, PlacedTransaction}
@@ -17,8 +18,9 @@ use Rattle.blog_trans.specs.code.IndexView.{IsOfEntry, IsRowsOfEntry, index_grou
 use Rattle.blog_trans.specs.declared.group_events.GroupRows.{GroupRows}
 use Rattle.blog_trans.specs.declared.group_events.GroupEvent as seen
 use Rattle.blog_trans.specs.declared.group_events.GroupEvent.TheVariants as given
-use Rattle.blog_trans.specs.declared.group_events.PassedEvent as passed
-use Rattle.blog_trans.specs.declared.group_events.PassedEvent.TheVariants as over
+use Rattle.blog_trans.specs.declared.group_events.SkippedRows.{SkippedRows}
+use Rattle.blog_trans.specs.declared.group_events.SkippedEvent as skipped
+use Rattle.blog_trans.specs.declared.group_events.SkippedEvent.TheVariants as over
 use Rattle.blog_trans.specs.declared.group_events.Turn.{Turn}
 use Rattle.blog_trans.specs.declared.group_events.Turn.TheVariants as turn
 use Rattle.blog_trans.specs.declared.group_events.GroupEvents.{GroupEvents}
@@ -101,14 +103,20 @@ pub record GivesEvent {A : Type 0} (before : GroupEvents A) (event : Option seen
   pub first : YieldsFirstBy event_seen events_left before event after
   pub whole : IfSome event IsWhole
 
--- what is known of an event that was passed over
-abbrev pub IsPassed : passed.PassedEvent → GroupEvent → Type 0
-IsPassed (over.Begin event) e = e ≡ Begins (placed event)
-IsPassed (over.Map event) e = e ≡ Maps (placed event)
-IsPassed (over.Rows rows) e = (r : PlacedRows) × (e ≡ Changes r rows.last) × (placed rows.event ≡ r.event) × (rows.len ≡ length (written_body true (content_of r.kind r.body)))
-IsPassed (over.End event) e = e ≡ Ends (placed event)
+-- a rows event that was skipped
+pub record IsSkippedRows (r : PlacedRows) (rows : SkippedRows) : Type 0 where
+  pub event : placed rows.event ≡ r.event
+  pub id : table_id rows.event.body.now ≡ r.body.id
+  pub len : rows.len ≡ length (written_body true (content_of r.kind r.body))
 
--- the first event that is left is passed over, and none where none is
-abbrev pub PassesEvent : {A : Type 0} → GroupEvents A → Option passed.PassedEvent → GroupEvents A → Type 0
-PassesEvent before None after = (events_left before ≡ []) × (events_left after ≡ [])
-PassesEvent before (Some event) after = (e : GroupEvent) × (events_left before ≡ e ∷ events_left after) × IsPassed event e
+-- what is known of an event that was skipped
+abbrev pub IsSkipped : skipped.SkippedEvent → GroupEvent → Type 0
+IsSkipped (over.Begin event) e = e ≡ Begins (placed event)
+IsSkipped (over.Map event) e = e ≡ Maps (placed event)
+IsSkipped (over.Rows rows) e = (r : PlacedRows) × (e ≡ Changes r rows.last) × IsSkippedRows r rows
+IsSkipped (over.End event) e = e ≡ Ends (placed event)
+
+-- the first event that is left is skipped, and none where none is
+abbrev pub SkipsEvent : {A : Type 0} → GroupEvents A → Option skipped.SkippedEvent → GroupEvents A → Type 0
+SkipsEvent before None after = (events_left before ≡ []) × (events_left after ≡ [])
+SkipsEvent before (Some event) after = (e : GroupEvent) × (events_left before ≡ e ∷ events_left after) × IsSkipped event e

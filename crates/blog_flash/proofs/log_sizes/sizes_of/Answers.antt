@@ -11,9 +11,10 @@ events-init g c = record { end = sym (end-total c.args.front_len _); short = c.r
 
 pub events-preserved : goal.events-preserved
 events-preserved g c =
-    let (w, first, size) = c.in-Some.ensures in
+    let (w, first, is) = c.in-Some.ensures in
+    let size = c.body_len.ensures w is in
     let next = ap (map event_written) first in
-    let longer : IsLonger c.events.sizes c.in-Some.body_len c.in_ok-sizes.sizes = c.in_ok-sizes.ensures in
+    let longer : IsLonger c.events.sizes c.body_len.result c.in_ok-sizes.sizes = c.in_ok-sizes.ensures in
     record {
       end = omega (arith, ap total next, c.events.invariant.end, longer.len, size);
       short = longer.short;
@@ -23,7 +24,7 @@ events-preserved g c =
 
 pub returns : goal.returns
 returns g c =
-    let none = ap (map event_written) c.in_default.ensures in
+    let none = ap (map event_written) c.in_default.ensures.0 in
     record {
       len = omega (arith, ap total none, c.events.invariant.end);
       short = c.events.invariant.short;

@@ -1,8 +1,12 @@
 use Rattle.std.proofs.Common.{sym, ap, ◌∙◌}
 use Rattle.blog_trans.specs.code.InTurn.{Begins, Ends, Maps}
 use Rattle.blog_trans.specs.declared.group_events.Turn.TheVariants as turn
+use Rattle.blog_event.specs.File.{Placed}
+use Rattle.blog_row.specs.RowsEvent.{table_id}
+use Rattle.blog_trans.specs.code.IndexView.{Stands, index_bytes, index_selection}
+use Rattle.blog_trans.proofs.RowsFields.{id-found}
 use Rattle.blog_trans.proofs.Turns.{taken-is}
-use Rattle.blog_trans.proofs.group_events.GroupEvents.pass.Goals as goal
+use Rattle.blog_trans.proofs.group_events.GroupEvents.skip_event.Goals as goal
 
 pub returns-in-Begin : goal.returns-in-Begin
 returns-in-Begin g c =
@@ -20,7 +24,9 @@ pub returns-in-Rows : goal.returns-in-Rows
 returns-in-Rows g c =
     let taken = c.in_ok-n.ensures in
     let (r, of, is) = taken-is c.args.self.now c.turn.new.self c.in_ok-n.field-0 (turn.Rows c.in-Rows.n c.in-Rows.last) taken c.in-Rows.is in
-    (taken.event, taken.first, (r, is, c.rows_len-len.ensures.event r of, c.rows_len-len.ensures.len r of))
+    let event = c.rows_len-len.ensures.event r of in
+    let id = ap (λ (p : Placed). table_id p.event.body) event ∙ id-found (Stands (index_bytes c.turn.new.self.index.now)) (index_selection c.turn.new.self.index.now) of.maps r of.known in
+    (taken.event, taken.first, (r, is, record { event = event; id = id; len = c.rows_len-len.ensures.len r of }))
 
 pub returns-in-End : goal.returns-in-End
 returns-in-End g c =
