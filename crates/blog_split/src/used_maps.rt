@@ -44,7 +44,11 @@ pub(crate) fn push_map<'a, A: Allocator>(
     ensures capacity_ids { vec_capacity ids.old ≤ vec_capacity ids.new }
 {
     let id = id_of(event.body);
-    ids.push(MapId { id, number: maps.len() }).unwrap();
+    ids.push(MapId {
+        id,
+        number: maps.len(),
+    })
+    .unwrap();
     maps.push(event).unwrap();
 }
 
