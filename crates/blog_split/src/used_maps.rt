@@ -44,11 +44,8 @@ pub(crate) fn push_map<'a, A: Allocator>(
     ensures capacity_ids { vec_capacity ids.old ≤ vec_capacity ids.new }
 {
     let id = id_of(event.body);
-    ids.push(MapId {
-        id,
-        number: maps.len(),
-    })
-    .unwrap();
+    let number = maps.len();
+    ids.push(MapId { id, number }).unwrap();
     maps.push(event).unwrap();
 }
 
