@@ -1,5 +1,5 @@
 -- The maps that rows events of a statement use, marked by their numbers.
-use Rattle.std.proofs.Common.{◌≡◌, ℕ, zero, suc, ◌+◌, ◌<◌, ◌≤◌, Bool, true, false, ◌||◌, if◌then◌else◌, eqb, get_or, List, [], ◌∷◌, ◌++◌, length, map, filter, drop, Option, Some, None, IfSome, refl, sym, ap, ap₂, subst, ◌∙◌, arith, bytes_eq, slice_get}
+use Rattle.std.proofs.Common.{◌≡◌, ℕ, zero, suc, ◌+◌, ◌<◌, ◌≤◌, Bool, true, false, ◌||◌, if◌then◌else◌, eqb, get_or, List, [], ◌∷◌, ◌++◌, length, filter, drop, Option, Some, None, IfSome, refl, sym, ap, ap₂, subst, ◌∙◌, arith, bytes_eq, slice_get}
 use Rattle.std.specs.Prelude.{nat_eq, ⊤}
 use Rattle.std.specs.Option.{option_to_list}
 use Rattle.std.specs.List.{All, AllByRecursion, AllPairs, cons_option, dedup, list_any}
@@ -7,31 +7,24 @@ use Rattle.std.specs.List.Sorted.{IsPermutation, IsStrictlyIncreasing}
 use Rattle.std.proofs.lemmas.Bool.{cond-true, cond-false, eqb-true, eqb-false}
 use Rattle.std.proofs.Math.Bool.{or-false}
 use Rattle.std.proofs.lemmas.List.{drop_all}
-use Rattle.std.proofs.lemmas.Option.{get_or_from_slice_get}
+use Rattle.std.proofs.lemmas.Option.{slice_get-get_or}
 use Rattle.std.proofs.lemmas.List.Elements.{All-nil, All-cons, All-append, recursion_from_All}
 use Rattle.std.proofs.lemmas.List.Filters.{All-dedup}
 use Rattle.std.proofs.lemmas.List.Folds.{list_any-append}
 use Rattle.std.proofs.lemmas.List.Kept.{AllPairs-from_increasing}
 use Rattle.std.proofs.lemmas.List.Sorted.{All-permutation, list_any-IsPermutation}
 use Rattle.blog_event.specs.Event.{Event}
-use Rattle.blog_event.specs.File.{Placed}
 use Rattle.blog_row.specs.RowsEvent.{table_id}
-use Rattle.blog_trans.specs.Groups.{PlacedRows, PlacedStatement, RowsEvent, event_value, rows_value, statement_value}
+use Rattle.blog_trans.specs.Groups.{RowsEvent}
 use Rattle.blog_trans.proofs.Turns.{drop-at}
-use Rattle.blog_flash.specs.Written.{Maps, rows_written, statement_written}
-use Rattle.blog_split.specs.Cuts.{is_used_by, piece_statement}
-use Rattle.blog_split.specs.code.Greedy.{rows_between}
+use Rattle.blog_split.specs.Cuts.{is_used_by}
 use Rattle.blog_split.specs.code.Marks.{goes_by, is_number, IsMapNumber, AreMarks, AreUsed, numbered}
-use Rattle.blog_split.proofs.MapIds.{differs}
-use Rattle.blog_split.proofs.Between.{at-some, between-none, between-more}
+use Rattle.blog_split.proofs.MapIds.{at-some, differs}
 
 -- ---- marking
 
-pub marks-none : (maps : List Placed) (rows : List PlacedRows) (from : ℕ) → AreMarks maps (rows_between from from rows) []
-marks-none maps rows from = record {
-  within = All-nil (λ n. n < length maps);
-  marked = λ k p here. ap (λ (rs : List RowsEvent). is_used_by rs (event_value p)) (between-none rows from from (omega arith));
-}
+pub marks-none : (maps : List Event) → AreMarks maps [] []
+marks-none maps = record { within = All-nil (λ n. n < length maps); marked = λ k m here. refl }
 
 number-within : (n : ℕ) (o : Option ℕ) → IfSome o (λ m. m < n) → All (λ m. m < n) (option_to_list o)
 number-within n None within = All-nil (λ m. m < n)
@@ -42,14 +35,12 @@ any-option None k = refl
 any-option (Some n) k = or-false (nat_eq n k)
 
 -- one more rows event
-pub marks-more : (maps : List Placed) (rows : List PlacedRows) (from r : ℕ) (x : PlacedRows) (ns : List ℕ) (o : Option ℕ) → from ≤ r → slice_get rows r ≡ Some x → AreMarks maps (rows_between from r rows) ns
-    → IsMapNumber maps (rows_value x) o → AreMarks maps (rows_between from (r + 1) rows) (ns ++ option_to_list o)
-marks-more maps rows from r x ns o order here marks number = record {
+pub marks-more : (maps : List Event) (rows : List RowsEvent) (r : RowsEvent) (ns : List ℕ) (o : Option ℕ) → AreMarks maps rows ns → IsMapNumber maps r o → AreMarks maps (rows ++ r ∷ []) (ns ++ option_to_list o)
+marks-more maps rows r ns o marks number = record {
   within = All-append (λ n. n < length maps) ns (option_to_list o) marks.within (number-within (length maps) o number.within);
-  marked = λ k p at.
-      ap (λ (rs : List RowsEvent). is_used_by rs (event_value p)) (between-more rows from r x order here)
-      ∙ list_any-append (λ (y : RowsEvent). bytes_eq (table_id p.event.body) y.content.id) (rows_between from r rows) (rows_value x ∷ [])
-      ∙ ap₂ ◌||◌ (marks.marked k p at) (or-false (goes_by (rows_value x) p) ∙ number.goes k p at ∙ sym (any-option o k))
+  marked = λ k m at.
+      list_any-append (λ (x : RowsEvent). bytes_eq (table_id m.body) x.content.id) rows (r ∷ [])
+      ∙ ap₂ ◌||◌ (marks.marked k m at) (or-false (goes_by r m) ∙ number.goes k m at ∙ sym (any-option o k))
       ∙ sym (list_any-append (λ n. nat_eq n k) ns (option_to_list o));
 }
 
@@ -73,7 +64,7 @@ any-dedup p [] = refl
 any-dedup p (x ∷ xs) = any-from p x xs
 
 -- sorted, and each kept once
-pub marks-kept : (maps : List Placed) (rows : List RowsEvent) (ns ms : List ℕ) → AreMarks maps rows ns → IsPermutation ns ms → AreMarks maps rows (dedup eqb ms)
+pub marks-kept : (maps : List Event) (rows : List RowsEvent) (ns ms : List ℕ) → AreMarks maps rows ns → IsPermutation ns ms → AreMarks maps rows (dedup eqb ms)
 marks-kept maps rows ns ms marks moved = record {
   within = All-dedup eqb (λ n. n < length maps) ms (All-permutation (λ n. n < length maps) ns ms moved marks.within);
   marked = λ k p at. marks.marked k p at ∙ list_any-IsPermutation (λ n. nat_eq n k) ns ms moved ∙ sym (any-dedup (λ n. nat_eq n k) ms);
@@ -97,8 +88,8 @@ below-none b k [] up below = refl
 below-none b k (n ∷ ns) up below = ap (λ (t : Bool). t || list_any (λ n. nat_eq n k) ns) (differs n k (λ same. omega (arith, same, up.0, below))) ∙ below-none (n + 1) k ns up.1 (omega (arith, up.0, below))
 
 -- they are the numbers of the maps that pass a test, from one on
-numbered-from : (test : Placed → Bool) (maps : List Placed) (fuel b : ℕ) (ns : List ℕ) → b + fuel ≡ length maps → Ascends b ns → AllByRecursion (λ n. n < length maps) ns
-    → ((k : ℕ) (p : Placed) → b ≤ k → slice_get maps k ≡ Some p → test p ≡ list_any (λ n. nat_eq n k) ns) → numbered maps ns ≡ filter test (drop b maps)
+numbered-from : (test : Event → Bool) (maps : List Event) (fuel b : ℕ) (ns : List ℕ) → b + fuel ≡ length maps → Ascends b ns → AllByRecursion (λ n. n < length maps) ns
+    → ((k : ℕ) (p : Event) → b ≤ k → slice_get maps k ≡ Some p → test p ≡ list_any (λ n. nat_eq n k) ns) → numbered maps ns ≡ filter test (drop b maps)
 numbered-from test maps zero b [] end up within same = sym (ap (filter test) (drop_all b maps (omega (arith, end))))
 numbered-from test maps zero b (n ∷ ns) end up within same = absurd (omega (arith, end, up.0, within.0))
 numbered-from test maps (suc fuel) b [] end up within same =
@@ -108,7 +99,7 @@ numbered-from test maps (suc fuel) b [] end up within same =
 numbered-from test maps (suc fuel) b (n ∷ ns) end up within same = by_case (nat_eq n b) refl (λ ms up within same. numbered-from test maps fuel (b + 1) ms (omega (arith, end)) up within same)
   where
     by_case : (t : Bool) → nat_eq n b ≡ t
-        → ((ms : List ℕ) → Ascends (b + 1) ms → AllByRecursion (λ n. n < length maps) ms → ((k : ℕ) (p : Placed) → b + 1 ≤ k → slice_get maps k ≡ Some p → test p ≡ list_any (λ n. nat_eq n k) ms)
+        → ((ms : List ℕ) → Ascends (b + 1) ms → AllByRecursion (λ n. n < length maps) ms → ((k : ℕ) (p : Event) → b + 1 ≤ k → slice_get maps k ≡ Some p → test p ≡ list_any (λ n. nat_eq n k) ms)
         → numbered maps ms ≡ filter test (drop (b + 1) maps))
         → numbered maps (n ∷ ns) ≡ filter test (drop b maps)
     by_case true is others =
@@ -116,7 +107,7 @@ numbered-from test maps (suc fuel) b (n ∷ ns) end up within same = by_case (na
         let here : n ≡ b = eqb-true n b is in
         let rest = others ns (subst (λ (m : ℕ). Ascends (m + 1) ns) here up.1) within.1 (λ k q above at. same k q (omega (arith, above)) at ∙ ap (λ (t : Bool). t || list_any (λ n. nat_eq n k) ns) (differs n k (λ same. omega (arith, same, here, above)))) in
         let own = same b p.0 (omega arith) p.1 ∙ ap (λ (t : Bool). t || list_any (λ n. nat_eq n b) ns) is in
-        ap (λ (o : Option Placed). cons_option o (numbered maps ns)) (ap (slice_get maps) here ∙ p.1) ∙ ap (λ (ps : List Placed). p.0 ∷ ps) rest
+        ap (λ (o : Option Event). cons_option o (numbered maps ns)) (ap (slice_get maps) here ∙ p.1) ∙ ap (λ (ms : List Event). p.0 ∷ ms) rest
         ∙ sym (ap (filter test) (drop-at maps b p.0 p.1) ∙ cond-true (test p.0) (p.0 ∷ filter test (drop (b + 1) maps)) (filter test (drop (b + 1) maps)) own)
     by_case false is others =
         let p = at-some maps b (omega (arith, end)) in
@@ -126,31 +117,20 @@ numbered-from test maps (suc fuel) b (n ∷ ns) end up within same = by_case (na
         rest ∙ sym (ap (filter test) (drop-at maps b p.0 p.1) ∙ cond-false (test p.0) (p.0 ∷ filter test (drop (b + 1) maps)) (filter test (drop (b + 1) maps)) own)
 
 -- of all maps
-pub used-are : (maps : List Placed) (rows : List RowsEvent) (ns : List ℕ) → AreMarks maps rows ns → IsStrictlyIncreasing ns → AreUsed maps rows ns
+pub used-are : (maps : List Event) (rows : List RowsEvent) (ns : List ℕ) → AreMarks maps rows ns → IsStrictlyIncreasing ns → AreUsed maps rows ns
 used-are maps rows ns marks rises = record {
   within = marks.within;
-  maps_are = numbered-from (λ p. is_used_by rows (event_value p)) maps (length maps) 0 ns (omega arith) (ascends 0 ns (λ k d within. omega arith) (AllPairs-from_increasing ns rises))
+  maps_are = numbered-from (is_used_by rows) maps (length maps) 0 ns (omega arith) (ascends 0 ns (λ k d within. omega arith) (AllPairs-from_increasing ns rises))
       (recursion_from_All (λ n. n < length maps) ns marks.within) (λ k p above here. marks.marked k p here);
 }
 
--- ---- their events
-
--- those that pass a test as values
-pub values-kept : (test : Event → Bool) (maps : List Placed) → map event_value (filter (λ p. test (event_value p)) maps) ≡ filter test (map event_value maps)
-values-kept test [] = refl
-values-kept test (p ∷ maps) = by_case (test (event_value p)) (values-kept test maps)
-  where
-    by_case : (b : Bool) → map event_value (filter (λ p. test (event_value p)) maps) ≡ filter test (map event_value maps)
-        → map event_value (if b then p ∷ filter (λ p. test (event_value p)) maps else filter (λ p. test (event_value p)) maps) ≡ (if b then event_value p ∷ filter test (map event_value maps) else filter test (map event_value maps))
-    by_case true more = ap (λ (es : List Event). event_value p ∷ es) more
-    by_case false more = more
+-- ---- by number
 
 -- a number at its place
 pub number-at : (ns : List ℕ) (i d : ℕ) → i < length ns → slice_get ns i ≡ Some (get_or ns i d)
-number-at ns i d within = let n = at-some ns i within in n.1 ∙ ap Some (sym (get_or_from_slice_get ns i n.0 d n.1))
+number-at ns i d within = slice_get-get_or ns i d within
 
--- a piece begins with them
-pub piece-events : (y : PlacedStatement) (rows : List RowsEvent) (ns : List ℕ) → AreUsed y.maps rows ns
-    → map Maps (map event_value (numbered y.maps ns)) ++ rows_written rows ≡ statement_written (piece_statement (statement_value y) rows)
-piece-events y rows ns used =
-    ap (λ (es : List Event). map Maps es ++ rows_written rows) (ap (map event_value) used.maps_are ∙ values-kept (is_used_by rows) y.maps)
+-- the map of the first number that is left
+pub numbered-first : (maps : List Event) (ns : List ℕ) (i n : ℕ) (m : Event) → slice_get ns i ≡ Some n → slice_get maps n ≡ Some m → numbered maps (drop i ns) ≡ m ∷ numbered maps (drop (i + 1) ns)
+numbered-first maps ns i n m at here =
+    ap (numbered maps) (drop-at ns i n at) ∙ ap (λ (o : Option Event). cons_option o (numbered maps (drop (i + 1) ns))) here

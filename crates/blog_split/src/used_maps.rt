@@ -1,15 +1,12 @@
 //! The maps of a statement by their table ids, and the marks of those that its rows events use.
 
-ghost use Rattle.std.specs.Prelude.{◌≡◌, ◌+◌, ◌-◌, ◌<◌, ◌≤◌, ◌++◌, [], Some, IsSome, length, option_to_list, slice_get, vec_len, vec_capacity};
+ghost use Rattle.std.specs.Prelude.{◌≡◌, ◌+◌, ◌<◌, ◌≤◌, [], ◌∷◌, ◌++◌, length, map, option_to_list, vec_len, vec_capacity};
 ghost use Rattle.std.specs.List.Sorted.{IsNonDecreasingBy};
 ghost use Rattle.blog_event.specs.File.{AreBytes};
 ghost use Rattle.blog_row.specs.RowsEvent.{table_id};
-ghost use Rattle.blog_trans.specs.Groups.{PlacedRows, PlacedStatement, rows_value};
-ghost use Rattle.blog_trans.specs.code.IndexView.{index_groups, rows_at, statement_at};
-ghost use Rattle.blog_split.specs.code.Greedy.{rows_between};
-ghost use Rattle.blog_split.specs.code.Marks.{AreListed, AreMarks, AreUsed, IsFound, IsMapNumber, IsTable, id_number};
+ghost use Rattle.blog_split.specs.code.Marks.{AreListed, IsFound, event_told, id_number};
 
-use blog_trans::Index;
+use blog_event::Event;
 use byteorder::{ByteOrder, LittleEndian};
 use std::alloc::Allocator;
 
@@ -29,44 +26,27 @@ pub(crate) fn id_of(body: &[u8]) -> u64
     LittleEndian::read_u48(&body[..6])
 }
 
-/// Lists the maps of statement `s` of transaction `t` in their order.
-fn push_ids<A: Allocator, B: Allocator>(
+/// Lists one more map of a statement.
+pub(crate) fn push_map<'a, A: Allocator>(
+    maps: &mut Vec<Event<'a>, A>,
     ids: &mut Vec<MapId, A>,
-    index: &Index<'_, '_, B>,
-    t: usize,
-    s: usize,
+    event: Event<'a>,
 )
-    requires none { ids.old.items ≡ [] }
-    requires some { IsSome (statement_at (index_groups index.now) t s) }
-    requires room { (y : PlacedStatement) → statement_at (index_groups index.now) t s ≡ Some y → length y.maps ≤ vec_capacity ids.old }
-    ensures listed { (y : PlacedStatement) → statement_at (index_groups index.now) t s ≡ Some y → AreListed y.maps (length y.maps) ids.new.items }
-    ensures capacity { vec_capacity ids.old ≤ vec_capacity ids.new }
+    requires id { 6 ≤ length event.body.now }
+    requires room_maps { vec_len maps.old < vec_capacity maps.old }
+    requires room_ids { vec_len ids.old < vec_capacity ids.old }
+    requires listed { AreListed (map event_told maps.old.items) ids.old.items }
+    ensures maps { map event_told maps.new.items ≡ map event_told maps.old.items ++ event_told event.entry ∷ [] }
+    ensures listed { AreListed (map event_told maps.new.items) ids.new.items }
+    ensures len_maps { vec_len maps.new ≡ vec_len maps.old + 1 }
+    ensures len_ids { vec_len ids.new ≡ vec_len ids.old + 1 }
+    ensures capacity_maps { vec_capacity maps.old ≤ vec_capacity maps.new }
+    ensures capacity_ids { vec_capacity ids.old ≤ vec_capacity ids.new }
 {
-    let maps = index.maps(t, s);
-    let mut m = 0;
-    'maps: while m < maps {
-        let (event, _) = index.map(t, s, m);
-        let id = id_of(event.body);
-        ids.push(MapId { id, number: m }).unwrap();
-        m += 1;
-    }
-}
-
-/// Lists the maps of statement `s` of transaction `t` by their table ids.
-pub(crate) fn list_maps<A: Allocator, B: Allocator>(
-    ids: &mut Vec<MapId, A>,
-    index: &Index<'_, '_, B>,
-    t: usize,
-    s: usize,
-)
-    requires some { IsSome (statement_at (index_groups index.now) t s) }
-    requires room { (y : PlacedStatement) → statement_at (index_groups index.now) t s ≡ Some y → length y.maps ≤ vec_capacity ids.old }
-    ensures table { (y : PlacedStatement) → statement_at (index_groups index.now) t s ≡ Some y → IsTable y.maps ids.new.items }
-    ensures capacity { vec_capacity ids.old ≤ vec_capacity ids.new }
-{
-    ids.clear();
-    push_ids(ids, index, t, s);
-    ids.sort_unstable_by_key(|map| map.id);
+    let id = id_of(event.body);
+    let number = maps.len();
+    ids.push(MapId { id, number }).unwrap();
+    maps.push(event).unwrap();
 }
 
 /// The number of the map with a table id, if there is one.

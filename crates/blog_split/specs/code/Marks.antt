@@ -3,12 +3,17 @@ use Rattle.std.specs.Prelude.{◌≡◌, ℕ, ◌<◌, Bool, true, false, List, 
 use Rattle.std.specs.List.{All, Contains, filter_map, list_any}
 use Rattle.std.specs.List.Sorted.{IsNonDecreasingBy}
 use Rattle.byteorder.specs.Endian.{little_number}
-use Rattle.blog_event.specs.Event.{Event}
+use Rattle.blog_event.specs.Event.{Event, event_of, unplaced}
 use Rattle.blog_event.specs.File.{AreBytes}
+use Rattle.blog_event.specs.declared.event.Event as told
 use Rattle.blog_row.specs.RowsEvent.{table_id}
 use Rattle.blog_trans.specs.Groups.{RowsEvent}
 use Rattle.blog_split.specs.declared.used_maps.MapId.{MapId}
 use Rattle.blog_split.specs.Cuts.{is_used_by}
+
+-- an event of the program as it is written
+abbrev pub event_told : told.Event → Event
+event_told e = unplaced (event_of e)
 
 -- ---- maps by their table ids
 

@@ -2,8 +2,7 @@ use Rattle.std.proofs.Common.{ltb, ap, ◌∙◌, ◌<◌, length, arith, rules}
 use Rattle.std.proofs.lemmas.List.Sorted.{IsPartitionPoint-from_clause, IsPartitionedBy-ltb}
 use Rattle.std.proofs.lemmas.Option.{get_or_from_slice_get}
 use Rattle.blog_split.specs.declared.used_maps.MapId.{MapId}
-use Rattle.blog_split.proofs.Between.{at-some}
-use Rattle.blog_split.proofs.MapIds.{absent-past, absent-here}
+use Rattle.blog_split.proofs.MapIds.{at-some, absent-past, absent-here}
 use Rattle.blog_split.proofs.used_maps.number_of.Goals as goal
 
 pub returns-then-at-ids : goal.returns-then-at-ids
