@@ -12,10 +12,9 @@ use Rattle.blog_trans.specs.Selection.{Selection}
 use Rattle.blog_trans.specs.Acceptance.{IsAccepted}
 use Rattle.blog_trans.specs.declared.groups.Index.{Index}
 use Rattle.blog_trans.specs.code.IndexView.{index_bytes, index_selection}
-use Rattle.blog_trans.specs.Groups.{Transaction, placed_groups, groups}
-use Rattle.blog_flash.specs.code.LaidOut.{text_from, groups_in, transactions_of}
+use Rattle.blog_trans.specs.Groups.{Transaction, groups}
+use Rattle.blog_flash.specs.code.LaidOut.{text_from, groups_in}
 use Rattle.blog_flash.specs.Texts.{group_events, laid_out, laid_out_after}
-use Rattle.blog_flash.proofs.Lengths.{total, laid-out-length}
 use Rattle.blog_flash.proofs.Totals.{no-longer}
 
 -- an accepted log, and the event at 4

@@ -1,7 +1,7 @@
 -- An event of groups that was skipped is one of those to be written.
 use Rattle.std.proofs.Common.{◌≡◌, ℕ, ◌+◌, Bool, true, length, map, Option, None, Some, sym, ap, ◌∙◌}
 use Rattle.blog_event.specs.Event.{event_size}
-use Rattle.blog_row.specs.RowsWriting.{content_in, content_of, written_body}
+use Rattle.blog_row.specs.RowsWriting.{content_of, written_body}
 use Rattle.blog_row.specs.declared.order.Order.{Order}
 use Rattle.blog_row.specs.declared.order.Order.TheVariants.{Forward}
 use Rattle.blog_row.proofs.WrittenBody.{body-len, kept}

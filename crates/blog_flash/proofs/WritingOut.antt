@@ -1,13 +1,10 @@
 -- A text that is written by chunks: what was written, what the chunk holds and what is left are the text.
-use Rattle.std.proofs.Common.{◌≡◌, ℕ, ◌+◌, List, [], ◌∷◌, ◌++◌, Option, Result, Ok, Err, OnOk, OnErr, IfErr, sym, ap, ap₂, subst, ◌∙◌, append-nil, append_assoc}
+use Rattle.std.proofs.Common.{◌≡◌, ℕ, ◌+◌, List, [], ◌∷◌, ◌++◌, Option, sym, ap, ap₂, subst, ◌∙◌, append-nil, append_assoc}
 use Rattle.std.specs.Io.KnownBytes.{Appends}
 use Rattle.std.proofs.KnownBytes.{Appends-nil, Appends-trans}
 use Rattle.blog_event.specs.Event.{Event, event_size}
 use Rattle.blog_device.specs.Devices.{AppendsBeginning}
-use Rattle.blog_device.specs.declared.fault.RunFault.{RunFault}
-use Rattle.blog_device.specs.declared.fault.RunFault.TheVariants.{Write}
 use Rattle.blog_flash.specs.code.LaidOut.{text_from}
-use Rattle.blog_flash.specs.Runs.{IsWritten}
 use Rattle.blog_flash.proofs.Placing.{event-put}
 
 -- `more` is what the chunk holds and what is left

@@ -1,141 +1,133 @@
-//! The events of a log whose statements are cut, in order.
+//! The statements of events to write, cut into smaller ones.
 
-ghost use Rattle.std.specs.Prelude.{◌≡◌, ◌+◌, ◌<◌, ◌≤◌, ℕ, true, false, length, All, Some, IsSome, IfOk, IfErr, slice_get, vec_len, vec_capacity};
+ghost use Rattle.std.specs.Prelude.{◌≡◌, ◌<◌, ◌≤◌, true, false, [], Some, length, map, drop, take, IfOk, IfErr, vec_len, vec_capacity};
+ghost use Rattle.std.specs.List.{All};
+ghost use Rattle.std.specs.List.Sorted.{IsNonDecreasingBy};
 ghost use Rattle.std.proofs.Props.{props};
-ghost use Rattle.blog_trans.specs.Groups.{PlacedStatement, PlacedTransaction};
-ghost use Rattle.std.specs.Option.{ForSome};
-ghost use Rattle.blog_trans.specs.code.IndexView.{Stands, index_bytes, index_groups, placed, statement_at};
-ghost use Rattle.blog_split.specs.code.Marks.{IsTable};
+ghost use Rattle.blog_split.specs.code.CutView.{IsAhead, maps_left};
+ghost use Rattle.blog_split.specs.code.CutWritten.{AreApart, CanBeCut, rows_of};
+ghost use Rattle.blog_split.specs.code.Marks.{AreListed, event_told};
 
 use crate::fault::SplitFault;
-use crate::most::most_of;
-use crate::piece::take_piece;
-use crate::used_maps::{MapId, list_maps};
-use blog_event::Fault;
+use crate::most::Most;
+use crate::used_maps::{MapId, id_of, mark, number_of, push_map};
+use blog_event::{Event, Fault, HEADER_LEN};
 use blog_flash::{WrittenEvent, WrittenEvents, WrittenRows};
-use blog_row::Order;
-use blog_trans::{Index, MapRead};
+use blog_trans::{SkippedEvent, SkippedRows};
 use std::alloc::Allocator;
 
-/// What comes next in the cut log.
+/// What comes next of cut events.
 #[derive(Clone, Copy, Debug)]
 enum Coming {
-    /// The `BEGIN` of the next transaction, or the end of the log.
-    Begin,
     /// A map of the open piece.
     Map,
     /// A rows event of the open piece.
     Rows,
-    /// The end event of the open transaction.
-    End,
+    /// What the source has next: a `BEGIN`, the end event of a transaction, or nothing.
+    Other,
 }
 
-/// The events of the groups of an index, their statements cut.
+/// The events of a source, their statements cut into pieces.
 #[derive(Drop)]
-pub(crate) struct CutEvents<'i, 'a, 's, A: Allocator, B: Allocator> {
-    index: &'i Index<'a, 's, B>,
+pub(crate) struct CutEvents<'a, E: WrittenEvents<'a> + Drop, A: Allocator> {
     limit: usize,
-    // The first transaction that isn't begun.
-    next_transaction: usize,
-    // Whether a transaction was begun that hasn't ended, and its number.
-    is_open: bool,
-    transaction: usize,
-    // How many statements it has, and the first of which nothing was given.
-    statements: usize,
-    next_statement: usize,
-    // The number of the one of which some was given, how many rows events it has, and its maps by their table ids.
-    statement: usize,
-    rows: usize,
+    most: Most,
+    // Gives the rows events.
+    events: E,
+    // Has skipped what the open piece has left, and the event behind it, which is `next`.
+    ahead: E,
+    next: Option<SkippedEvent<'a>>,
+    // The maps of the open statement, in order, and the same by their table ids once these are sorted.
+    maps: Vec<Event<'a>, A>,
     ids: Vec<MapId, A>,
-    // The maps of its open piece, how many of them were given, the first rows event that is left, and where the piece ends.
+    is_sorted: bool,
+    // Whether the open statement ends with the open piece.
+    is_last: bool,
+    // The numbers of the maps of the open piece, how many of them were given, and how many of its rows events are left.
     used: Vec<usize, A>,
     given: usize,
-    row: usize,
-    piece_end: usize,
-    // The map of the rows event that was given last.
-    read: Option<MapRead<'a>>,
-    ghost opened: { is_open ≡ true → transaction < length (index_groups index.now) },
-    ghost counted: { is_open ≡ true → (x : PlacedTransaction) → slice_get (index_groups index.now) transaction ≡ Some x → length x.statements ≡ statements },
-    ghost within: { piece_end ≤ rows },
-    ghost some: { 0 < rows → IsSome (statement_at (index_groups index.now) transaction statement) },
-    ghost many: { 0 < rows → (y : PlacedStatement) → statement_at (index_groups index.now) transaction statement ≡ Some y → rows ≡ length y.rows },
-    ghost table: { 0 < rows → (y : PlacedStatement) → statement_at (index_groups index.now) transaction statement ≡ Some y → IsTable y.maps ids.items } by { Prim.hlevel props },
-    ghost some_used: { given < vec_len used → 0 < rows },
-    ghost used_within: { (y : PlacedStatement) → statement_at (index_groups index.now) transaction statement ≡ Some y → All (λ n. n < length y.maps) used.items },
-    ghost room_maps: { (t s : ℕ) (y : PlacedStatement) → statement_at (index_groups index.now) t s ≡ Some y → length y.maps ≤ vec_capacity ids },
-    ghost room_rows: { (t s : ℕ) (y : PlacedStatement) → statement_at (index_groups index.now) t s ≡ Some y → length y.rows ≤ vec_capacity used },
-    ghost read_stands: { ForSome read (λ map. Stands (index_bytes index.now) (placed map.event)) },
+    rows: usize,
+    ghost counted: { length (rows_of (take rows (E.to_come events))) ≡ rows },
+    ghost is_ahead: { IsAhead next (drop rows (E.to_come events)) (E.to_come ahead) } by { Prim.hlevel props },
+    ghost can_be_cut: { CanBeCut most (maps_left is_last maps.items) 0 (drop rows (E.to_come events)) } by { Prim.hlevel props },
+    ghost room_maps: { most.maps ≤ vec_capacity maps },
+    ghost room_ids: { most.maps ≤ vec_capacity ids },
+    ghost room_used: { most.rows ≤ vec_capacity used },
+    ghost listed: { AreListed (map event_told maps.items) ids.items } by { Prim.hlevel props },
+    ghost each_listed: { vec_len ids ≡ vec_len maps },
+    ghost ordered: { is_sorted ≡ true → IsNonDecreasingBy (λ e. e.id) ids.items } by { Prim.hlevel props },
+    ghost apart: { AreApart (map event_told maps.items) } by { Prim.hlevel props },
+    ghost used_within: { All (λ n. n < vec_len maps) used.items } by { Prim.hlevel props },
 }
 
-impl<'i, 'a, 's, A: Allocator, B: Allocator> CutEvents<'i, 'a, 's, A, B> {
+impl<'a, E: WrittenEvents<'a> + Drop, A: Allocator> CutEvents<'a, E, A> {
     ghost use Rattle.blog_event.specs.declared.fault.Fault.TheVariants.{OutOfMemory};
-    ghost use Rattle.blog_trans.specs.Groups.{groups};
-    ghost use Rattle.blog_trans.specs.code.IndexView.{index_selection};
-    ghost use Rattle.blog_flash.specs.Written.{Passes, groups_written};
+    ghost use Rattle.blog_flash.specs.code.Skipping.{Skips};
     ghost use Rattle.blog_split.specs.declared.fault.SplitFault.TheVariants as SplitFault;
-    ghost use Rattle.blog_split.specs.code.CutView.{GivesCut, IsReady, cut_to_come};
-    ghost use Rattle.blog_split.specs.code.Greedy.{cut_groups};
+    ghost use Rattle.blog_split.specs.code.CutView.{GivesCut, HasMap, HasRows, IsReady, MarksPiece, cut_to_come};
+    ghost use Rattle.blog_split.specs.code.CutWritten.{cut_written};
 
-    /// The events of the groups of an index, their statements cut. `Log(OutOfMemory)` where one of the two lists that it takes
-    /// is refused: a number and a table id for each map of the statement with the most, and a number for each rows event of the
-    /// one with the most.
+    /// Cuts the statements of `events`. `ahead` must give the same events. Each statement of them must have its maps apart, and
+    /// no more maps and rows events than `most`. Fails with `Log(OutOfMemory)` if there is no memory for the maps of a statement
+    /// and for a number for each of its rows events.
     pub(crate) fn new(
         alloc: A,
-        index: &'i Index<'a, 's, B>,
+        most: Most,
         limit: usize,
+        events: E,
+        mut ahead: E,
     ) -> Result<Self, SplitFault>
     where
         A: Copy,
-        ensures left { IfOk result (λ events. cut_to_come events ≡ groups_written (cut_groups limit (groups (index_bytes index.now) (index_selection index.now)))) }
+        requires same { E.to_come ahead.entry ≡ E.to_come events.now }
+        requires can { CanBeCut most [] 0 (E.to_come events.now) }
+        ensures left { IfOk result (λ cut. cut_to_come E.to_come cut ≡ cut_written limit [] [] (E.to_come events.now)) }
         ensures refused { IfErr result (λ fault. fault ≡ SplitFault.Log OutOfMemory) }
     {
-        let most = most_of(index);
+        let Ok(maps) = Vec::with_capacity(alloc, most.maps) else {
+            return Err(SplitFault::Log(Fault::OutOfMemory));
+        };
         let Ok(ids) = Vec::with_capacity(alloc, most.maps) else {
             return Err(SplitFault::Log(Fault::OutOfMemory));
         };
         let Ok(used) = Vec::with_capacity(alloc, most.rows) else {
             return Err(SplitFault::Log(Fault::OutOfMemory));
         };
+        let next = ahead.skip_event();
         Ok(CutEvents {
-            index,
             limit,
-            next_transaction: 0,
-            is_open: false,
-            transaction: 0,
-            statements: 0,
-            next_statement: 0,
-            statement: 0,
-            rows: 0,
+            most,
+            events,
+            ahead,
+            next,
+            maps,
             ids,
+            is_sorted: false,
+            is_last: false,
             used,
             given: 0,
-            row: 0,
-            piece_end: 0,
-            read: None,
+            rows: 0,
         })
     }
 
-    /// Returns what comes next. Opens the next piece if the open one has nothing left, and the next statement if the open one has
-    /// no piece left.
+    /// Returns what comes next. Opens the next piece if the open one has nothing left.
     fn coming(&mut self) -> Coming
-        ensures left { cut_to_come self.new ≡ cut_to_come self.old }
+        ensures left { cut_to_come E.to_come self.new ≡ cut_to_come E.to_come self.old }
         ensures ready { IsReady self.new result }
     {
-        if !self.is_open {
-            return Coming::Begin;
-        }
         if self.given < self.used.len() {
             return Coming::Map;
         }
-        if self.row < self.piece_end {
+        if self.rows > 0 {
             return Coming::Rows;
         }
-        'statements: while self.piece_end >= self.rows && self.next_statement < self.statements {
-            self.open_statement();
+        self.end_statement();
+        'maps: while let Some(SkippedEvent::Map(event)) = self.next {
+            self.add_map(event);
         }
-        if self.piece_end >= self.rows {
-            return Coming::End;
-        }
+        let Some(SkippedEvent::Rows(_)) = self.next else {
+            return Coming::Other;
+        };
         self.open_piece();
         if self.given < self.used.len() {
             return Coming::Map;
@@ -143,162 +135,169 @@ impl<'i, 'a, 's, A: Allocator, B: Allocator> CutEvents<'i, 'a, 's, A, B> {
         Coming::Rows
     }
 
-    /// Begins the next transaction, if any is left.
-    fn begin(&mut self) -> Option<WrittenEvent<'a>>
-        requires { self.old.is_open ≡ false }
-        ensures { GivesCut self.old result self.new }
-    {
-        let t = self.next_transaction;
-        if t >= self.index.transactions() {
-            return None;
-        }
-        self.used.clear();
-        self.given = 0;
-        self.rows = 0;
-        self.row = 0;
-        self.piece_end = 0;
-        self.statements = self.index.statements(t);
-        self.next_statement = 0;
-        self.transaction = t;
-        self.is_open = true;
-        self.next_transaction = t + 1;
-        Some(WrittenEvent::Same(self.index.begin(t)))
-    }
-
-    /// Opens the next statement.
-    fn open_statement(&mut self)
-        requires open { self.old.is_open ≡ true }
+    /// Forgets the maps of the open statement if it has no rows event left.
+    fn end_statement(&mut self)
         requires no_maps { vec_len self.old.used ≤ self.old.given }
-        requires no_rows { self.old.piece_end ≤ self.old.row }
-        requires no_pieces { self.old.rows ≤ self.old.piece_end }
-        requires some { self.old.next_statement < self.old.statements }
-        ensures left { cut_to_come self.new ≡ cut_to_come self.old }
-        ensures open { self.new.is_open ≡ true }
-        ensures statements { self.new.statements ≡ self.old.statements }
+        requires no_rows { self.old.rows ≡ 0 }
+        ensures left { cut_to_come E.to_come self.new ≡ cut_to_come E.to_come self.old }
+        ensures open { self.new.is_last ≡ false }
         ensures no_maps { vec_len self.new.used ≤ self.new.given }
-        ensures no_rows { self.new.piece_end ≤ self.new.row }
-        ensures next { self.new.next_statement ≡ self.old.next_statement + 1 }
+        ensures no_rows { self.new.rows ≡ 0 }
     {
-        let s = self.next_statement;
-        self.used.clear();
-        self.given = 0;
-        self.row = 0;
-        self.piece_end = 0;
-        list_maps(&mut self.ids, self.index, self.transaction, s);
-        self.rows = self.index.rows(self.transaction, s);
-        self.statement = s;
-        self.next_statement = s + 1;
+        if self.is_last {
+            self.maps.clear();
+            self.ids.clear();
+            self.used.clear();
+            self.given = 0;
+            self.is_sorted = false;
+            self.is_last = false;
+        }
     }
 
-    /// Opens the next piece of the open statement.
-    fn open_piece(&mut self)
-        requires open { self.old.is_open ≡ true }
+    /// Takes the next event, a map, into the open statement.
+    fn add_map(&mut self, event: Event<'a>)
+        requires next { HasMap self.old event }
+        requires open { self.old.is_last ≡ false }
         requires no_maps { vec_len self.old.used ≤ self.old.given }
-        requires no_rows { self.old.piece_end ≤ self.old.row }
-        requires some { self.old.piece_end < self.old.rows }
-        ensures left { cut_to_come self.new ≡ cut_to_come self.old }
-        ensures open { self.new.is_open ≡ true }
-        ensures some { self.new.row < self.new.piece_end }
+        requires no_rows { self.old.rows ≡ 0 }
+        ensures left { cut_to_come E.to_come self.new ≡ cut_to_come E.to_come self.old }
+        ensures open { self.new.is_last ≡ false }
+        ensures no_maps { vec_len self.new.used ≤ self.new.given }
+        ensures no_rows { self.new.rows ≡ 0 }
+        ensures fewer { length (E.to_come self.new.events) < length (E.to_come self.old.events) }
     {
-        let (t, s, from) = (self.transaction, self.statement, self.piece_end);
-        let to = take_piece(
-            &mut self.used,
-            &self.ids,
-            self.index,
-            t,
-            s,
-            from,
-            self.limit,
-        );
+        push_map(&mut self.maps, &mut self.ids, event);
+        self.is_sorted = false;
+        self.events.skip_event();
+        self.next = self.ahead.skip_event();
+    }
+
+    /// Opens the next piece: it begins with the next event, a rows event.
+    fn open_piece(&mut self)
+        requires next { HasRows self.old }
+        requires open { self.old.is_last ≡ false }
+        requires no_maps { vec_len self.old.used ≤ self.old.given }
+        requires no_rows { self.old.rows ≡ 0 }
+        ensures left { cut_to_come E.to_come self.new ≡ cut_to_come E.to_come self.old }
+        ensures some { 0 < self.new.rows }
+    {
+        self.used.clear();
         self.given = 0;
-        self.row = from;
-        self.piece_end = to;
+        if !self.is_sorted {
+            self.ids.sort_unstable_by_key(|map| map.id);
+            self.is_sorted = true;
+        }
+        self.mark_piece();
+        self.used.sort_unstable();
+        self.used.dedup();
+    }
+
+    /// Goes ahead of the rows events of the next piece, and marks the map of each of them.
+    fn mark_piece(&mut self)
+        requires next { HasRows self.old }
+        requires open { self.old.is_last ≡ false }
+        requires sorted { self.old.is_sorted ≡ true }
+        requires no_marks { self.old.used.items ≡ [] }
+        requires no_rows { self.old.rows ≡ 0 }
+        ensures { MarksPiece E.to_come self.old self.new }
+    {
+        let mut left = self.limit;
+        'events: while let Some(SkippedEvent::Rows(rows)) = self.next {
+            if self.rows > 0 && !has_room(left, rows.len) {
+                return;
+            }
+            mark(&mut self.used, number_of(&self.ids, id_of(rows.event.body)));
+            left = left.saturating_sub(HEADER_LEN).saturating_sub(rows.len);
+            self.rows += 1;
+            self.next = self.ahead.skip_event();
+            if rows.last {
+                self.is_last = true;
+                return;
+            }
+        }
     }
 
     /// The next map of the open piece.
-    fn map(&mut self) -> WrittenEvent<'a>
-        requires open { self.old.is_open ≡ true }
+    fn map(&mut self) -> Event<'a>
         requires some { self.old.given < vec_len self.old.used }
-        ensures { GivesCut self.old (Some result) self.new }
+        ensures { GivesMap E.to_come self.old result self.new }
     {
-        let m = self.used[self.given];
+        let n = self.used[self.given];
         self.given += 1;
-        let (event, _) = self.index.map(self.transaction, self.statement, m);
-        WrittenEvent::Map(event)
+        self.maps[n]
     }
 
     /// The next rows event of the open piece.
-    fn rows_event(&mut self) -> WrittenEvent<'a>
-        requires open { self.old.is_open ≡ true }
+    fn rows_event(&mut self) -> Option<WrittenEvent<'a>>
         requires no_maps { vec_len self.old.used ≤ self.old.given }
-        requires some { self.old.row < self.old.piece_end }
-        ensures { GivesCut self.old (Some result) self.new }
+        requires some { 0 < self.old.rows }
+        ensures { GivesCut E.to_come self.old result self.new }
     {
-        let r = self.row;
-        self.row = r + 1;
-        let (event, map, rows) = self
-            .index
-            .rows_by(self.transaction, self.statement, r, self.read);
-        self.read = Some(map);
-        WrittenEvent::Rows(WrittenRows {
-            event,
-            map: map.event.body,
-            rows,
-            order: Order::Forward,
-            last: self.piece_end - r == 1,
-        })
+        self.rows -= 1;
+        let Some(WrittenEvent::Rows(rows)) = self.events.next_event() else {
+            unreachable!();
+        };
+        Some(WrittenEvent::Rows(WrittenRows {
+            last: self.rows == 0,
+            ..rows
+        }))
     }
 
-    /// Skips the next rows event of the open piece, and returns how many bytes its body has.
-    fn pass_rows(&mut self) -> usize
-        requires open { self.old.is_open ≡ true }
+    /// Skips the next rows event of the open piece.
+    fn skip_rows(&mut self) -> Option<SkippedEvent<'a>>
         requires no_maps { vec_len self.old.used ≤ self.old.given }
-        requires some { self.old.row < self.old.piece_end }
-        ensures { Passes cut_to_come self.old (Some result) self.new }
+        requires some { 0 < self.old.rows }
+        ensures { Skips (cut_to_come E.to_come) self.old result self.new }
     {
-        let r = self.row;
-        self.row = r + 1;
-        let (_, len) = self.index.rows_sized(self.transaction, self.statement, r);
-        len
+        self.rows -= 1;
+        let Some(SkippedEvent::Rows(rows)) = self.events.skip_event() else {
+            unreachable!();
+        };
+        Some(SkippedEvent::Rows(SkippedRows {
+            last: self.rows == 0,
+            ..rows
+        }))
     }
 
-    /// Ends the open transaction.
-    fn end(&mut self) -> WrittenEvent<'a>
-        requires open { self.old.is_open ≡ true }
-        requires no_maps { vec_len self.old.used ≤ self.old.given }
-        requires no_rows { self.old.piece_end ≤ self.old.row }
-        requires no_pieces { self.old.rows ≤ self.old.piece_end }
-        requires no_statements { self.old.statements ≤ self.old.next_statement }
-        ensures { GivesCut self.old (Some result) self.new }
+    /// What the source has next, which is of no statement.
+    fn other(&mut self) -> Option<WrittenEvent<'a>>
+        requires { IsReady self.old Coming.Other }
+        ensures { GivesCut E.to_come self.old result self.new }
     {
-        self.is_open = false;
-        WrittenEvent::Same(self.index.end(self.transaction))
+        self.is_last = true;
+        self.next = self.ahead.skip_event();
+        self.events.next_event()
+    }
+
+    /// Skips what the source has next, which is of no statement.
+    fn skip_other(&mut self) -> Option<SkippedEvent<'a>>
+        requires { IsReady self.old Coming.Other }
+        ensures { Skips (cut_to_come E.to_come) self.old result self.new }
+    {
+        self.is_last = true;
+        self.next = self.ahead.skip_event();
+        self.events.skip_event()
     }
 }
 
-impl<'i, 'a, 's, A: Allocator, B: Allocator> WrittenEvents<'a> for CutEvents<'i, 'a, 's, A, B> {
+impl<'a, E: WrittenEvents<'a> + Drop, A: Allocator> WrittenEvents<'a> for CutEvents<'a, E, A> {
     ghost use Rattle.blog_split.specs.code.CutView.{cut_to_come};
 
-    ghost to_come = { cut_to_come };
+    ghost to_come = { cut_to_come E.to_come };
 
     fn next_event(&mut self) -> Option<WrittenEvent<'a>> {
         match self.coming() {
-            Coming::Begin => self.begin(),
-            Coming::Map => Some(self.map()),
-            Coming::Rows => Some(self.rows_event()),
-            Coming::End => Some(self.end()),
+            Coming::Map => Some(WrittenEvent::Map(self.map())),
+            Coming::Rows => self.rows_event(),
+            Coming::Other => self.other(),
         }
     }
 
-    fn pass(&mut self) -> Option<usize> {
+    fn skip_event(&mut self) -> Option<SkippedEvent<'a>> {
         match self.coming() {
-            Coming::Begin => {
-                let event = self.begin()?;
-                Some(event.body_len())
-            }
-            Coming::Map => Some(self.map().body_len()),
-            Coming::Rows => Some(self.pass_rows()),
-            Coming::End => Some(self.end().body_len()),
+            Coming::Map => Some(SkippedEvent::Map(self.map())),
+            Coming::Rows => self.skip_rows(),
+            Coming::Other => self.skip_other(),
         }
     }
 }
