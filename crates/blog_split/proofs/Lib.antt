@@ -11,3 +11,4 @@ mod CutLeft
 mod Measuring
 mod Steps
 mod Splitting
+pub mod CutWritten

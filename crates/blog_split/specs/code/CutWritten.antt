@@ -33,6 +33,13 @@ cut_written limit maps piece (Maps m ∷ ws) = piece_written maps piece ++ cut_w
 cut_written limit maps piece (Changes r true ∷ ws) = ended limit maps piece r ++ (piece_written maps (joined limit piece r) ++ cut_written limit [] [] ws)
 cut_written limit maps piece (Changes r false ∷ ws) = ended limit maps piece r ++ cut_written limit maps (joined limit piece r) ws
 
+-- the rows events among written events
+abbrev pub rows_of : List Written → List RowsEvent
+rows_of [] = []
+rows_of (Same e ∷ ws) = rows_of ws
+rows_of (Maps m ∷ ws) = rows_of ws
+rows_of (Changes r last ∷ ws) = r ∷ rows_of ws
+
 -- ---- what can be cut
 
 -- maps of a statement are told apart by their table ids

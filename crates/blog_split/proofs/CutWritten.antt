@@ -1,0 +1,244 @@
+-- What is known of written events whose statements are cut.
+use Rattle.std.proofs.Common.{◌≡◌, ℕ, zero, suc, ◌+◌, ◌-◌, ◌≤◌, ◌<◌, ◌==◌, Bool, true, false, nat_le, bytes_eq, List, [], ◌∷◌, ◌++◌, length, map, filter, take, drop, refl, sym, ap, subst, ◌∙◌, arith, append-nil, append_assoc, length-append, le-leb}
+use Rattle.std.specs.List.{AllByRecursion, IsDistinct, flat_map}
+use Rattle.std.proofs.Math.Dec.{eqb-suc-zero}
+use Rattle.std.proofs.Math.Numerals.{add-one}
+use Rattle.std.proofs.lemmas.Bool.{lt-leb}
+use Rattle.std.proofs.lemmas.List.{map-append}
+use Rattle.std.proofs.lemmas.List.Concat.{flat_map-append}
+use Rattle.std.proofs.lemmas.List.Folds.{flat_map-map}
+use Rattle.blog_event.specs.Event.{Event, event_size}
+use Rattle.blog_row.specs.RowsEvent.{table_id}
+use Rattle.blog_trans.specs.Groups.{RowsEvent, Statement, Transaction}
+use Rattle.blog_flash.specs.Texts.{rows_event}
+use Rattle.blog_flash.specs.Written.{Written, Same, Maps, Changes, rows_written, statement_written, transaction_written, groups_written}
+use Rattle.blog_flash.proofs.Formed.{IsStatement, IsTransaction, AreGroups}
+use Rattle.blog_split.specs.Cuts.{is_used_by, rows_bytes, piece_statement}
+use Rattle.blog_split.specs.declared.most.Most.{Most}
+use Rattle.blog_split.specs.code.Greedy.{pieces_on, pieces_of, cut_statement, cut_transaction, cut_groups}
+use Rattle.blog_split.specs.code.CutWritten.{piece_written, has_room, cut_written, rows_of, AreApart, CanBeCut}
+use Rattle.blog_split.proofs.Pieces.{all-parts}
+use Rattle.blog_split.proofs.Small.{rows_bytes-append}
+
+-- ---- a piece ends
+
+-- no map is used by no rows event
+none-used : (maps : List Event) → filter (is_used_by []) maps ≡ []
+none-used [] = refl
+none-used (m ∷ maps) = none-used maps
+
+nothing-written : (maps : List Event) → piece_written maps [] ≡ []
+nothing-written maps = ap (λ (ms : List Event). map Maps ms ++ []) (none-used maps)
+
+module _ (limit : ℕ) (maps : List Event) (piece : List RowsEvent) where
+  -- at the end
+  pub stops-none : cut_written limit maps piece [] ≡ piece_written maps piece ++ cut_written limit maps [] []
+  stops-none = sym (ap (λ (es : List Written). piece_written maps piece ++ es) (nothing-written maps) ∙ append-nil (piece_written maps piece))
+
+  -- before `BEGIN` or the end event
+  pub stops-same : (e : Event) (ws : List Written) → cut_written limit maps piece (Same e ∷ ws) ≡ piece_written maps piece ++ cut_written limit maps [] (Same e ∷ ws)
+  stops-same e ws = sym (ap (λ (es : List Written). piece_written maps piece ++ (es ++ Same e ∷ cut_written limit [] [] ws)) (nothing-written maps))
+
+  -- before a table map
+  pub stops-maps : (m : Event) (ws : List Written) → cut_written limit maps piece (Maps m ∷ ws) ≡ piece_written maps piece ++ cut_written limit maps [] (Maps m ∷ ws)
+  stops-maps m ws = sym (ap (λ (es : List Written). piece_written maps piece ++ (es ++ cut_written limit (maps ++ m ∷ []) [] ws)) (nothing-written maps))
+
+  -- before a rows event that it has no room for
+  pub stops-full : (r : RowsEvent) (last : Bool) (ws : List Written) → has_room limit piece r ≡ false
+      → cut_written limit maps piece (Changes r last ∷ ws) ≡ piece_written maps piece ++ cut_written limit maps [] (Changes r last ∷ ws)
+  stops-full r true ws full = rw full refl
+  stops-full r false ws full = rw full refl
+
+  -- ---- a piece goes on
+
+  -- by a rows event that isn't the last of its statement
+  pub joins-open : (r : RowsEvent) (ws : List Written) → has_room limit piece r ≡ true → cut_written limit maps piece (Changes r false ∷ ws) ≡ cut_written limit maps (piece ++ r ∷ []) ws
+  joins-open r ws room = rw room refl
+
+  -- by the last one
+  pub joins-last : (r : RowsEvent) (ws : List Written) → has_room limit piece r ≡ true
+      → cut_written limit maps piece (Changes r true ∷ ws) ≡ piece_written maps (piece ++ r ∷ []) ++ cut_written limit [] [] ws
+  joins-last r ws room = rw room refl
+
+-- ---- room
+
+-- how many bytes a piece has with one more; `rows_event-size` says that the end flag changes none of it
+pub bytes-more : (piece : List RowsEvent) (r : RowsEvent) → rows_bytes (piece ++ r ∷ []) ≡ rows_bytes piece + event_size (rows_event true r)
+bytes-more piece r = omega (arith, rows_bytes-append piece (r ∷ []))
+
+-- for the first rows event of a piece
+pub room-first : (limit : ℕ) (r : RowsEvent) → has_room limit [] r ≡ true
+room-first limit r = refl
+
+-- for another, by what is left of the limit
+pub room-is : (limit left : ℕ) (piece : List RowsEvent) (r : RowsEvent) → 0 < length piece → left ≡ limit - rows_bytes piece
+    → (event_size (rows_event true r) ≤ left → has_room limit piece r ≡ true) × (left < event_size (rows_event true r) → has_room limit piece r ≡ false)
+room-is limit left [] r some is = absurd (omega arith)
+room-is limit left (p ∷ piece) r some is =
+    let bytes = bytes-more (p ∷ piece) r in
+    ((λ (fits : event_size (rows_event true r) ≤ left). le-leb (rows_bytes ((p ∷ piece) ++ r ∷ [])) limit (omega (arith, bytes, is, fits))),
+     (λ (over : left < event_size (rows_event true r)). lt-leb (rows_bytes ((p ∷ piece) ++ r ∷ [])) limit (omega (arith, bytes, is, over))))
+
+-- ---- cut groups
+
+-- maps of a statement
+maps-passed : (limit : ℕ) (before maps : List Event) (ws : List Written) → cut_written limit before [] (map Maps maps ++ ws) ≡ cut_written limit (before ++ maps) [] ws
+maps-passed limit before [] ws = ap (λ (ms : List Event). cut_written limit ms [] ws) (sym (append-nil before))
+maps-passed limit before (m ∷ maps) ws =
+    ap (λ (es : List Written). es ++ cut_written limit (before ++ m ∷ []) [] (map Maps maps ++ ws)) (nothing-written before)
+    ∙ maps-passed limit (before ++ m ∷ []) maps ws
+    ∙ ap (λ (ms : List Event). cut_written limit ms [] ws) (append_assoc before (m ∷ []) maps)
+
+-- rows events behind a piece are cut as they are into pieces
+abbrev pieces_written : List Event → List (List RowsEvent) → List Written
+pieces_written maps pieces = flat_map (piece_written maps) pieces
+
+abbrev AreAsPieces : ℕ → List Event → List RowsEvent → List RowsEvent → List Written → Type 0
+AreAsPieces limit maps piece rows ws = cut_written limit maps piece (rows_written rows ++ ws) ≡ pieces_written maps (pieces_on limit piece rows) ++ cut_written limit [] [] ws
+
+rows-passed : (limit : ℕ) (maps : List Event) (p : RowsEvent) (piece : List RowsEvent) (r : RowsEvent) (rows : List RowsEvent) (ws : List Written)
+    → AreAsPieces limit maps (p ∷ piece) (r ∷ rows) ws
+rows-passed limit maps p piece r [] ws = by_case (nat_le (rows_bytes ((p ∷ piece) ++ r ∷ [])) limit) refl
+  where
+    by_case : (b : Bool) → nat_le (rows_bytes ((p ∷ piece) ++ r ∷ [])) limit ≡ b → AreAsPieces limit maps (p ∷ piece) (r ∷ []) ws
+    by_case true is = rw is (simp append_assoc)
+    by_case false is = rw is (simp append_assoc)
+rows-passed limit maps p piece r (s ∷ rows) ws =
+    by_case (nat_le (rows_bytes ((p ∷ piece) ++ r ∷ [])) limit) refl (rows-passed limit maps p (piece ++ r ∷ []) s rows ws) (rows-passed limit maps r [] s rows ws)
+  where
+    by_case : (b : Bool) → nat_le (rows_bytes ((p ∷ piece) ++ r ∷ [])) limit ≡ b → AreAsPieces limit maps ((p ∷ piece) ++ r ∷ []) (s ∷ rows) ws → AreAsPieces limit maps (r ∷ []) (s ∷ rows) ws
+        → AreAsPieces limit maps (p ∷ piece) (r ∷ s ∷ rows) ws
+    by_case true is more anew = rw is more
+    by_case false is more anew = rw is (ap (λ (es : List Written). piece_written maps (p ∷ piece) ++ es) anew ∙ sym (append_assoc (piece_written maps (p ∷ piece)) _ (cut_written limit [] [] ws)))
+
+-- all rows events of a statement
+all-passed : (limit : ℕ) (maps : List Event) (r : RowsEvent) (rows : List RowsEvent) (ws : List Written)
+    → cut_written limit maps [] (rows_written (r ∷ rows) ++ ws) ≡ pieces_written maps (pieces_of limit (r ∷ rows)) ++ cut_written limit [] [] ws
+all-passed limit maps r [] ws = simp append_assoc
+all-passed limit maps r (s ∷ rows) ws = rows-passed limit maps r [] s rows ws
+
+-- a statement
+statement-passed : (limit : ℕ) (s : Statement) (r : RowsEvent) (rows : List RowsEvent) (ws : List Written) → s.rows ≡ r ∷ rows
+    → cut_written limit [] [] (statement_written s ++ ws) ≡ flat_map statement_written (cut_statement limit s) ++ cut_written limit [] [] ws
+statement-passed limit s r rows ws some =
+    ap (cut_written limit [] []) (append_assoc (map Maps s.maps) (rows_written s.rows) ws)
+    ∙ maps-passed limit [] s.maps (rows_written s.rows ++ ws)
+    ∙ subst (λ (rs : List RowsEvent). cut_written limit s.maps [] (rows_written rs ++ ws) ≡ pieces_written s.maps (pieces_of limit rs) ++ cut_written limit [] [] ws) (sym some) (all-passed limit s.maps r rows ws)
+    ∙ ap (λ (es : List Written). es ++ cut_written limit [] [] ws) (sym (flat_map-map statement_written (piece_statement s) (pieces_of limit s.rows)))
+
+-- statements
+statements-passed : (Known : Event → Type 0) (limit : ℕ) (ss : List Statement) (ws : List Written) → AllByRecursion (IsStatement Known) ss
+    → cut_written limit [] [] (flat_map statement_written ss ++ ws) ≡ flat_map statement_written (flat_map (cut_statement limit) ss) ++ cut_written limit [] [] ws
+statements-passed Known limit [] ws are = refl
+statements-passed Known limit (s ∷ ss) ws are =
+    let some = are.0.some in
+    let own = flat_map statement_written (cut_statement limit s) in
+    ap (cut_written limit [] []) (append_assoc (statement_written s) (flat_map statement_written ss) ws)
+    ∙ statement-passed limit s some.0 some.1 (flat_map statement_written ss ++ ws) some.2
+    ∙ ap (λ (es : List Written). own ++ es) (statements-passed Known limit ss ws are.1)
+    ∙ sym (append_assoc own (flat_map statement_written (flat_map (cut_statement limit) ss)) (cut_written limit [] [] ws))
+    ∙ ap (λ (es : List Written). es ++ cut_written limit [] [] ws) (sym (flat_map-append statement_written (cut_statement limit s) (flat_map (cut_statement limit) ss)))
+
+-- a transaction
+transaction-passed : (Known : Event → Type 0) (limit : ℕ) (t : Transaction) (ws : List Written) → IsTransaction Known t
+    → cut_written limit [] [] (transaction_written t ++ ws) ≡ transaction_written (cut_transaction limit t) ++ cut_written limit [] [] ws
+transaction-passed Known limit t ws is =
+    let cut = flat_map statement_written (flat_map (cut_statement limit) t.statements) in
+    ap (λ (es : List Written). Same t.begin ∷ es)
+    (ap (cut_written limit [] []) (append_assoc (flat_map statement_written t.statements) (Same t.end ∷ []) ws)
+    ∙ statements-passed Known limit t.statements (Same t.end ∷ ws) is.statements_formed
+    ∙ sym (append_assoc cut (Same t.end ∷ []) (cut_written limit [] [] ws)))
+
+-- groups
+pub cut-of-groups : (Known : Event → Type 0) (limit : ℕ) (ts : List Transaction) → AreGroups Known ts → cut_written limit [] [] (groups_written ts) ≡ groups_written (cut_groups limit ts)
+cut-of-groups Known limit [] are = refl
+cut-of-groups Known limit (t ∷ ts) are =
+    transaction-passed Known limit t (groups_written ts) are.0 ∙ ap (λ (es : List Written). transaction_written (cut_transaction limit t) ++ es) (cut-of-groups Known limit ts are.1)
+
+-- ---- groups can be cut
+
+distinct-front : {A : Type 0} (same : A → A → Bool) (xs ys : List A) → IsDistinct same (xs ++ ys) → IsDistinct same xs
+unfolding IsDistinct
+distinct-front same [] ys distinct = tt
+distinct-front same (x ∷ xs) ys distinct = ((all-parts (λ y. same x y ≡ false) xs ys distinct.0).0, distinct-front same xs ys distinct.1)
+
+-- maps that come first among those of a statement
+apart-front : (front behind all : List Event) → front ++ behind ≡ all → AreApart all → AreApart front
+apart-front front behind all are apart =
+    let id : Event → List ℕ = λ m. table_id m.body in
+    distinct-front bytes_eq (map id front) (map id behind) (subst (IsDistinct bytes_eq) (sym (ap (map id) are) ∙ map-append id front behind) apart)
+
+-- maps of a statement, which has all of these
+maps-can : (most : Most) (before maps all : List Event) (ws : List Written) → before ++ maps ≡ all → AreApart all → length all ≤ most.maps → CanBeCut most all 0 ws
+    → CanBeCut most before 0 (map Maps maps ++ ws)
+maps-can most before [] all ws are apart few can = subst (λ (ms : List Event). CanBeCut most ms 0 ws) (sym are ∙ append-nil before) can
+maps-can most before (m ∷ maps) all ws are apart few can =
+    let next = append_assoc before (m ∷ []) maps ∙ are in
+    (omega (arith, ap length are, length-append before (m ∷ maps)), apart-front (before ++ m ∷ []) maps all next apart, maps-can most (before ++ m ∷ []) maps all ws next apart few can)
+
+-- its rows events, behind so many
+rows-can : (most : Most) (maps : List Event) (n : ℕ) (r : RowsEvent) (rows : List RowsEvent) (ws : List Written) → n + length (r ∷ rows) ≤ most.rows → CanBeCut most [] 0 ws
+    → CanBeCut most maps n (rows_written (r ∷ rows) ++ ws)
+rows-can most maps n r [] ws few can = (omega arith, can)
+rows-can most maps n r (s ∷ rows) ws few can = (omega arith, rows-can most maps (n + 1) s rows ws (omega arith) can)
+
+abbrev pub HasAtMost : Most → Statement → Type 0
+HasAtMost most s = (length s.maps ≤ most.maps) × (length s.rows ≤ most.rows)
+
+-- statements
+statements-can : (Known : Event → Type 0) (most : Most) (ss : List Statement) (ws : List Written) → AllByRecursion (IsStatement Known) ss → AllByRecursion (HasAtMost most) ss → CanBeCut most [] 0 ws
+    → CanBeCut most [] 0 (flat_map statement_written ss ++ ws)
+statements-can Known most [] ws are few can = can
+statements-can Known most (s ∷ ss) ws are few can =
+    let some = are.0.some in
+    let later = flat_map statement_written ss ++ ws in
+    let short : 0 + length (some.0 ∷ some.1) ≤ most.rows = subst (λ (rs : List RowsEvent). 0 + length rs ≤ most.rows) some.2 (omega (arith, few.0.1)) in
+    let rows = rows-can most s.maps 0 some.0 some.1 later short (statements-can Known most ss ws are.1 few.1 can) in
+    let own = maps-can most [] s.maps s.maps (rows_written s.rows ++ later) refl are.0.distinct few.0.0 (subst (λ (rs : List RowsEvent). CanBeCut most s.maps 0 (rows_written rs ++ later)) (sym some.2) rows) in
+    subst (CanBeCut most [] 0) (sym (append_assoc (statement_written s) (flat_map statement_written ss) ws ∙ append_assoc (map Maps s.maps) (rows_written s.rows) later)) own
+
+-- groups
+pub groups-can-be-cut : (Known : Event → Type 0) (most : Most) (ts : List Transaction) → AreGroups Known ts → AllByRecursion (λ (t : Transaction). AllByRecursion (HasAtMost most) t.statements) ts
+    → CanBeCut most [] 0 (groups_written ts)
+groups-can-be-cut Known most [] are few = tt
+groups-can-be-cut Known most (t ∷ ts) are few =
+    subst (CanBeCut most [] 0) (sym (append_assoc (flat_map statement_written t.statements) (Same t.end ∷ []) (groups_written ts)))
+    (statements-can Known most t.statements (Same t.end ∷ groups_written ts) are.0.statements_formed few.0 (groups-can-be-cut Known most ts are.1 few.1))
+
+-- ---- rows events among written events
+
+-- no more than there are events
+rows-within : (n : ℕ) (ws : List Written) → length (rows_of (take n ws)) ≤ n
+rows-within zero ws = omega arith
+rows-within (suc n) [] = omega arith
+rows-within (suc n) (Same e ∷ ws) = let others = rows-within n ws in omega arith
+rows-within (suc n) (Maps m ∷ ws) = let others = rows-within n ws in omega arith
+rows-within (suc n) (Changes r last ∷ ws) = let others = rows-within n ws in omega arith
+
+-- where all of them are rows events, the first is
+pub rows-first : (n : ℕ) (ws : List Written) → length (rows_of (take (n + 1) ws)) ≡ n + 1
+    → (r : RowsEvent) × (last : Bool) × (behind : List Written) × (ws ≡ Changes r last ∷ behind) × (length (rows_of (take n behind)) ≡ n)
+rows-first n [] all = absurd (omega (arith, rw add-one at all))
+rows-first n (Same e ∷ ws) all = absurd (omega (arith, rows-within n ws, rw add-one at all))
+rows-first n (Maps m ∷ ws) all = absurd (omega (arith, rows-within n ws, rw add-one at all))
+rows-first n (Changes r last ∷ ws) all = (r, last, ws, refl, omega (arith, rw add-one at all))
+
+-- one more
+rows-next : (n : ℕ) (ws : List Written) (r : RowsEvent) (last : Bool) (behind : List Written) → drop n ws ≡ Changes r last ∷ behind
+    → (rows_of (take (suc n) ws) ≡ rows_of (take n ws) ++ r ∷ []) × (drop (suc n) ws ≡ behind)
+rows-next zero ws r last behind here = (ap (λ (es : List Written). rows_of (take 1 es)) here, ap (drop 1) here)
+rows-next (suc n) [] r last behind here = absurd (cc here)
+rows-next (suc n) (Same e ∷ ws) r last behind here = rows-next n ws r last behind here
+rows-next (suc n) (Maps m ∷ ws) r last behind here = rows-next n ws r last behind here
+rows-next (suc n) (Changes s b ∷ ws) r last behind here = let more = rows-next n ws r last behind here in (ap (λ (rows : List RowsEvent). s ∷ rows) more.0, more.1)
+
+pub rows-more : (n : ℕ) (ws : List Written) (r : RowsEvent) (last : Bool) (behind : List Written) → drop n ws ≡ Changes r last ∷ behind → length (rows_of (take n ws)) ≡ n
+    → (rows_of (take (n + 1) ws) ≡ rows_of (take n ws) ++ r ∷ []) × (length (rows_of (take (n + 1) ws)) ≡ n + 1) × (drop (n + 1) ws ≡ behind)
+rows-more n ws r last behind here all =
+    let more = rows-next n ws r last behind here in
+    rw add-one (more.0, omega (arith, ap length more.0, length-append (rows_of (take n ws)) (r ∷ []), all), more.1)
+
+-- the first of a piece, with the end flag where it is the last
+pub written-first : (r : RowsEvent) (rows : List RowsEvent) → rows_written (r ∷ rows) ≡ Changes r (length rows == 0) ∷ rows_written rows
+written-first r [] = refl
+written-first r (s ∷ rows) = ap (λ (last : Bool). Changes r last ∷ rows_written (s ∷ rows)) (sym (eqb-suc-zero (length rows)))
