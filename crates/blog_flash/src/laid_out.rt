@@ -37,6 +37,7 @@ pub fn front<'a, A: Allocator>(index: &Index<'a, '_, A>) -> &'a [u8]
 
 /// Appends the events.
 fn put_events<'a, A: Allocator, E: WrittenEvents<'a>>(out: &mut Vec<u8, A>, events: &mut E)
+    requires events { E.can_next events.old }
     requires room { end_of (vec_len out.old) (map event_written (E.to_come events.old)) ≤ vec_capacity out.old }
     requires short { end_of (vec_len out.old) (map event_written (E.to_come events.old)) ≤ 4294967295 }
     ensures { out.new.items ≡ out.old.items ++ text_from (vec_len out.old) (map event_written (E.to_come events.old)) }
@@ -54,6 +55,7 @@ pub fn lay_out<'a, A: Allocator, E: WrittenEvents<'a>>(
     events: &mut E,
     sizes: LogSizes,
 ) -> Result<Vec<u8, A>, AllocError>
+    requires events { E.can_next events.old }
     requires sizes { HasSizes (length front.now) (map event_written (E.to_come events.old)) sizes }
     ensures text { IfOk result (λ text. text.items ≡ front.now ++ text_from (length front.now) (map event_written (E.to_come events.old))) }
 {

@@ -53,7 +53,8 @@ fn body_len(event: &SkippedEvent<'_>) -> usize
 /// Returns the sizes of a log with a front of `front_len` bytes and these events after it, or `None` if it would have more than
 /// 4,294,967,295 bytes.
 pub fn sizes_of<'a, E: WrittenEvents<'a>>(front_len: usize, events: &mut E) -> Option<LogSizes>
-    requires { front_len ≤ 4294967295 }
+    requires front { front_len ≤ 4294967295 }
+    requires events { E.can_next events.old }
     ensures { Measures front_len (map event_written (E.to_come events.old)) result }
 {
     let mut sizes = LogSizes {

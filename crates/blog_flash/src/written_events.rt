@@ -1,6 +1,6 @@
 //! Sources of events to write.
 
-ghost use Rattle.std.specs.Prelude.{◌≡◌, List, map};
+ghost use Rattle.std.specs.Prelude.{◌≡◌, List, map, ⊤};
 
 use crate::written_event::{WrittenEvent, WrittenRows};
 use blog_row::Order;
@@ -17,13 +17,20 @@ pub trait WrittenEvents<'a> {
     // The events that are still to come, as values.
     ghost to_come: { Self → List Written };
 
+    // What must hold of a source, and holds of each that is made.
+    ghost can_next: { Self → Type 0 };
+
     /// Returns the next event, if one is left.
     fn next_event(&mut self) -> Option<WrittenEvent<'a>>
-        ensures first { YieldsFirstBy written_told to_come self.old result self.new };
+        requires { can_next self.old }
+        ensures first { YieldsFirstBy written_told to_come self.old result self.new }
+        ensures can { can_next self.new };
 
     /// Skips the next event, if one is left. Returns what is known of it without its map and its rows.
     fn skip_event(&mut self) -> Option<SkippedEvent<'a>>
-        ensures { Skips to_come self.old result self.new };
+        requires { can_next self.old }
+        ensures first { Skips to_come self.old result self.new }
+        ensures can { can_next self.new };
 }
 
 /// The events of the groups of an index, in one of the two orders.
@@ -54,6 +61,8 @@ impl<'i, 'a, 's, A: Allocator> WrittenEvents<'a> for WrittenGroups<'i, 'a, 's, A
     ghost use Rattle.blog_flash.specs.code.WrittenGroupsView.{groups_to_come};
 
     ghost to_come = { groups_to_come };
+
+    ghost can_next = { λ groups. ⊤ };
 
     #[inline(always)]
     fn next_event(&mut self) -> Option<WrittenEvent<'a>> {

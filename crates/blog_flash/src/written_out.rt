@@ -29,6 +29,7 @@ fn write_events<'a, A: Allocator, E: WrittenEvents<'a>, W: Write>(
     chunk: &mut Vec<u8, A>,
     events: &mut E,
 ) -> Result<(), RunFault>
+    requires events { E.can_next events.old }
     requires room { AllByRecursion (λ e. event_size e ≤ vec_capacity chunk.old) (map event_written (E.to_come events.old)) }
     requires short { end_of (vec_len chunk.old) (map event_written (E.to_come events.old)) ≤ 4294967295 }
     ensures written { OnOk result (Appends (W.contents (device_of writer.old)) (W.contents (device_of writer.new))
@@ -59,6 +60,7 @@ pub fn write_out<'a, A: Allocator, E: WrittenEvents<'a>, W: Write>(
     writer: &mut Watched<W>,
     chunk_len: usize,
 ) -> Result<(), RunFault>
+    requires events { E.can_next events.old }
     requires sizes { AreWithin (length front.now) (map event_written (E.to_come events.old)) sizes }
     ensures written { IsWritten (W.contents (device_of writer.old)) (W.contents (device_of writer.new))
         (front.now ++ text_from (length front.now) (map event_written (E.to_come events.old))) result }

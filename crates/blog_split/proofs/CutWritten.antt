@@ -9,10 +9,11 @@ use Rattle.std.proofs.lemmas.List.Concat.{flat_map-append}
 use Rattle.std.proofs.lemmas.List.Folds.{flat_map-map}
 use Rattle.blog_event.specs.Event.{Event, event_size}
 use Rattle.blog_row.specs.RowsEvent.{table_id}
+use Rattle.blog_row.proofs.NameLemmas.{names_found}
 use Rattle.blog_trans.specs.Groups.{RowsEvent, Statement, Transaction}
 use Rattle.blog_flash.specs.Texts.{rows_event}
 use Rattle.blog_flash.specs.Written.{Written, Same, Maps, Changes, rows_written, statement_written, transaction_written, groups_written}
-use Rattle.blog_flash.proofs.Formed.{IsStatement, IsTransaction, AreGroups}
+use Rattle.blog_flash.proofs.Formed.{IsMapEvent, IsRowsEvent, IsStatement, IsTransaction, AreGroups}
 use Rattle.blog_split.specs.Cuts.{is_used_by, rows_bytes, piece_statement}
 use Rattle.blog_split.specs.declared.most.Most.{Most}
 use Rattle.blog_split.specs.code.Greedy.{pieces_on, pieces_of, cut_statement, cut_transaction, cut_groups}
@@ -168,19 +169,24 @@ apart-front front behind all are apart =
     let id : Event → List ℕ = λ m. table_id m.body in
     distinct-front bytes_eq (map id front) (map id behind) (subst (IsDistinct bytes_eq) (sym (ap (map id) are) ∙ map-append id front behind) apart)
 
+-- a map has a table id
+map-long : (Known : Event → Type 0) (m : Event) → IsMapEvent Known m → 6 ≤ length m.body
+map-long Known m is = let has = names_found m.body is.names.0 is.names.1 in omega (arith, ap length has.text, length-append is.names.0.id, has.id_len)
+
 -- maps of a statement, which has all of these
-maps-can : (most : Most) (before maps all : List Event) (ws : List Written) → before ++ maps ≡ all → AreApart all → length all ≤ most.maps → CanBeCut most all 0 ws
-    → CanBeCut most before 0 (map Maps maps ++ ws)
-maps-can most before [] all ws are apart few can = subst (λ (ms : List Event). CanBeCut most ms 0 ws) (sym are ∙ append-nil before) can
-maps-can most before (m ∷ maps) all ws are apart few can =
+maps-can : (Known : Event → Type 0) (most : Most) (before maps all : List Event) (ws : List Written) → AllByRecursion (IsMapEvent Known) maps → before ++ maps ≡ all → AreApart all → length all ≤ most.maps
+    → CanBeCut most all 0 ws → CanBeCut most before 0 (map Maps maps ++ ws)
+maps-can Known most before [] all ws formed are apart few can = subst (λ (ms : List Event). CanBeCut most ms 0 ws) (sym are ∙ append-nil before) can
+maps-can Known most before (m ∷ maps) all ws formed are apart few can =
     let next = append_assoc before (m ∷ []) maps ∙ are in
-    (omega (arith, ap length are, length-append before (m ∷ maps)), apart-front (before ++ m ∷ []) maps all next apart, maps-can most (before ++ m ∷ []) maps all ws next apart few can)
+    (map-long Known m formed.0, omega (arith, ap length are, length-append before (m ∷ maps)), apart-front (before ++ m ∷ []) maps all next apart,
+     maps-can Known most (before ++ m ∷ []) maps all ws formed.1 next apart few can)
 
 -- its rows events, behind so many
-rows-can : (most : Most) (maps : List Event) (n : ℕ) (r : RowsEvent) (rows : List RowsEvent) (ws : List Written) → n + length (r ∷ rows) ≤ most.rows → CanBeCut most [] 0 ws
-    → CanBeCut most maps n (rows_written (r ∷ rows) ++ ws)
-rows-can most maps n r [] ws few can = (omega arith, can)
-rows-can most maps n r (s ∷ rows) ws few can = (omega arith, rows-can most maps (n + 1) s rows ws (omega arith) can)
+rows-can : (maps own : List Event) (most : Most) (n : ℕ) (r : RowsEvent) (rows : List RowsEvent) (ws : List Written) → AllByRecursion (IsRowsEvent own) (r ∷ rows) → n + length (r ∷ rows) ≤ most.rows
+    → CanBeCut most [] 0 ws → CanBeCut most maps n (rows_written (r ∷ rows) ++ ws)
+rows-can maps own most n r [] ws formed few can = (formed.0.content.2.id_len, omega arith, can)
+rows-can maps own most n r (s ∷ rows) ws formed few can = (formed.0.content.2.id_len, omega arith, rows-can maps own most (n + 1) s rows ws formed.1 (omega arith) can)
 
 abbrev pub HasAtMost : Most → Statement → Type 0
 HasAtMost most s = (length s.maps ≤ most.maps) × (length s.rows ≤ most.rows)
@@ -193,8 +199,8 @@ statements-can Known most (s ∷ ss) ws are few can =
     let some = are.0.some in
     let later = flat_map statement_written ss ++ ws in
     let short : 0 + length (some.0 ∷ some.1) ≤ most.rows = subst (λ (rs : List RowsEvent). 0 + length rs ≤ most.rows) some.2 (omega (arith, few.0.1)) in
-    let rows = rows-can most s.maps 0 some.0 some.1 later short (statements-can Known most ss ws are.1 few.1 can) in
-    let own = maps-can most [] s.maps s.maps (rows_written s.rows ++ later) refl are.0.distinct few.0.0 (subst (λ (rs : List RowsEvent). CanBeCut most s.maps 0 (rows_written rs ++ later)) (sym some.2) rows) in
+    let rows = rows-can s.maps s.maps most 0 some.0 some.1 later (subst (AllByRecursion (IsRowsEvent s.maps)) some.2 are.0.rows_formed) short (statements-can Known most ss ws are.1 few.1 can) in
+    let own = maps-can Known most [] s.maps s.maps (rows_written s.rows ++ later) are.0.maps_formed refl are.0.distinct few.0.0 (subst (λ (rs : List RowsEvent). CanBeCut most s.maps 0 (rows_written rs ++ later)) (sym some.2) rows) in
     subst (CanBeCut most [] 0) (sym (append_assoc (statement_written s) (flat_map statement_written ss) ws ∙ append_assoc (map Maps s.maps) (rows_written s.rows) later)) own
 
 -- groups

@@ -2,5 +2,6 @@
 pub mod Greedy
 pub mod Marks
 pub mod CutView
+pub mod Ahead
 pub mod CutWritten
 pub mod Sizes

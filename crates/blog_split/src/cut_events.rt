@@ -1,20 +1,27 @@
 //! The statements of events to write, cut into smaller ones.
 
-ghost use Rattle.std.specs.Prelude.{◌≡◌, ◌<◌, ◌≤◌, true, false, [], Some, length, map, drop, take, IfOk, IfErr, vec_len, vec_capacity};
+ghost use Rattle.std.specs.Prelude.{◌≡◌, ◌+◌, ◌<◌, ◌≤◌, nat_le, true, false, [], length, map, drop, take, IfOk, IfErr, vec_len, vec_capacity};
 ghost use Rattle.std.specs.List.{All};
 ghost use Rattle.std.specs.List.Sorted.{IsNonDecreasingBy};
 ghost use Rattle.std.proofs.Props.{props};
-ghost use Rattle.blog_split.specs.code.CutView.{IsAhead, maps_left};
+ghost use Rattle.blog_split.specs.code.Ahead.{IsAhead, maps_left};
 ghost use Rattle.blog_split.specs.code.CutWritten.{AreApart, CanBeCut, rows_of};
 ghost use Rattle.blog_split.specs.code.Marks.{AreListed, event_told};
 
 use crate::fault::SplitFault;
 use crate::most::Most;
-use crate::used_maps::{MapId, id_of, mark, number_of, push_map};
+use crate::used_maps::{MapId, id_of, mark, number_of, push_map, sort_ids};
 use blog_event::{Event, Fault, HEADER_LEN};
 use blog_flash::{WrittenEvent, WrittenEvents, WrittenRows};
 use blog_trans::{SkippedEvent, SkippedRows};
 use std::alloc::Allocator;
+
+/// Whether a rows event with a body of `body_len` bytes fits into the bytes that are left.
+fn has_room(left: usize, body_len: usize) -> bool
+    ensures { result ≡ nat_le (19 + body_len) left }
+{
+    left >= HEADER_LEN && left - HEADER_LEN >= body_len
+}
 
 /// What comes next of cut events.
 #[derive(Clone, Copy, Debug)]
@@ -64,7 +71,8 @@ impl<'a, E: WrittenEvents<'a> + Drop, A: Allocator> CutEvents<'a, E, A> {
     ghost use Rattle.blog_event.specs.declared.fault.Fault.TheVariants.{OutOfMemory};
     ghost use Rattle.blog_flash.specs.code.Skipping.{Skips};
     ghost use Rattle.blog_split.specs.declared.fault.SplitFault.TheVariants as SplitFault;
-    ghost use Rattle.blog_split.specs.code.CutView.{GivesCut, HasMap, HasRows, IsReady, MarksPiece, cut_to_come};
+    ghost use Rattle.blog_split.specs.code.CutView.{GivesCut, GivesMap, HasMap, HasRows, IsReady, MarksPiece, cut_to_come};
+    ghost use Rattle.blog_split.specs.declared.cut_events.Coming.TheVariants as Coming;
     ghost use Rattle.blog_split.specs.code.CutWritten.{cut_written};
 
     /// Cuts the statements of `events`. `ahead` must give the same events. Each statement of them must have its maps apart, and
@@ -184,7 +192,7 @@ impl<'a, E: WrittenEvents<'a> + Drop, A: Allocator> CutEvents<'a, E, A> {
         self.used.clear();
         self.given = 0;
         if !self.is_sorted {
-            self.ids.sort_unstable_by_key(|map| map.id);
+            sort_ids(&mut self.ids);
             self.is_sorted = true;
         }
         self.mark_piece();

@@ -1,6 +1,11 @@
 //! Laying out a log whose statements are cut, in memory.
 
-ghost use Rattle.std.specs.Prelude.{◌≡◌, ◌≤◌};
+ghost use Rattle.std.specs.Prelude.{◌≡◌, ◌≤◌, IfOk, IfErr};
+ghost use Rattle.blog_event.specs.declared.fault.Fault.TheVariants.{OutOfMemory};
+ghost use Rattle.blog_flash.specs.Written.{groups_written};
+ghost use Rattle.blog_flash.specs.code.WrittenGroupsView.{groups_to_come};
+ghost use Rattle.blog_split.specs.declared.fault.SplitFault.TheVariants as SplitFault;
+ghost use Rattle.blog_split.specs.code.CutView.{cut_to_come};
 ghost use Rattle.blog_flash.specs.Texts.{group_events};
 ghost use Rattle.blog_trans.specs.Groups.{groups};
 ghost use Rattle.blog_trans.specs.code.IndexView.{index_bytes, index_selection};
@@ -10,10 +15,26 @@ ghost use Rattle.blog_split.specs.Splitting.{LaysOut, Splits};
 
 use crate::cut_events::CutEvents;
 use crate::fault::SplitFault;
+use crate::most::most_of;
 use blog_event::Fault;
-use blog_flash::{LogSizes, front, lay_out, selected, sizes_of};
+use blog_flash::{LogSizes, WrittenGroups, front, lay_out, selected, sizes_of};
+use blog_row::Order;
 use blog_trans::{Index, Selection};
 use std::alloc::Allocator;
+
+/// Returns the events of the groups of an index, their statements cut. Fails with `Log(OutOfMemory)` if memory was refused.
+pub(crate) fn cut_groups_of<'i, 'a, 's, A: Allocator + Copy, B: Allocator>(
+    alloc: A,
+    index: &'i Index<'a, 's, B>,
+    limit: usize,
+) -> Result<CutEvents<'a, WrittenGroups<'i, 'a, 's, B>, A>, SplitFault>
+    ensures left { IfOk result (λ cut. cut_to_come groups_to_come cut ≡ groups_written (cut_groups limit (groups (index_bytes index.now) (index_selection index.now)))) }
+    ensures refused { IfErr result (λ fault. fault ≡ SplitFault.Log OutOfMemory) }
+{
+    let events = WrittenGroups::new(index, Order::Forward);
+    let ahead = WrittenGroups::new(index, Order::Forward);
+    CutEvents::new(alloc, most_of(index), limit, events, ahead)
+}
 
 /// Returns the sizes of the cut log of an index, with a front of `front_len` bytes. Fails with `TooLong` if it is too large for a
 /// log, and with `Log(OutOfMemory)` if memory was refused.
@@ -26,7 +47,7 @@ pub(crate) fn measured<A: Allocator + Copy, B: Allocator>(
     requires { front_len ≤ 4294967295 }
     ensures { IsMeasured front_len (group_events (cut_groups limit (groups (index_bytes index.now) (index_selection index.now)))) result }
 {
-    let mut events = CutEvents::new(alloc, index, limit)?;
+    let mut events = cut_groups_of(alloc, index, limit)?;
     match sizes_of(front_len, &mut events) {
         Some(sizes) => Ok(sizes),
         None => Err(SplitFault::TooLong),
@@ -43,7 +64,7 @@ fn lay_out_cut<A: Allocator + Copy, B: Allocator>(
 {
     let front = front(index);
     let sizes = measured(alloc, index, limit, front.len())?;
-    let mut events = CutEvents::new(alloc, index, limit)?;
+    let mut events = cut_groups_of(alloc, index, limit)?;
     match lay_out(alloc, front, &mut events, sizes) {
         Ok(text) => Ok(text),
         Err(_) => Err(SplitFault::Log(Fault::OutOfMemory)),

@@ -6,7 +6,6 @@ mod cut_log;
 mod fault;
 mod laws;
 mod most;
-mod piece;
 mod used_maps;
 mod written_cut;
 

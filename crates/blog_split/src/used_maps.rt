@@ -1,10 +1,11 @@
 //! The maps of a statement by their table ids, and the marks of those that its rows events use.
 
-ghost use Rattle.std.specs.Prelude.{◌≡◌, ◌+◌, ◌<◌, ◌≤◌, [], ◌∷◌, ◌++◌, length, map, option_to_list, vec_len, vec_capacity};
+ghost use Rattle.std.specs.Prelude.{◌≡◌, ◌+◌, ◌<◌, ◌≤◌, List, [], ◌∷◌, ◌++◌, length, map, option_to_list, vec_len, vec_capacity};
 ghost use Rattle.std.specs.List.Sorted.{IsNonDecreasingBy};
+ghost use Rattle.blog_event.specs.Event as value;
 ghost use Rattle.blog_event.specs.File.{AreBytes};
 ghost use Rattle.blog_row.specs.RowsEvent.{table_id};
-ghost use Rattle.blog_split.specs.code.Marks.{AreListed, IsFound, event_told, id_number};
+ghost use Rattle.blog_split.specs.code.Marks.{AreListed, IsFound, IsTable, event_told, id_number};
 
 use blog_event::Event;
 use byteorder::{ByteOrder, LittleEndian};
@@ -47,6 +48,14 @@ pub(crate) fn push_map<'a, A: Allocator>(
     let number = maps.len();
     ids.push(MapId { id, number }).unwrap();
     maps.push(event).unwrap();
+}
+
+/// Sorts the maps of a statement by their table ids.
+pub(crate) fn sort_ids(ids: &mut [MapId])
+    ensures table { (maps : List value.Event) → AreListed maps ids.old → IsTable maps ids.new }
+    ensures len { length ids.new ≡ length ids.old }
+{
+    ids.sort_unstable_by_key(|map| map.id);
 }
 
 /// The number of the map with a table id, if there is one.

@@ -9,8 +9,7 @@ ghost use Rattle.blog_flash.specs.Texts.{laid_out_after};
 ghost use Rattle.blog_split.specs.code.Greedy.{cut_groups};
 ghost use Rattle.blog_split.specs.SplittingTo.{IsCutWritten, SplitsTo, ends_before_writing, is_writing_fault};
 
-use crate::cut_events::CutEvents;
-use crate::cut_log::measured;
+use crate::cut_log::{cut_groups_of, measured};
 use crate::fault::{SplitFault, SplitRunFault};
 use blog_device::{RunFault, Watched};
 use blog_flash::{CHUNK_LEN, front, selected, write_out};
@@ -37,7 +36,7 @@ fn write_cut<A: Allocator + Copy, B: Allocator, W: Write>(
         Ok(sizes) => sizes,
         Err(fault) => return Err(SplitRunFault::Split(fault)),
     };
-    let mut events = match CutEvents::new(alloc, index, limit) {
+    let mut events = match cut_groups_of(alloc, index, limit) {
         Ok(events) => events,
         Err(fault) => return Err(SplitRunFault::Split(fault)),
     };

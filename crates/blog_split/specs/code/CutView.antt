@@ -1,64 +1,61 @@
--- What a contract sees of the events of a log whose statements are cut.
-use Rattle.std.specs.Prelude.{◌≡◌, ℕ, ◌<◌, ◌≤◌, true, false, vec_len, List, [], ◌∷◌, ◌++◌, map, drop, if◌then◌else◌, Option, slice_get}
-use Rattle.std.specs.Option.{option_map_or}
-use Rattle.std.specs.List.{flat_map}
+-- What a contract sees of events whose statements are cut.
+use Rattle.std.specs.Prelude.{◌≡◌, ℕ, ◌<◌, ◌≤◌, Bool, true, false, vec_len, List, [], ◌∷◌, ◌++◌, map, drop, take, if◌then◌else◌, Option, Some, None, MatchOption}
 use Rattle.std.specs.Iterator.{YieldsFirstBy}
-use Rattle.blog_event.specs.File.{Placed}
-use Rattle.blog_trans.specs.code.Entries.{statements_at}
-use Rattle.blog_trans.specs.Groups.{PlacedRows, PlacedStatement, PlacedTransaction, event_value, statement_value, transaction_value}
-use Rattle.blog_trans.specs.code.IndexView.{index_groups, maps_in, rows_in}
-use Rattle.blog_flash.specs.Written.{Written, Same, Maps, groups_written, rows_written, statement_written}
+use Rattle.blog_event.specs.declared.event.Event as told
+use Rattle.blog_trans.specs.Groups.{RowsEvent}
+use Rattle.blog_trans.specs.declared.group_events.SkippedEvent.{SkippedEvent}
+use Rattle.blog_trans.specs.declared.group_events.SkippedEvent.TheVariants as over
+use Rattle.blog_trans.specs.declared.group_events.SkippedRows.{SkippedRows}
+use Rattle.blog_flash.specs.Written.{Written, Maps, rows_written}
 use Rattle.blog_flash.specs.code.WrittenView.{written_told}
 use Rattle.blog_flash.specs.declared.written_event.WrittenEvent.{WrittenEvent}
-use Rattle.blog_split.specs.Cuts.{piece_statement}
-use Rattle.blog_split.specs.code.Greedy.{cut_groups, cut_statement, pieces_of, rows_between}
-use Rattle.blog_split.specs.code.Marks.{numbered}
+use Rattle.blog_split.specs.code.Ahead.{maps_left}
+use Rattle.blog_split.specs.code.CutWritten.{cut_written, piece_written, rows_of}
 use Rattle.blog_split.specs.declared.cut_events.Coming.{Coming}
-use Rattle.blog_split.specs.declared.cut_events.Coming.TheVariants.{Begin, Map, Rows, End}
+use Rattle.blog_split.specs.declared.cut_events.Coming.TheVariants as coming
 use Rattle.blog_split.specs.declared.cut_events.CutEvents.{CutEvents}
+use Rattle.blog_split.specs.code.Marks.{AreMarks, event_told, numbered}
 
--- ---- what is left
-
--- a piece of a statement with these maps: those of its maps that have these numbers, and its rows events of these numbers
-abbrev pub piece_left : List Placed → List PlacedRows → List ℕ → ℕ → ℕ → List Written
-piece_left maps rows used row to = map Maps (map event_value (numbered maps used)) ++ rows_written (rows_between row to rows)
-
--- the other pieces of the statement, of its rows events of these numbers
-abbrev pub pieces_behind : ℕ → List Placed → List PlacedRows → ℕ → ℕ → List Written
-pieces_behind limit maps rows from to =
-    flat_map statement_written (map (piece_statement (statement_value (record { maps = maps; rows = rows }))) (pieces_of limit (rows_between from to rows)))
-
--- other statements
-abbrev pub statements_behind : ℕ → List PlacedStatement → List Written
-statements_behind limit ss = flat_map statement_written (flat_map (cut_statement limit) (map statement_value ss))
-
--- the end event of a transaction, none where there is no such one
-abbrev pub end_behind : List PlacedTransaction → ℕ → List Written
-end_behind ts t = option_map_or (λ x. Same (event_value x.end) ∷ []) (slice_get ts t) []
-
--- of the open transaction
-abbrev pub open_left : {A B : Type 0} → CutEvents A B → List Written
-open_left events =
-    let ts = index_groups events.index.now in
-    let maps = maps_in ts events.transaction events.statement in
-    let rows = rows_in ts events.transaction events.statement in
-    piece_left maps rows (drop events.given events.used.items) events.row events.piece_end
-    ++ (pieces_behind events.limit maps rows events.piece_end events.rows
-    ++ (statements_behind events.limit (drop events.next_statement (statements_at ts events.transaction)) ++ end_behind ts events.transaction))
-
--- the events that are still to come
-abbrev pub cut_to_come : {A B : Type 0} → CutEvents A B → List Written
-cut_to_come events =
-    (if events.is_open then open_left events else [])
-    ++ groups_written (cut_groups events.limit (map transaction_value (drop events.next_transaction (index_groups events.index.now))))
+-- the events that are still to come: what the open piece has left, and the others as they are cut
+abbrev pub cut_to_come : {E A : Type 0} → (E → List Written) → CutEvents E A → List Written
+cut_to_come to_come cut =
+    map Maps (numbered (map event_told cut.maps.items) (drop cut.given cut.used.items)) ++ (rows_written (rows_of (take cut.rows (to_come cut.events)))
+    ++ cut_written cut.limit (maps_left cut.is_last cut.maps.items) [] (drop cut.rows (to_come cut.events)))
 
 -- a step gives the first event that is left, and none where none is
-pub record GivesCut {A B : Type 0} (before : CutEvents A B) (event : Option WrittenEvent) (after : CutEvents A B) : Type 0 where
-  pub first : YieldsFirstBy written_told cut_to_come before event after
+pub record GivesCut {E A : Type 0} (to_come : E → List Written) (before : CutEvents E A) (event : Option WrittenEvent) (after : CutEvents E A) : Type 0 where
+  pub first : YieldsFirstBy written_told (cut_to_come to_come) before event after
+
+-- a map
+pub record GivesMap {E A : Type 0} (to_come : E → List Written) (before : CutEvents E A) (event : told.Event) (after : CutEvents E A) : Type 0 where
+  pub first : cut_to_come to_come before ≡ Maps (event_told event) ∷ cut_to_come to_come after
+
+-- the event that was skipped is a map, or a rows event
+abbrev pub HasMap : {E A : Type 0} → CutEvents E A → told.Event → Type 0
+HasMap cut event = cut.next ≡ Some (over.Map event)
+
+abbrev pub HasRows : {E A : Type 0} → CutEvents E A → Type 0
+HasRows cut = (rows : SkippedRows) × (cut.next ≡ Some (over.Rows rows))
+
+-- the open piece has nothing left
+pub record IsThrough {E A : Type 0} (cut : CutEvents E A) : Type 0 where
+  pub maps : vec_len cut.used ≤ cut.given
+  pub rows : cut.rows ≡ 0
 
 -- what comes next is there
-abbrev pub IsReady : {A B : Type 0} → CutEvents A B → Coming → Type 0
-IsReady events Begin = events.is_open ≡ false
-IsReady events Map = (events.is_open ≡ true) × (events.given < vec_len events.used)
-IsReady events Rows = (events.is_open ≡ true) × (vec_len events.used ≤ events.given) × (events.row < events.piece_end)
-IsReady events End = (events.is_open ≡ true) × (vec_len events.used ≤ events.given) × (events.piece_end ≤ events.row) × (events.rows ≤ events.piece_end) × (events.statements ≤ events.next_statement)
+abbrev pub IsReady : {E A : Type 0} → CutEvents E A → Coming → Type 0
+IsReady cut coming.Map = cut.given < vec_len cut.used
+IsReady cut coming.Rows = (vec_len cut.used ≤ cut.given) × (0 < cut.rows)
+IsReady cut coming.Other = IsThrough cut × ((event : told.Event) → HasMap cut event → ⊥) × (HasRows cut → ⊥)
+
+-- the rows events of the next piece are ahead, and their maps are marked
+pub record MarksPiece {E A : Type 0} (to_come : E → List Written) (before after : CutEvents E A) : Type 0 where
+  pub limit : after.limit ≡ before.limit
+  pub events : after.events ≡ before.events
+  pub maps : after.maps ≡ before.maps
+  pub given : after.given ≡ before.given
+  pub some : 0 < after.rows
+  pub marks : AreMarks (map event_told before.maps.items) (rows_of (take after.rows (to_come before.events))) after.used.items
+  pub cut : cut_written before.limit (map event_told before.maps.items) [] (to_come before.events)
+      ≡ piece_written (map event_told before.maps.items) (rows_of (take after.rows (to_come before.events)))
+      ++ cut_written before.limit (maps_left after.is_last before.maps.items) [] (drop after.rows (to_come before.events))

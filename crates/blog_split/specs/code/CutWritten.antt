@@ -1,5 +1,5 @@
 -- Written events whose statements are cut, as they come: what is known of the open statement is what came before.
-use Rattle.std.specs.Prelude.{ℕ, ◌+◌, ◌<◌, Bool, true, false, nat_le, if◌then◌else◌, List, [], ◌∷◌, ◌++◌, length, map, filter, ⊤, bytes_eq}
+use Rattle.std.specs.Prelude.{◌≡◌, ℕ, ◌+◌, ◌<◌, ◌≤◌, Bool, true, false, nat_le, if◌then◌else◌, List, [], ◌∷◌, ◌++◌, length, map, filter, ⊤, bytes_eq}
 use Rattle.std.specs.List.{IsDistinct}
 use Rattle.blog_event.specs.Event.{Event}
 use Rattle.blog_row.specs.RowsEvent.{table_id}
@@ -46,11 +46,17 @@ rows_of (Changes r last ∷ ws) = r ∷ rows_of ws
 abbrev pub AreApart : List Event → Type 0
 AreApart maps = IsDistinct bytes_eq (map (λ m. table_id m.body) maps)
 
+-- a map or a rows event has a table id
+abbrev pub HasId : Written → Type 0
+HasId (Same e) = ⊤
+HasId (Maps m) = 6 ≤ length m.body
+HasId (Changes r last) = length r.content.id ≡ 6
+
 -- behind these maps and so many rows events of an open statement, each statement has its maps apart, and no more maps and rows
 -- events than these
 abbrev pub CanBeCut : Most → List Event → ℕ → List Written → Type 0
 CanBeCut most maps rows [] = ⊤
 CanBeCut most maps rows (Same e ∷ ws) = CanBeCut most [] 0 ws
-CanBeCut most maps rows (Maps m ∷ ws) = (length maps < most.maps) × AreApart (maps ++ m ∷ []) × CanBeCut most (maps ++ m ∷ []) rows ws
-CanBeCut most maps rows (Changes r true ∷ ws) = (rows < most.rows) × CanBeCut most [] 0 ws
-CanBeCut most maps rows (Changes r false ∷ ws) = (rows < most.rows) × CanBeCut most maps (rows + 1) ws
+CanBeCut most maps rows (Maps m ∷ ws) = HasId (Maps m) × (length maps < most.maps) × AreApart (maps ++ m ∷ []) × CanBeCut most (maps ++ m ∷ []) rows ws
+CanBeCut most maps rows (Changes r true ∷ ws) = HasId (Changes r true) × (rows < most.rows) × CanBeCut most [] 0 ws
+CanBeCut most maps rows (Changes r false ∷ ws) = HasId (Changes r false) × (rows < most.rows) × CanBeCut most maps (rows + 1) ws

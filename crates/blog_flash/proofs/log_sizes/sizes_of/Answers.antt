@@ -7,15 +7,16 @@ use Rattle.blog_flash.proofs.Lengths.{total, end-total}
 use Rattle.blog_flash.proofs.log_sizes.sizes_of.Goals as goal
 
 pub events-init : goal.events-init
-events-init g c = record { end = sym (end-total c.args.front_len _); short = c.requires; each = λ room small all. all }
+events-init g c = record { can = c.requires.events; end = sym (end-total c.args.front_len _); short = c.requires.front; each = λ room small all. all }
 
 pub events-preserved : goal.events-preserved
 events-preserved g c =
-    let (w, first, is) = c.in-Some.ensures in
+    let (w, first, is) = c.in-Some.ensures.first in
     let size = c.body_len.ensures w is in
     let next = ap (map event_written) first in
     let longer : IsLonger c.events.sizes c.body_len.result c.in_ok-sizes.sizes = c.in_ok-sizes.ensures in
     record {
+      can = c.in-Some.ensures.can;
       end = omega (arith, ap total next, c.events.invariant.end, longer.len, size);
       short = longer.short;
       each = λ room small all. c.events.invariant.each room (omega (arith, small, longer.largest))
@@ -24,7 +25,7 @@ events-preserved g c =
 
 pub returns : goal.returns
 returns g c =
-    let none = ap (map event_written) c.in_default.ensures.0 in
+    let none = ap (map event_written) c.in_default.ensures.first.0 in
     record {
       len = omega (arith, ap total none, c.events.invariant.end);
       short = c.events.invariant.short;

@@ -9,6 +9,7 @@ use Rattle.blog_flash.proofs.log_sizes.sizes_of.Given as goal
 -- room for the events to come and for the largest so far is room for all
 abbrev pub invariant-events : goal.invariant-events
 invariant-events g l = record {
+  can : g.E.WrittenEvents.can_next l.events;
   end : l.sizes.len + total (map event_written (g.E.WrittenEvents.to_come l.events)) ≡ end_of l.fn.front_len (map event_written (g.E.WrittenEvents.to_come l.fn.events));
   short : l.sizes.len ≤ 4294967295;
   each : (room : ℕ) → l.sizes.largest ≤ room → AllByRecursion (λ e. event_size e ≤ room) (map event_written (g.E.WrittenEvents.to_come l.events))

@@ -15,9 +15,9 @@ use Rattle.blog_flash.proofs.Totals.{groups-fit-room}
 use Rattle.blog_flash.specs.Written.{event_written}
 use Rattle.blog_flash.proofs.runs.write_log.Goals as goal
 
-pub write_out-requires : goal.write_out-requires
+pub write_out-requires-clause-sizes : goal.write_out-requires-clause-sizes
 unfolding groups
-write_out-requires g c k =
+write_out-requires-clause-sizes g c k =
     let index = c.in-Ok.groups in
     let ts = transactions_of c.args.order (index_groups index) in
     let es = ap (map event_written) c.new-events.ensures ∙ events-of-written ts in

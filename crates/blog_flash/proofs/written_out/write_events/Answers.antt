@@ -16,6 +16,7 @@ events-init g c =
     let left = map event_written (g.E.WrittenEvents.to_come c.args.events.now) in
     let here : 0 + vec_len chunk ≡ vec_len chunk = omega arith in
     record {
+      can = c.requires.events;
       way = way-none _ _ _ (ap (λ (n : ℕ). chunk.items ++ text_from n left) here);
       room = c.requires.room;
       short = omega (arith, end-total (vec_len chunk) left, c.requires.short);
@@ -34,6 +35,7 @@ events-preserved g c =
     let (part, appended, split) = c.in_ok-from.ensures.written in
     let room = subst (AllByRecursion (λ e. event_size e ≤ vec_capacity c.args.chunk.now)) next c.events.invariant.room in
     record {
+      can = c.in-Some.ensures.can;
       way = way-event _ _ _ _ _ _ _ part _ _ _ _ _ _ c.events.invariant.way appended split c.in_ok-from.ensures.from next c.put.ensures.items (omega (arith, c.put.ensures.len));
       room = room.1;
       short = omega (arith, ap total next, c.events.invariant.short, c.in_ok-from.ensures.from, c.put.ensures.len);

@@ -12,6 +12,7 @@ use Rattle.blog_flash.proofs.written_out.write_events.Given as goal
 -- what the chunk holds, with the events to come behind it, and each of these has room in the chunk
 abbrev pub invariant-events : goal.invariant-events
 invariant-events g l = record {
+  can : g.E.WrittenEvents.can_next l.events;
   way : IsOnTheWay (g.W.Write.contents (device_of l.fn.writer)) (g.W.Write.contents (device_of l.writer))
       (l.fn.chunk.items ++ text_from (vec_len l.fn.chunk) (map event_written (g.E.WrittenEvents.to_come l.fn.events)))
       (l.chunk.items ++ text_from (l.from + vec_len l.chunk) (map event_written (g.E.WrittenEvents.to_come l.events)));
