@@ -1,4 +1,4 @@
--- What is known of written events whose statements are cut.
+-- Written events whose statements are cut: how a piece goes on and ends, and that groups can be cut and are cut so.
 use Rattle.std.proofs.Common.{◌≡◌, ℕ, zero, suc, ◌+◌, ◌-◌, ◌≤◌, ◌<◌, ◌==◌, Bool, true, false, nat_le, bytes_eq, List, [], ◌∷◌, ◌++◌, length, map, filter, take, drop, refl, sym, ap, subst, ◌∙◌, arith, append-nil, append_assoc, length-append, le-leb}
 use Rattle.std.specs.List.{AllByRecursion, IsDistinct, flat_map}
 use Rattle.std.proofs.Math.Dec.{eqb-suc-zero}
@@ -14,29 +14,30 @@ use Rattle.blog_trans.specs.Groups.{RowsEvent, Statement, Transaction}
 use Rattle.blog_flash.specs.Texts.{rows_event}
 use Rattle.blog_flash.specs.Written.{Written, Same, Maps, Changes, rows_written, statement_written, transaction_written, groups_written}
 use Rattle.blog_flash.proofs.Formed.{IsMapEvent, IsRowsEvent, IsStatement, IsTransaction, AreGroups}
-use Rattle.blog_split.specs.Cuts.{is_used_by, rows_bytes, piece_statement}
+use Rattle.blog_split.specs.Cuts.{is_used_by, rows_bytes}
 use Rattle.blog_split.specs.declared.most.Most.{Most}
 use Rattle.blog_split.specs.code.Greedy.{pieces_on, pieces_of, cut_statement, cut_transaction, cut_groups}
 use Rattle.blog_split.specs.code.CutWritten.{piece_written, has_room, cut_written, rows_of, AreApart, CanBeCut}
 use Rattle.blog_split.proofs.Pieces.{all-parts}
 use Rattle.blog_split.proofs.Small.{rows_bytes-append}
 
--- ---- a piece ends
+-- ---- a piece ends or goes on
 
--- no map is used by no rows event
+-- without rows events no map is used
 none-used : (maps : List Event) → filter (is_used_by []) maps ≡ []
 none-used [] = refl
 none-used (m ∷ maps) = none-used maps
 
-nothing-written : (maps : List Event) → piece_written maps [] ≡ []
+-- and nothing is written
+pub nothing-written : (maps : List Event) → piece_written maps [] ≡ []
 nothing-written maps = ap (λ (ms : List Event). map Maps ms ++ []) (none-used maps)
 
 module _ (limit : ℕ) (maps : List Event) (piece : List RowsEvent) where
-  -- at the end
+  -- it ends with the events
   pub stops-none : cut_written limit maps piece [] ≡ piece_written maps piece ++ cut_written limit maps [] []
   stops-none = sym (ap (λ (es : List Written). piece_written maps piece ++ es) (nothing-written maps) ∙ append-nil (piece_written maps piece))
 
-  -- before `BEGIN` or the end event
+  -- it ends before `BEGIN` or the end event
   pub stops-same : (e : Event) (ws : List Written) → cut_written limit maps piece (Same e ∷ ws) ≡ piece_written maps piece ++ cut_written limit maps [] (Same e ∷ ws)
   stops-same e ws = sym (ap (λ (es : List Written). piece_written maps piece ++ (es ++ Same e ∷ cut_written limit [] [] ws)) (nothing-written maps))
 
@@ -50,13 +51,11 @@ module _ (limit : ℕ) (maps : List Event) (piece : List RowsEvent) where
   stops-full r true ws full = rw full refl
   stops-full r false ws full = rw full refl
 
-  -- ---- a piece goes on
-
-  -- by a rows event that isn't the last of its statement
+  -- it goes on with a rows event that isn't the last of its statement
   pub joins-open : (r : RowsEvent) (ws : List Written) → has_room limit piece r ≡ true → cut_written limit maps piece (Changes r false ∷ ws) ≡ cut_written limit maps (piece ++ r ∷ []) ws
   joins-open r ws room = rw room refl
 
-  -- by the last one
+  -- with the last one it goes on and ends
   pub joins-last : (r : RowsEvent) (ws : List Written) → has_room limit piece r ≡ true
       → cut_written limit maps piece (Changes r true ∷ ws) ≡ piece_written maps (piece ++ r ∷ []) ++ cut_written limit [] [] ws
   joins-last r ws room = rw room refl
@@ -76,9 +75,10 @@ pub room-is : (limit left : ℕ) (piece : List RowsEvent) (r : RowsEvent) → 0 
     → (event_size (rows_event true r) ≤ left → has_room limit piece r ≡ true) × (left < event_size (rows_event true r) → has_room limit piece r ≡ false)
 room-is limit left [] r some is = absurd (omega arith)
 room-is limit left (p ∷ piece) r some is =
-    let bytes = bytes-more (p ∷ piece) r in
-    ((λ (fits : event_size (rows_event true r) ≤ left). le-leb (rows_bytes ((p ∷ piece) ++ r ∷ [])) limit (omega (arith, bytes, is, fits))),
-     (λ (over : left < event_size (rows_event true r)). lt-leb (rows_bytes ((p ∷ piece) ++ r ∷ [])) limit (omega (arith, bytes, is, over))))
+    let bytes = bytes-more (p ∷ piece) r in (
+      (λ (fits : event_size (rows_event true r) ≤ left). le-leb (rows_bytes ((p ∷ piece) ++ r ∷ [])) limit (omega (arith, bytes, is, fits))),
+      (λ (over : left < event_size (rows_event true r)). lt-leb (rows_bytes ((p ∷ piece) ++ r ∷ [])) limit (omega (arith, bytes, is, over))),
+    )
 
 -- ---- cut groups
 
@@ -90,71 +90,61 @@ maps-passed limit before (m ∷ maps) ws =
     ∙ maps-passed limit (before ++ m ∷ []) maps ws
     ∙ ap (λ (ms : List Event). cut_written limit ms [] ws) (append_assoc before (m ∷ []) maps)
 
--- rows events behind a piece are cut as they are into pieces
-abbrev pieces_written : List Event → List (List RowsEvent) → List Written
-pieces_written maps pieces = flat_map (piece_written maps) pieces
+-- rows events behind a piece give it and the pieces behind it
+module _ (limit : ℕ) (maps : List Event) (ws : List Written) where
+  abbrev with_pieces : List (List RowsEvent) → List Written
+  with_pieces pieces = flat_map (piece_written maps) pieces ++ cut_written limit [] [] ws
 
-abbrev AreAsPieces : ℕ → List Event → List RowsEvent → List RowsEvent → List Written → Type 0
-AreAsPieces limit maps piece rows ws = cut_written limit maps piece (rows_written rows ++ ws) ≡ pieces_written maps (pieces_on limit piece rows) ++ cut_written limit [] [] ws
+  abbrev GivesPieces : List RowsEvent → List RowsEvent → Type 0
+  GivesPieces piece rows = cut_written limit maps piece (rows_written rows ++ ws) ≡ with_pieces (pieces_on limit piece rows)
 
-rows-passed : (limit : ℕ) (maps : List Event) (p : RowsEvent) (piece : List RowsEvent) (r : RowsEvent) (rows : List RowsEvent) (ws : List Written)
-    → AreAsPieces limit maps (p ∷ piece) (r ∷ rows) ws
-rows-passed limit maps p piece r [] ws = by_case (nat_le (rows_bytes ((p ∷ piece) ++ r ∷ [])) limit) refl
-  where
-    by_case : (b : Bool) → nat_le (rows_bytes ((p ∷ piece) ++ r ∷ [])) limit ≡ b → AreAsPieces limit maps (p ∷ piece) (r ∷ []) ws
-    by_case true is = rw is (simp append_assoc)
-    by_case false is = rw is (simp append_assoc)
-rows-passed limit maps p piece r (s ∷ rows) ws =
-    by_case (nat_le (rows_bytes ((p ∷ piece) ++ r ∷ [])) limit) refl (rows-passed limit maps p (piece ++ r ∷ []) s rows ws) (rows-passed limit maps r [] s rows ws)
-  where
-    by_case : (b : Bool) → nat_le (rows_bytes ((p ∷ piece) ++ r ∷ [])) limit ≡ b → AreAsPieces limit maps ((p ∷ piece) ++ r ∷ []) (s ∷ rows) ws → AreAsPieces limit maps (r ∷ []) (s ∷ rows) ws
-        → AreAsPieces limit maps (p ∷ piece) (r ∷ s ∷ rows) ws
-    by_case true is more anew = rw is more
-    by_case false is more anew = rw is (ap (λ (es : List Written). piece_written maps (p ∷ piece) ++ es) anew ∙ sym (append_assoc (piece_written maps (p ∷ piece)) _ (cut_written limit [] [] ws)))
+  rows-passed : (p : RowsEvent) (piece : List RowsEvent) (r : RowsEvent) (rows : List RowsEvent) → GivesPieces (p ∷ piece) (r ∷ rows)
+  rows-passed p piece r [] = by_case (nat_le (rows_bytes ((p ∷ piece) ++ r ∷ [])) limit) refl
+    where
+      by_case : (b : Bool) → nat_le (rows_bytes ((p ∷ piece) ++ r ∷ [])) limit ≡ b → GivesPieces (p ∷ piece) (r ∷ [])
+      by_case true is = rw is (simp append_assoc)
+      by_case false is = rw is (simp append_assoc)
+  rows-passed p piece r (s ∷ rows) = by_case (nat_le (rows_bytes ((p ∷ piece) ++ r ∷ [])) limit) refl (rows-passed p (piece ++ r ∷ []) s rows) (rows-passed r [] s rows)
+    where
+      by_case : (b : Bool) → nat_le (rows_bytes ((p ∷ piece) ++ r ∷ [])) limit ≡ b → GivesPieces ((p ∷ piece) ++ r ∷ []) (s ∷ rows) → GivesPieces (r ∷ []) (s ∷ rows)
+          → GivesPieces (p ∷ piece) (r ∷ s ∷ rows)
+      by_case true is more anew = rw is more
+      by_case false is more anew =
+          let own = piece_written maps (p ∷ piece) in
+          rw is (ap (λ (es : List Written). own ++ es) anew ∙ sym (append_assoc own _ (cut_written limit [] [] ws)))
 
--- all rows events of a statement
-all-passed : (limit : ℕ) (maps : List Event) (r : RowsEvent) (rows : List RowsEvent) (ws : List Written)
-    → cut_written limit maps [] (rows_written (r ∷ rows) ++ ws) ≡ pieces_written maps (pieces_of limit (r ∷ rows)) ++ cut_written limit [] [] ws
-all-passed limit maps r [] ws = simp append_assoc
-all-passed limit maps r (s ∷ rows) ws = rows-passed limit maps r [] s rows ws
+  -- all rows events of a statement
+  all-passed : (r : RowsEvent) (rows : List RowsEvent) → cut_written limit maps [] (rows_written (r ∷ rows) ++ ws) ≡ with_pieces (pieces_of limit (r ∷ rows))
+  all-passed r [] = simp append_assoc
+  all-passed r (s ∷ rows) = rows-passed r [] s rows
 
--- a statement
-statement-passed : (limit : ℕ) (s : Statement) (r : RowsEvent) (rows : List RowsEvent) (ws : List Written) → s.rows ≡ r ∷ rows
-    → cut_written limit [] [] (statement_written s ++ ws) ≡ flat_map statement_written (cut_statement limit s) ++ cut_written limit [] [] ws
-statement-passed limit s r rows ws some =
-    ap (cut_written limit [] []) (append_assoc (map Maps s.maps) (rows_written s.rows) ws)
-    ∙ maps-passed limit [] s.maps (rows_written s.rows ++ ws)
-    ∙ subst (λ (rs : List RowsEvent). cut_written limit s.maps [] (rows_written rs ++ ws) ≡ pieces_written s.maps (pieces_of limit rs) ++ cut_written limit [] [] ws) (sym some) (all-passed limit s.maps r rows ws)
-    ∙ ap (λ (es : List Written). es ++ cut_written limit [] [] ws) (sym (flat_map-map statement_written (piece_statement s) (pieces_of limit s.rows)))
+module _ (Known : Event → Type 0) (limit : ℕ) where
+  -- a statement
+  statement-passed : (s : Statement) (ws : List Written) → IsStatement Known s
+      → cut_written limit [] [] (statement_written s ++ ws) ≡ flat_map statement_written (cut_statement limit s) ++ cut_written limit [] [] ws
+  statement-passed s ws is =
+      let some = is.some in
+      rw (append_assoc, some.2, flat_map-map) (maps-passed limit [] s.maps (rows_written (some.0 ∷ some.1) ++ ws) ∙ all-passed limit s.maps ws some.0 some.1)
 
--- statements
-statements-passed : (Known : Event → Type 0) (limit : ℕ) (ss : List Statement) (ws : List Written) → AllByRecursion (IsStatement Known) ss
-    → cut_written limit [] [] (flat_map statement_written ss ++ ws) ≡ flat_map statement_written (flat_map (cut_statement limit) ss) ++ cut_written limit [] [] ws
-statements-passed Known limit [] ws are = refl
-statements-passed Known limit (s ∷ ss) ws are =
-    let some = are.0.some in
-    let own = flat_map statement_written (cut_statement limit s) in
-    ap (cut_written limit [] []) (append_assoc (statement_written s) (flat_map statement_written ss) ws)
-    ∙ statement-passed limit s some.0 some.1 (flat_map statement_written ss ++ ws) some.2
-    ∙ ap (λ (es : List Written). own ++ es) (statements-passed Known limit ss ws are.1)
-    ∙ sym (append_assoc own (flat_map statement_written (flat_map (cut_statement limit) ss)) (cut_written limit [] [] ws))
-    ∙ ap (λ (es : List Written). es ++ cut_written limit [] [] ws) (sym (flat_map-append statement_written (cut_statement limit s) (flat_map (cut_statement limit) ss)))
+  -- statements
+  statements-passed : (ss : List Statement) (ws : List Written) → AllByRecursion (IsStatement Known) ss
+      → cut_written limit [] [] (flat_map statement_written ss ++ ws) ≡ flat_map statement_written (flat_map (cut_statement limit) ss) ++ cut_written limit [] [] ws
+  statements-passed [] ws are = refl
+  statements-passed (s ∷ ss) ws are =
+      let own = flat_map statement_written (cut_statement limit s) in
+      rw (append_assoc (statement_written s) _ ws, flat_map-append, append_assoc own _ (cut_written limit [] [] ws))
+      (statement-passed s (flat_map statement_written ss ++ ws) are.0 ∙ ap (λ (es : List Written). own ++ es) (statements-passed ss ws are.1))
 
--- a transaction
-transaction-passed : (Known : Event → Type 0) (limit : ℕ) (t : Transaction) (ws : List Written) → IsTransaction Known t
-    → cut_written limit [] [] (transaction_written t ++ ws) ≡ transaction_written (cut_transaction limit t) ++ cut_written limit [] [] ws
-transaction-passed Known limit t ws is =
-    let cut = flat_map statement_written (flat_map (cut_statement limit) t.statements) in
-    ap (λ (es : List Written). Same t.begin ∷ es)
-    (ap (cut_written limit [] []) (append_assoc (flat_map statement_written t.statements) (Same t.end ∷ []) ws)
-    ∙ statements-passed Known limit t.statements (Same t.end ∷ ws) is.statements_formed
-    ∙ sym (append_assoc cut (Same t.end ∷ []) (cut_written limit [] [] ws)))
+  -- a transaction
+  transaction-passed : (t : Transaction) (ws : List Written) → IsTransaction Known t
+      → cut_written limit [] [] (transaction_written t ++ ws) ≡ transaction_written (cut_transaction limit t) ++ cut_written limit [] [] ws
+  transaction-passed t ws is = simp append_assoc (ap (λ (es : List Written). Same t.begin ∷ es) (statements-passed t.statements (Same t.end ∷ ws) is.statements_formed))
 
--- groups
-pub cut-of-groups : (Known : Event → Type 0) (limit : ℕ) (ts : List Transaction) → AreGroups Known ts → cut_written limit [] [] (groups_written ts) ≡ groups_written (cut_groups limit ts)
-cut-of-groups Known limit [] are = refl
-cut-of-groups Known limit (t ∷ ts) are =
-    transaction-passed Known limit t (groups_written ts) are.0 ∙ ap (λ (es : List Written). transaction_written (cut_transaction limit t) ++ es) (cut-of-groups Known limit ts are.1)
+  -- groups
+  pub cut-of-groups : (ts : List Transaction) → AreGroups Known ts → cut_written limit [] [] (groups_written ts) ≡ groups_written (cut_groups limit ts)
+  cut-of-groups [] are = refl
+  cut-of-groups (t ∷ ts) are =
+      transaction-passed t (groups_written ts) are.0 ∙ ap (λ (es : List Written). transaction_written (cut_transaction limit t) ++ es) (cut-of-groups ts are.1)
 
 -- ---- groups can be cut
 
@@ -163,53 +153,55 @@ unfolding IsDistinct
 distinct-front same [] ys distinct = tt
 distinct-front same (x ∷ xs) ys distinct = ((all-parts (λ y. same x y ≡ false) xs ys distinct.0).0, distinct-front same xs ys distinct.1)
 
--- maps that come first among those of a statement
+-- the first ones of maps that are apart
 apart-front : (front behind all : List Event) → front ++ behind ≡ all → AreApart all → AreApart front
 apart-front front behind all are apart =
     let id : Event → List ℕ = λ m. table_id m.body in
     distinct-front bytes_eq (map id front) (map id behind) (subst (IsDistinct bytes_eq) (sym (ap (map id) are) ∙ map-append id front behind) apart)
 
--- a map has a table id
-map-long : (Known : Event → Type 0) (m : Event) → IsMapEvent Known m → 6 ≤ length m.body
-map-long Known m is = let has = names_found m.body is.names.0 is.names.1 in omega (arith, ap length has.text, length-append is.names.0.id, has.id_len)
-
--- maps of a statement, which has all of these
-maps-can : (Known : Event → Type 0) (most : Most) (before maps all : List Event) (ws : List Written) → AllByRecursion (IsMapEvent Known) maps → before ++ maps ≡ all → AreApart all → length all ≤ most.maps
-    → CanBeCut most all 0 ws → CanBeCut most before 0 (map Maps maps ++ ws)
-maps-can Known most before [] all ws formed are apart few can = subst (λ (ms : List Event). CanBeCut most ms 0 ws) (sym are ∙ append-nil before) can
-maps-can Known most before (m ∷ maps) all ws formed are apart few can =
-    let next = append_assoc before (m ∷ []) maps ∙ are in
-    (map-long Known m formed.0, omega (arith, ap length are, length-append before (m ∷ maps)), apart-front (before ++ m ∷ []) maps all next apart,
-     maps-can Known most (before ++ m ∷ []) maps all ws formed.1 next apart few can)
-
--- its rows events, behind so many
-rows-can : (maps own : List Event) (most : Most) (n : ℕ) (r : RowsEvent) (rows : List RowsEvent) (ws : List Written) → AllByRecursion (IsRowsEvent own) (r ∷ rows) → n + length (r ∷ rows) ≤ most.rows
-    → CanBeCut most [] 0 ws → CanBeCut most maps n (rows_written (r ∷ rows) ++ ws)
-rows-can maps own most n r [] ws formed few can = (formed.0.content.2.id_len, omega arith, can)
-rows-can maps own most n r (s ∷ rows) ws formed few can = (formed.0.content.2.id_len, omega arith, rows-can maps own most (n + 1) s rows ws formed.1 (omega arith) can)
-
+-- a statement has no more maps and rows events than these
 abbrev pub HasAtMost : Most → Statement → Type 0
 HasAtMost most s = (length s.maps ≤ most.maps) × (length s.rows ≤ most.rows)
 
--- statements
-statements-can : (Known : Event → Type 0) (most : Most) (ss : List Statement) (ws : List Written) → AllByRecursion (IsStatement Known) ss → AllByRecursion (HasAtMost most) ss → CanBeCut most [] 0 ws
-    → CanBeCut most [] 0 (flat_map statement_written ss ++ ws)
-statements-can Known most [] ws are few can = can
-statements-can Known most (s ∷ ss) ws are few can =
-    let some = are.0.some in
-    let later = flat_map statement_written ss ++ ws in
-    let short : 0 + length (some.0 ∷ some.1) ≤ most.rows = subst (λ (rs : List RowsEvent). 0 + length rs ≤ most.rows) some.2 (omega (arith, few.0.1)) in
-    let rows = rows-can s.maps s.maps most 0 some.0 some.1 later (subst (AllByRecursion (IsRowsEvent s.maps)) some.2 are.0.rows_formed) short (statements-can Known most ss ws are.1 few.1 can) in
-    let own = maps-can Known most [] s.maps s.maps (rows_written s.rows ++ later) are.0.maps_formed refl are.0.distinct few.0.0 (subst (λ (rs : List RowsEvent). CanBeCut most s.maps 0 (rows_written rs ++ later)) (sym some.2) rows) in
-    subst (CanBeCut most [] 0) (sym (append_assoc (statement_written s) (flat_map statement_written ss) ws ∙ append_assoc (map Maps s.maps) (rows_written s.rows) later)) own
+module _ (Known : Event → Type 0) (most : Most) where
+  -- a map has a table id
+  map-long : (m : Event) → IsMapEvent Known m → 6 ≤ length m.body
+  map-long m is = let has = names_found m.body is.names.0 is.names.1 in omega (arith, ap length has.text, length-append is.names.0.id, has.id_len)
 
--- groups
-pub groups-can-be-cut : (Known : Event → Type 0) (most : Most) (ts : List Transaction) → AreGroups Known ts → AllByRecursion (λ (t : Transaction). AllByRecursion (HasAtMost most) t.statements) ts
-    → CanBeCut most [] 0 (groups_written ts)
-groups-can-be-cut Known most [] are few = tt
-groups-can-be-cut Known most (t ∷ ts) are few =
-    subst (CanBeCut most [] 0) (sym (append_assoc (flat_map statement_written t.statements) (Same t.end ∷ []) (groups_written ts)))
-    (statements-can Known most t.statements (Same t.end ∷ groups_written ts) are.0.statements_formed few.0 (groups-can-be-cut Known most ts are.1 few.1))
+  -- maps of a statement, which has all of these
+  maps-can : (before maps all : List Event) (ws : List Written) → AllByRecursion (IsMapEvent Known) maps → before ++ maps ≡ all → AreApart all → length all ≤ most.maps → CanBeCut most all 0 ws
+      → CanBeCut most before 0 (map Maps maps ++ ws)
+  maps-can before [] all ws formed are apart few can = subst (λ (ms : List Event). CanBeCut most ms 0 ws) (sym are ∙ append-nil before) can
+  maps-can before (m ∷ maps) all ws formed are apart few can =
+      let next = append_assoc before (m ∷ []) maps ∙ are in
+      (map-long m formed.0, omega (arith, ap length are, length-append before (m ∷ maps)), apart-front (before ++ m ∷ []) maps all next apart,
+       maps-can (before ++ m ∷ []) maps all ws formed.1 next apart few can)
+
+  -- its rows events, behind so many
+  rows-can : (own maps : List Event) (n : ℕ) (r : RowsEvent) (rows : List RowsEvent) (ws : List Written) → AllByRecursion (IsRowsEvent own) (r ∷ rows) → n + length (r ∷ rows) ≤ most.rows
+      → CanBeCut most [] 0 ws → CanBeCut most maps n (rows_written (r ∷ rows) ++ ws)
+  rows-can own maps n r [] ws formed few can = (formed.0.content.2.id_len, omega arith, can)
+  rows-can own maps n r (s ∷ rows) ws formed few can = (formed.0.content.2.id_len, omega arith, rows-can own maps (n + 1) s rows ws formed.1 (omega arith) can)
+
+  -- a statement
+  statement-can : (s : Statement) (ws : List Written) → IsStatement Known s → HasAtMost most s → CanBeCut most [] 0 ws → CanBeCut most [] 0 (statement_written s ++ ws)
+  statement-can s ws is few can =
+      let some = is.some in
+      let rows = rows-can s.maps s.maps 0 some.0 some.1 ws (subst (AllByRecursion (IsRowsEvent s.maps)) some.2 is.rows_formed) (omega (arith, few.1, ap length some.2)) can in
+      rw (append_assoc, some.2) (maps-can [] s.maps s.maps (rows_written (some.0 ∷ some.1) ++ ws) is.maps_formed refl is.distinct few.0 rows)
+
+  -- statements
+  statements-can : (ss : List Statement) (ws : List Written) → AllByRecursion (IsStatement Known) ss → AllByRecursion (HasAtMost most) ss → CanBeCut most [] 0 ws
+      → CanBeCut most [] 0 (flat_map statement_written ss ++ ws)
+  statements-can [] ws are few can = can
+  statements-can (s ∷ ss) ws are few can = rw (append_assoc (statement_written s) _ ws) (statement-can s (flat_map statement_written ss ++ ws) are.0 few.0 (statements-can ss ws are.1 few.1 can))
+
+  -- groups
+  pub groups-can-be-cut : (ts : List Transaction) → AreGroups Known ts → AllByRecursion (λ (t : Transaction). AllByRecursion (HasAtMost most) t.statements) ts
+      → CanBeCut most [] 0 (groups_written ts)
+  groups-can-be-cut [] are few = tt
+  groups-can-be-cut (t ∷ ts) are few =
+      rw append_assoc (statements-can t.statements (Same t.end ∷ groups_written ts) are.0.statements_formed few.0 (groups-can-be-cut ts are.1 few.1))
 
 -- ---- rows events among written events
 

@@ -7,4 +7,5 @@ mod MapIds
 mod Marks
 mod Measuring
 mod Splitting
-pub mod CutWritten
+mod CutWritten
+mod Going

@@ -2,6 +2,5 @@
 pub mod Greedy
 pub mod Marks
 pub mod CutView
-pub mod Ahead
 pub mod CutWritten
 pub mod Sizes

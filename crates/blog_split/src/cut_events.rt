@@ -1,11 +1,12 @@
 //! The statements of events to write, cut into smaller ones.
 
-ghost use Rattle.std.specs.Prelude.{◌≡◌, ◌+◌, ◌<◌, ◌≤◌, nat_le, true, false, [], length, map, drop, take, IfOk, IfErr, vec_len, vec_capacity};
-ghost use Rattle.std.specs.List.{All};
+ghost use Rattle.std.specs.Prelude.{◌≡◌, ◌+◌, ◌<◌, ◌≤◌, ◌||◌, nat_eq, nat_le, true, false, [], length, map, IfOk, IfErr, MatchOption, vec_len, vec_capacity};
 ghost use Rattle.std.specs.List.Sorted.{IsNonDecreasingBy};
 ghost use Rattle.std.proofs.Props.{props};
-ghost use Rattle.blog_split.specs.code.Ahead.{IsAhead, maps_left};
-ghost use Rattle.blog_split.specs.code.CutWritten.{AreApart, CanBeCut, rows_of};
+ghost use Rattle.blog_flash.specs.Written.{Written};
+ghost use Rattle.blog_flash.specs.code.Skipping.{IsSkipped};
+ghost use Rattle.blog_flash.specs.code.WrittenView.{written_told};
+ghost use Rattle.blog_split.specs.code.CutWritten.{AreApart, CanBeCut, ending};
 ghost use Rattle.blog_split.specs.code.Marks.{AreListed, event_told};
 
 use crate::fault::SplitFault;
@@ -16,11 +17,32 @@ use blog_flash::{WrittenEvent, WrittenEvents, WrittenRows};
 use blog_trans::{SkippedEvent, SkippedRows};
 use std::alloc::Allocator;
 
-/// Whether a rows event with a body of `body_len` bytes fits into the bytes that are left.
-fn has_room(left: usize, body_len: usize) -> bool
-    ensures { result ≡ nat_le (19 + body_len) left }
+/// Whether a piece of `rows` rows events, with `left` bytes left to its limit, takes one more with a body of `body_len` bytes.
+fn has_room(rows: usize, left: usize, body_len: usize) -> bool
+    ensures { result ≡ (nat_eq rows 0 || nat_le (19 + body_len) left) }
 {
-    left >= HEADER_LEN && left - HEADER_LEN >= body_len
+    rows == 0 || (left >= HEADER_LEN && left - HEADER_LEN >= body_len)
+}
+
+/// The event, with another end flag if it is a rows event.
+#[inline(always)]
+fn with_last(event: WrittenEvent<'_>, last: bool) -> WrittenEvent<'_>
+    ensures { written_told result ≡ ending last (written_told event.entry) }
+{
+    match event {
+        WrittenEvent::Rows(rows) => WrittenEvent::Rows(WrittenRows { last, ..rows }),
+        event => event,
+    }
+}
+
+/// The same for an event that was skipped.
+fn skipped_with_last(event: SkippedEvent<'_>, last: bool) -> SkippedEvent<'_>
+    ensures { (w : Written) → IsSkipped event.entry w → IsSkipped result (ending last w) }
+{
+    match event {
+        SkippedEvent::Rows(rows) => SkippedEvent::Rows(SkippedRows { last, ..rows }),
+        event => event,
+    }
 }
 
 /// What comes next of cut events.
@@ -36,7 +58,7 @@ enum Coming {
 
 /// The events of a source, their statements cut into pieces.
 #[derive(Drop)]
-pub(crate) struct CutEvents<'a, E: WrittenEvents<'a> + Drop, A: Allocator> {
+pub(crate) struct CutEvents<'a, E: Drop, A: Allocator> {
     limit: usize,
     most: Most,
     // Gives the rows events.
@@ -54,9 +76,6 @@ pub(crate) struct CutEvents<'a, E: WrittenEvents<'a> + Drop, A: Allocator> {
     used: Vec<usize, A>,
     given: usize,
     rows: usize,
-    ghost counted: { length (rows_of (take rows (E.to_come events))) ≡ rows },
-    ghost is_ahead: { IsAhead next (drop rows (E.to_come events)) (E.to_come ahead) } by { Prim.hlevel props },
-    ghost can_be_cut: { CanBeCut most (maps_left is_last maps.items) 0 (drop rows (E.to_come events)) } by { Prim.hlevel props },
     ghost room_maps: { most.maps ≤ vec_capacity maps },
     ghost room_ids: { most.maps ≤ vec_capacity ids },
     ghost room_used: { most.rows ≤ vec_capacity used },
@@ -64,14 +83,13 @@ pub(crate) struct CutEvents<'a, E: WrittenEvents<'a> + Drop, A: Allocator> {
     ghost each_listed: { vec_len ids ≡ vec_len maps },
     ghost ordered: { is_sorted ≡ true → IsNonDecreasingBy (λ e. e.id) ids.items } by { Prim.hlevel props },
     ghost apart: { AreApart (map event_told maps.items) } by { Prim.hlevel props },
-    ghost used_within: { All (λ n. n < vec_len maps) used.items } by { Prim.hlevel props },
 }
 
 impl<'a, E: WrittenEvents<'a> + Drop, A: Allocator> CutEvents<'a, E, A> {
     ghost use Rattle.blog_event.specs.declared.fault.Fault.TheVariants.{OutOfMemory};
     ghost use Rattle.blog_flash.specs.code.Skipping.{Skips};
     ghost use Rattle.blog_split.specs.declared.fault.SplitFault.TheVariants as SplitFault;
-    ghost use Rattle.blog_split.specs.code.CutView.{GivesCut, GivesMap, HasMap, HasRows, IsReady, MarksPiece, cut_to_come};
+    ghost use Rattle.blog_split.specs.code.CutView.{GivesCut, GivesMap, GoesOn, HasMap, HasRows, IsReady, IsSound, MarksPiece, Stops, cut_to_come};
     ghost use Rattle.blog_split.specs.declared.cut_events.Coming.TheVariants as Coming;
     ghost use Rattle.blog_split.specs.code.CutWritten.{cut_written};
 
@@ -87,9 +105,12 @@ impl<'a, E: WrittenEvents<'a> + Drop, A: Allocator> CutEvents<'a, E, A> {
     ) -> Result<Self, SplitFault>
     where
         A: Copy,
-        requires same { E.to_come ahead.entry ≡ E.to_come events.now }
-        requires can { CanBeCut most [] 0 (E.to_come events.now) }
-        ensures left { IfOk result (λ cut. cut_to_come E.to_come cut ≡ cut_written limit [] [] (E.to_come events.now)) }
+        requires events { E.can_next events }
+        requires ahead { E.can_next ahead }
+        requires same { E.to_come ahead ≡ E.to_come events }
+        requires can { CanBeCut most [] 0 (E.to_come events) }
+        ensures sound { IfOk result (λ cut. IsSound E.can_next E.to_come cut) }
+        ensures left { IfOk result (λ cut. cut_to_come E.to_come cut ≡ cut_written limit [] [] (E.to_come events)) }
         ensures refused { IfErr result (λ fault. fault ≡ SplitFault.Log OutOfMemory) }
     {
         let Ok(maps) = Vec::with_capacity(alloc, most.maps) else {
@@ -120,6 +141,8 @@ impl<'a, E: WrittenEvents<'a> + Drop, A: Allocator> CutEvents<'a, E, A> {
 
     /// Returns what comes next. Opens the next piece if the open one has nothing left.
     fn coming(&mut self) -> Coming
+        requires sound { IsSound E.can_next E.to_come self.old }
+        ensures sound { IsSound E.can_next E.to_come self.new }
         ensures left { cut_to_come E.to_come self.new ≡ cut_to_come E.to_come self.old }
         ensures ready { IsReady self.new result }
     {
@@ -145,8 +168,10 @@ impl<'a, E: WrittenEvents<'a> + Drop, A: Allocator> CutEvents<'a, E, A> {
 
     /// Forgets the maps of the open statement if it has no rows event left.
     fn end_statement(&mut self)
+        requires sound { IsSound E.can_next E.to_come self.old }
         requires no_maps { vec_len self.old.used ≤ self.old.given }
         requires no_rows { self.old.rows ≡ 0 }
+        ensures sound { IsSound E.can_next E.to_come self.new }
         ensures left { cut_to_come E.to_come self.new ≡ cut_to_come E.to_come self.old }
         ensures open { self.new.is_last ≡ false }
         ensures no_maps { vec_len self.new.used ≤ self.new.given }
@@ -164,10 +189,12 @@ impl<'a, E: WrittenEvents<'a> + Drop, A: Allocator> CutEvents<'a, E, A> {
 
     /// Takes the next event, a map, into the open statement.
     fn add_map(&mut self, event: Event<'a>)
+        requires sound { IsSound E.can_next E.to_come self.old }
         requires next { HasMap self.old event }
         requires open { self.old.is_last ≡ false }
         requires no_maps { vec_len self.old.used ≤ self.old.given }
         requires no_rows { self.old.rows ≡ 0 }
+        ensures sound { IsSound E.can_next E.to_come self.new }
         ensures left { cut_to_come E.to_come self.new ≡ cut_to_come E.to_come self.old }
         ensures open { self.new.is_last ≡ false }
         ensures no_maps { vec_len self.new.used ≤ self.new.given }
@@ -182,53 +209,67 @@ impl<'a, E: WrittenEvents<'a> + Drop, A: Allocator> CutEvents<'a, E, A> {
 
     /// Opens the next piece: it begins with the next event, a rows event.
     fn open_piece(&mut self)
+        requires sound { IsSound E.can_next E.to_come self.old }
         requires next { HasRows self.old }
         requires open { self.old.is_last ≡ false }
         requires no_maps { vec_len self.old.used ≤ self.old.given }
         requires no_rows { self.old.rows ≡ 0 }
+        ensures sound { IsSound E.can_next E.to_come self.new }
         ensures left { cut_to_come E.to_come self.new ≡ cut_to_come E.to_come self.old }
         ensures some { 0 < self.new.rows }
     {
         self.used.clear();
         self.given = 0;
-        if !self.is_sorted {
-            sort_ids(&mut self.ids);
-            self.is_sorted = true;
-        }
+        sort_ids(&mut self.ids, self.is_sorted);
+        self.is_sorted = true;
         self.mark_piece();
         self.used.sort_unstable();
         self.used.dedup();
     }
 
+    /// Returns the next event if it is a rows event of the open piece, which has `left` bytes left to its limit.
+    fn next_rows(&self, left: usize) -> Option<SkippedRows<'a>>
+        ensures { MatchOption result (Stops self.now left) (GoesOn self.now left) }
+    {
+        if self.is_last {
+            return None;
+        }
+        let Some(SkippedEvent::Rows(rows)) = self.next else {
+            return None;
+        };
+        if has_room(self.rows, left, rows.len) {
+            return Some(rows);
+        }
+        None
+    }
+
     /// Goes ahead of the rows events of the next piece, and marks the map of each of them.
     fn mark_piece(&mut self)
+        requires sound { IsSound E.can_next E.to_come self.old }
         requires next { HasRows self.old }
         requires open { self.old.is_last ≡ false }
         requires sorted { self.old.is_sorted ≡ true }
         requires no_marks { self.old.used.items ≡ [] }
         requires no_rows { self.old.rows ≡ 0 }
-        ensures { MarksPiece E.to_come self.old self.new }
+        ensures sound { IsSound E.can_next E.to_come self.new }
+        ensures first { MarksPiece E.to_come self.old self.new }
     {
         let mut left = self.limit;
-        'events: while let Some(SkippedEvent::Rows(rows)) = self.next {
-            if self.rows > 0 && !has_room(left, rows.len) {
-                return;
-            }
+        'events: while let Some(rows) = self.next_rows(left) {
             mark(&mut self.used, number_of(&self.ids, id_of(rows.event.body)));
             left = left.saturating_sub(HEADER_LEN).saturating_sub(rows.len);
             self.rows += 1;
+            self.is_last = rows.last;
             self.next = self.ahead.skip_event();
-            if rows.last {
-                self.is_last = true;
-                return;
-            }
         }
     }
 
     /// The next map of the open piece.
     fn map(&mut self) -> Event<'a>
+        requires sound { IsSound E.can_next E.to_come self.old }
         requires some { self.old.given < vec_len self.old.used }
-        ensures { GivesMap E.to_come self.old result self.new }
+        ensures sound { IsSound E.can_next E.to_come self.new }
+        ensures first { GivesMap E.to_come self.old result self.new }
     {
         let n = self.used[self.given];
         self.given += 1;
@@ -237,40 +278,36 @@ impl<'a, E: WrittenEvents<'a> + Drop, A: Allocator> CutEvents<'a, E, A> {
 
     /// The next rows event of the open piece.
     fn rows_event(&mut self) -> Option<WrittenEvent<'a>>
+        requires sound { IsSound E.can_next E.to_come self.old }
         requires no_maps { vec_len self.old.used ≤ self.old.given }
         requires some { 0 < self.old.rows }
-        ensures { GivesCut E.to_come self.old result self.new }
+        ensures sound { IsSound E.can_next E.to_come self.new }
+        ensures first { GivesCut E.to_come self.old result self.new }
     {
         self.rows -= 1;
-        let Some(WrittenEvent::Rows(rows)) = self.events.next_event() else {
-            unreachable!();
-        };
-        Some(WrittenEvent::Rows(WrittenRows {
-            last: self.rows == 0,
-            ..rows
-        }))
+        let event = self.events.next_event()?;
+        Some(with_last(event, self.rows == 0))
     }
 
     /// Skips the next rows event of the open piece.
     fn skip_rows(&mut self) -> Option<SkippedEvent<'a>>
+        requires sound { IsSound E.can_next E.to_come self.old }
         requires no_maps { vec_len self.old.used ≤ self.old.given }
         requires some { 0 < self.old.rows }
-        ensures { Skips (cut_to_come E.to_come) self.old result self.new }
+        ensures sound { IsSound E.can_next E.to_come self.new }
+        ensures first { Skips (cut_to_come E.to_come) self.old result self.new }
     {
         self.rows -= 1;
-        let Some(SkippedEvent::Rows(rows)) = self.events.skip_event() else {
-            unreachable!();
-        };
-        Some(SkippedEvent::Rows(SkippedRows {
-            last: self.rows == 0,
-            ..rows
-        }))
+        let event = self.events.skip_event()?;
+        Some(skipped_with_last(event, self.rows == 0))
     }
 
     /// What the source has next, which is of no statement.
     fn other(&mut self) -> Option<WrittenEvent<'a>>
-        requires { IsReady self.old Coming.Other }
-        ensures { GivesCut E.to_come self.old result self.new }
+        requires sound { IsSound E.can_next E.to_come self.old }
+        requires ready { IsReady self.old Coming.Other }
+        ensures sound { IsSound E.can_next E.to_come self.new }
+        ensures first { GivesCut E.to_come self.old result self.new }
     {
         self.is_last = true;
         self.next = self.ahead.skip_event();
@@ -279,8 +316,10 @@ impl<'a, E: WrittenEvents<'a> + Drop, A: Allocator> CutEvents<'a, E, A> {
 
     /// Skips what the source has next, which is of no statement.
     fn skip_other(&mut self) -> Option<SkippedEvent<'a>>
-        requires { IsReady self.old Coming.Other }
-        ensures { Skips (cut_to_come E.to_come) self.old result self.new }
+        requires sound { IsSound E.can_next E.to_come self.old }
+        requires ready { IsReady self.old Coming.Other }
+        ensures sound { IsSound E.can_next E.to_come self.new }
+        ensures first { Skips (cut_to_come E.to_come) self.old result self.new }
     {
         self.is_last = true;
         self.next = self.ahead.skip_event();
@@ -289,9 +328,11 @@ impl<'a, E: WrittenEvents<'a> + Drop, A: Allocator> CutEvents<'a, E, A> {
 }
 
 impl<'a, E: WrittenEvents<'a> + Drop, A: Allocator> WrittenEvents<'a> for CutEvents<'a, E, A> {
-    ghost use Rattle.blog_split.specs.code.CutView.{cut_to_come};
+    ghost use Rattle.blog_split.specs.code.CutView.{IsSound, cut_to_come};
 
     ghost to_come = { cut_to_come E.to_come };
+
+    ghost can_next = { IsSound E.can_next E.to_come };
 
     fn next_event(&mut self) -> Option<WrittenEvent<'a>> {
         match self.coming() {

@@ -1,6 +1,6 @@
 //! The maps of a statement by their table ids, and the marks of those that its rows events use.
 
-ghost use Rattle.std.specs.Prelude.{◌≡◌, ◌+◌, ◌<◌, ◌≤◌, List, [], ◌∷◌, ◌++◌, length, map, option_to_list, vec_len, vec_capacity};
+ghost use Rattle.std.specs.Prelude.{◌≡◌, ◌+◌, ◌<◌, ◌≤◌, true, List, [], ◌∷◌, ◌++◌, length, map, option_to_list, vec_len, vec_capacity};
 ghost use Rattle.std.specs.List.Sorted.{IsNonDecreasingBy};
 ghost use Rattle.blog_event.specs.Event as value;
 ghost use Rattle.blog_event.specs.File.{AreBytes};
@@ -50,11 +50,15 @@ pub(crate) fn push_map<'a, A: Allocator>(
     maps.push(event).unwrap();
 }
 
-/// Sorts the maps of a statement by their table ids.
-pub(crate) fn sort_ids(ids: &mut [MapId])
-    ensures table { (maps : List value.Event) → AreListed maps ids.old → IsTable maps ids.new }
-    ensures len { length ids.new ≡ length ids.old }
+/// Sorts the maps of a statement by their table ids, if they aren't sorted.
+pub(crate) fn sort_ids<A: Allocator>(ids: &mut Vec<MapId, A>, is_sorted: bool)
+    ensures table { (maps : List value.Event) → AreListed maps ids.old.items → (is_sorted ≡ true → IsNonDecreasingBy (λ e. e.id) ids.old.items) → IsTable maps ids.new.items }
+    ensures len { vec_len ids.new ≡ vec_len ids.old }
+    ensures capacity { vec_capacity ids.old ≤ vec_capacity ids.new }
 {
+    if is_sorted {
+        return;
+    }
     ids.sort_unstable_by_key(|map| map.id);
 }
 

@@ -1,26 +1,45 @@
 -- What a contract sees of events whose statements are cut.
-use Rattle.std.specs.Prelude.{◌≡◌, ℕ, ◌<◌, ◌≤◌, Bool, true, false, vec_len, List, [], ◌∷◌, ◌++◌, map, drop, take, if◌then◌else◌, Option, Some, None, MatchOption}
+use Rattle.std.specs.Prelude.{◌≡◌, ℕ, ◌+◌, ◌<◌, ◌≤◌, ◌||◌, nat_eq, nat_le, Bool, true, false, vec_len, List, [], ◌∷◌, ◌++◌, length, map, drop, take, if◌then◌else◌, Option, Some, None, MatchOption}
+use Rattle.std.specs.List.{All}
 use Rattle.std.specs.Iterator.{YieldsFirstBy}
 use Rattle.blog_event.specs.declared.event.Event as told
+use Rattle.blog_event.specs.Event.{Event}
 use Rattle.blog_trans.specs.Groups.{RowsEvent}
 use Rattle.blog_trans.specs.declared.group_events.SkippedEvent.{SkippedEvent}
 use Rattle.blog_trans.specs.declared.group_events.SkippedEvent.TheVariants as over
 use Rattle.blog_trans.specs.declared.group_events.SkippedRows.{SkippedRows}
 use Rattle.blog_flash.specs.Written.{Written, Maps, rows_written}
+use Rattle.blog_flash.specs.code.Skipping.{IsSkipped}
 use Rattle.blog_flash.specs.code.WrittenView.{written_told}
 use Rattle.blog_flash.specs.declared.written_event.WrittenEvent.{WrittenEvent}
-use Rattle.blog_split.specs.code.Ahead.{maps_left}
-use Rattle.blog_split.specs.code.CutWritten.{cut_written, piece_written, rows_of}
+use Rattle.blog_split.specs.code.CutWritten.{CanBeCut, cut_written, piece_written, rows_of}
 use Rattle.blog_split.specs.declared.cut_events.Coming.{Coming}
 use Rattle.blog_split.specs.declared.cut_events.Coming.TheVariants as coming
 use Rattle.blog_split.specs.declared.cut_events.CutEvents.{CutEvents}
 use Rattle.blog_split.specs.code.Marks.{AreMarks, event_told, numbered}
+
+-- the next event was skipped, and the others are left; or there is none
+abbrev pub IsAhead : Option SkippedEvent → List Written → List Written → Type 0
+IsAhead next ws others = MatchOption next ((ws ≡ []) × (others ≡ [])) (λ event. (w : Written) × (ws ≡ w ∷ others) × IsSkipped event w)
+
+-- the maps by which later rows events can go: none where the open piece ends its statement
+abbrev pub maps_left : Bool → List told.Event → List Event
+maps_left is_last maps = if is_last then [] else map event_told maps
 
 -- the events that are still to come: what the open piece has left, and the others as they are cut
 abbrev pub cut_to_come : {E A : Type 0} → (E → List Written) → CutEvents E A → List Written
 cut_to_come to_come cut =
     map Maps (numbered (map event_told cut.maps.items) (drop cut.given cut.used.items)) ++ (rows_written (rows_of (take cut.rows (to_come cut.events)))
     ++ cut_written cut.limit (maps_left cut.is_last cut.maps.items) [] (drop cut.rows (to_come cut.events)))
+
+-- the source and the walk ahead of it agree, and the other events can be cut
+pub record IsSound {E A : Type 0} (can_next : E → Type 0) (to_come : E → List Written) (cut : CutEvents E A) : Type 0 where
+  pub events : can_next cut.events
+  pub ahead : can_next cut.ahead
+  pub counted : length (rows_of (take cut.rows (to_come cut.events))) ≡ cut.rows
+  pub next : IsAhead cut.next (drop cut.rows (to_come cut.events)) (to_come cut.ahead)
+  pub can_be_cut : CanBeCut cut.most (maps_left cut.is_last cut.maps.items) 0 (drop cut.rows (to_come cut.events))
+  pub used : All (λ n. n < length cut.maps.items) cut.used.items
 
 -- a step gives the first event that is left, and none where none is
 pub record GivesCut {E A : Type 0} (to_come : E → List Written) (before : CutEvents E A) (event : Option WrittenEvent) (after : CutEvents E A) : Type 0 where
@@ -47,6 +66,20 @@ abbrev pub IsReady : {E A : Type 0} → CutEvents E A → Coming → Type 0
 IsReady cut coming.Map = cut.given < vec_len cut.used
 IsReady cut coming.Rows = (vec_len cut.used ≤ cut.given) × (0 < cut.rows)
 IsReady cut coming.Other = IsThrough cut × ((event : told.Event) → HasMap cut event → ⊥) × (HasRows cut → ⊥)
+
+-- the open piece takes a rows event, where so many bytes are left to its limit
+abbrev pub takes : {E A : Type 0} → CutEvents E A → ℕ → SkippedRows → Bool
+takes cut left rows = nat_eq cut.rows 0 || nat_le (19 + rows.len) left
+
+-- it goes on with the next event
+pub record GoesOn {E A : Type 0} (cut : CutEvents E A) (left : ℕ) (rows : SkippedRows) : Type 0 where
+  pub same_statement : cut.is_last ≡ false
+  pub next : cut.next ≡ Some (over.Rows rows)
+  pub room : takes cut left rows ≡ true
+
+-- it doesn't
+abbrev pub Stops : {E A : Type 0} → CutEvents E A → ℕ → Type 0
+Stops cut left = (rows : SkippedRows) → cut.is_last ≡ false → cut.next ≡ Some (over.Rows rows) → takes cut left rows ≡ false
 
 -- the rows events of the next piece are ahead, and their maps are marked
 pub record MarksPiece {E A : Type 0} (to_come : E → List Written) (before after : CutEvents E A) : Type 0 where

@@ -40,6 +40,12 @@ rows_of (Same e ∷ ws) = rows_of ws
 rows_of (Maps m ∷ ws) = rows_of ws
 rows_of (Changes r last ∷ ws) = r ∷ rows_of ws
 
+-- a written event with another end flag, where it has one
+abbrev pub ending : Bool → Written → Written
+ending last (Same e) = Same e
+ending last (Maps m) = Maps m
+ending last (Changes r was) = Changes r last
+
 -- ---- what can be cut
 
 -- maps of a statement are told apart by their table ids

@@ -15,18 +15,18 @@ use Rattle.blog_flash.proofs.Totals.{groups-fit-room}
 use Rattle.blog_flash.specs.Written.{event_written}
 use Rattle.blog_flash.proofs.runs.write_log.Goals as goal
 
-pub write_out-requires-clause-sizes : goal.write_out-requires-clause-sizes
+pub write_out-requires : goal.write_out-requires
 unfolding groups
-write_out-requires-clause-sizes g c k =
+write_out-requires g c k =
     let index = c.in-Ok.groups in
     let ts = transactions_of c.args.order (index_groups index) in
     let es = ap (map event_written) c.new-events.ensures ∙ events-of-written ts in
     let fits = groups-fit-room (index_bytes index) (index_selection index) c.args.order 0 c.largest.result (omega (arith, c.largest.ensures)) in (
       (refl, tt),
-      record {
+      (tt, record {
         short = omega (arith, written-end (length c.front-front.result.now) ts _ c.new-events.ensures, c.front-front.ensures.short c.args.order);
         each = subst (AllByRecursion (λ e. event_size e ≤ c.largest.result)) (sym es) fits;
-      },
+      }),
     )
 
 pub returns-clause-written : goal.returns-clause-written

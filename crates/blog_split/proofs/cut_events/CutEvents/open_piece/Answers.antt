@@ -1,0 +1,48 @@
+use Rattle.std.proofs.Common.{◌≡◌, ◌++◌, append_assoc, eqb, filter, length, map, take, drop, rules, sym, ap, subst, refl, arith, ◌∙◌}
+use Rattle.std.specs.List.{dedup}
+use Rattle.std.proofs.lemmas.List.{drop_all, length-map}
+use Rattle.std.proofs.lemmas.List.Filters.{dedup_is}
+use Rattle.std.proofs.lemmas.Map.Keys.{IsStrictlyIncreasing-dedup}
+use Rattle.blog_flash.specs.Written.{Written, Maps, rows_written}
+use Rattle.blog_split.specs.Cuts.{is_used_by}
+use Rattle.blog_split.specs.code.CutWritten.{cut_written, rows_of}
+use Rattle.blog_split.specs.code.Marks.{AreUsed, event_told, numbered}
+use Rattle.blog_split.proofs.Marks.{marks-kept, used-are}
+use Rattle.blog_split.proofs.cut_events.CutEvents.open_piece.Goals as goal
+
+pub invariant_of-self-clause-listed : goal.invariant_of-self-clause-listed
+invariant_of-self-clause-listed g c = let before = c.args.self.now in (c.sort_ids.ensures.table (map event_told before.maps.items) before.listed before.ordered).all
+
+pub invariant_of-self-clause-ordered : goal.invariant_of-self-clause-ordered
+invariant_of-self-clause-ordered g c = λ sorted. let before = c.args.self.now in (c.sort_ids.ensures.table (map event_told before.maps.items) before.listed before.ordered).ordered
+
+pub returns-clause-sound : goal.returns-clause-sound
+returns-clause-sound g c =
+    let before = c.args.self.now in
+    let cut = c.mark_piece.new.self in
+    let own = map event_told before.maps.items in
+    let marked = c.mark_piece.ensures.first in
+    let sound = c.mark_piece.ensures.sound in
+    let piece = rows_of (take cut.rows (g.E.WrittenEvents.to_come before.events)) in
+    let used = used-are own piece (dedup eqb c.sort_unstable.new.self.items) (marks-kept own piece cut.used.items c.sort_unstable.new.self.items marked.marks c.sort_unstable.ensures.permutation)
+        (IsStrictlyIncreasing-dedup c.sort_unstable.new.self.items c.sort_unstable.ensures.sorted) in
+    record {
+      events = sound.events;
+      ahead = sound.ahead;
+      counted = sound.counted;
+      next = sound.next;
+      can_be_cut = sound.can_be_cut;
+      used = rw (dedup_is _ _ _ c.dedup.ensures.filtered, marked.maps) (λ n d within. omega (arith, used.within n d within, length-map before.maps.items event_told));
+    }
+
+pub returns-clause-left : goal.returns-clause-left
+returns-clause-left g c =
+    let before = c.args.self.now in
+    let cut = c.mark_piece.new.self in
+    let own = map event_told before.maps.items in
+    let marked = c.mark_piece.ensures.first in
+    let piece = rows_of (take cut.rows (g.E.WrittenEvents.to_come before.events)) in
+    let used = used-are own piece (dedup eqb c.sort_unstable.new.self.items) (marks-kept own piece cut.used.items c.sort_unstable.new.self.items marked.marks c.sort_unstable.ensures.permutation)
+        (IsStrictlyIncreasing-dedup c.sort_unstable.new.self.items c.sort_unstable.ensures.sorted) in
+    rw (dedup_is _ _ _ c.dedup.ensures.filtered, marked.limit, marked.events, marked.maps, marked.given, used.maps_are, c.requires.open, c.requires.no_rows, drop_all before.given before.used.items (omega (arith, c.requires.no_maps)))
+    (sym (marked.cut ∙ append_assoc (map Maps (filter (is_used_by piece) own)) (rows_written piece) _))
