@@ -1,11 +1,10 @@
 -- Going through events whose statements are cut: one step of the source, of the walk ahead of it, and of a piece.
-use Rattle.std.proofs.Common.{◌≡◌, ℕ, zero, suc, ◌+◌, ◌-◌, ◌≤◌, ◌<◌, ◌==◌, Bool, true, false, ◌||◌, if◌then◌else◌, nat_le, List, [], ◌∷◌, ◌++◌, length, map, take, drop, Option, None, Some, refl, sym, ap, ap₂, subst, ◌∙◌, arith, inl, inr, ◌⊎◌}
+use Rattle.std.proofs.Common.{◌≡◌, ℕ, zero, suc, ◌+◌, ◌-◌, ◌≤◌, ◌<◌, Bool, true, false, ◌||◌, if◌then◌else◌, nat_le, List, [], ◌∷◌, ◌++◌, length, take, drop, Option, None, Some, refl, sym, ap, ap₂, subst, ◌∙◌, arith, inl, inr, ◌⊎◌}
 use Rattle.std.specs.Prelude.{nat_eq, MatchOption, ⊤}
 use Rattle.std.specs.Iterator.{YieldsFirstBy}
 use Rattle.std.specs.Option.{option_to_list}
 use Rattle.std.proofs.Math.Numerals.{add-one}
 use Rattle.std.proofs.lemmas.Bool.{false≢true, leb-true, leb-false}
-use Rattle.std.proofs.lemmas.List.{drop_all}
 use Rattle.blog_event.specs.declared.event.Event as told
 use Rattle.blog_event.specs.Event.{Event, event_size}
 use Rattle.blog_event.specs.File.{AreBytes}
@@ -16,13 +15,12 @@ use Rattle.blog_trans.specs.declared.group_events.SkippedEvent.TheVariants as ov
 use Rattle.blog_trans.specs.declared.group_events.SkippedRows.{SkippedRows}
 use Rattle.blog_flash.specs.Texts.{rows_event}
 use Rattle.blog_flash.specs.Written.{Written, Same, Maps, Changes, rows_written}
-use Rattle.blog_flash.specs.code.Skipping.{IsSkipped, IsSkippedRows, Skips}
+use Rattle.blog_flash.specs.code.Skipping.{IsSkippedRows, Skips}
 use Rattle.blog_flash.specs.code.WrittenView.{written_told}
 use Rattle.blog_flash.specs.declared.written_event.WrittenEvent.{WrittenEvent}
 use Rattle.blog_split.specs.Cuts.{rows_bytes}
-use Rattle.blog_split.specs.declared.cut_events.CutEvents.{CutEvents}
 use Rattle.blog_split.specs.declared.most.Most.{Most}
-use Rattle.blog_split.specs.code.CutView.{HasMap, HasRows, IsAhead, IsThrough, cut_to_come, maps_left}
+use Rattle.blog_split.specs.code.CutView.{IsAhead}
 use Rattle.blog_split.specs.code.CutWritten.{AreApart, CanBeCut, cut_written, ending, has_room, piece_written, rows_of}
 use Rattle.blog_split.specs.code.Marks.{AreMarks, IsFound, IsTable, id_number}
 use Rattle.blog_split.specs.declared.used_maps.MapId.{MapId}

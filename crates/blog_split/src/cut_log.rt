@@ -1,11 +1,11 @@
 //! Laying out a log whose statements are cut, in memory.
 
-ghost use Rattle.std.specs.Prelude.{◌≡◌, ◌≤◌, IfOk, IfErr};
+ghost use Rattle.std.specs.Prelude.{◌≡◌, ◌≤◌, IfOk, IfErr, ⊤};
 ghost use Rattle.blog_event.specs.declared.fault.Fault.TheVariants.{OutOfMemory};
 ghost use Rattle.blog_flash.specs.Written.{groups_written};
 ghost use Rattle.blog_flash.specs.code.WrittenGroupsView.{groups_to_come};
 ghost use Rattle.blog_split.specs.declared.fault.SplitFault.TheVariants as SplitFault;
-ghost use Rattle.blog_split.specs.code.CutView.{cut_to_come};
+ghost use Rattle.blog_split.specs.code.CutView.{IsSound, cut_to_come};
 ghost use Rattle.blog_flash.specs.Texts.{group_events};
 ghost use Rattle.blog_trans.specs.Groups.{groups};
 ghost use Rattle.blog_trans.specs.code.IndexView.{index_bytes, index_selection};
@@ -22,18 +22,34 @@ use blog_row::Order;
 use blog_trans::{Index, Selection};
 use std::alloc::Allocator;
 
+/// Returns the events of the groups of an index, their statements cut. `bytes` are those of its log.
+fn cut_groups_in<'i, 'a, 's, A: Allocator + Copy, B: Allocator>(
+    alloc: A,
+    bytes: &[u8],
+    index: &'i Index<'a, 's, B>,
+    limit: usize,
+) -> Result<CutEvents<'a, WrittenGroups<'i, 'a, 's, B>, A>, SplitFault>
+    requires { bytes.now ≡ index_bytes index.now }
+    ensures sound { IfOk result (IsSound (λ groups. ⊤) groups_to_come) }
+    ensures left { IfOk result (λ cut. cut_to_come groups_to_come cut ≡ groups_written (cut_groups limit (groups bytes.now (index_selection index.now)))) }
+    ensures refused { IfErr result (λ fault. fault ≡ SplitFault.Log OutOfMemory) }
+{
+    let events = WrittenGroups::new(index, Order::Forward);
+    let ahead = WrittenGroups::new(index, Order::Forward);
+    CutEvents::new(alloc, most_of(index), limit, events, ahead)
+}
+
 /// Returns the events of the groups of an index, their statements cut. Fails with `Log(OutOfMemory)` if memory was refused.
 pub(crate) fn cut_groups_of<'i, 'a, 's, A: Allocator + Copy, B: Allocator>(
     alloc: A,
     index: &'i Index<'a, 's, B>,
     limit: usize,
 ) -> Result<CutEvents<'a, WrittenGroups<'i, 'a, 's, B>, A>, SplitFault>
+    ensures sound { IfOk result (IsSound (λ groups. ⊤) groups_to_come) }
     ensures left { IfOk result (λ cut. cut_to_come groups_to_come cut ≡ groups_written (cut_groups limit (groups (index_bytes index.now) (index_selection index.now)))) }
     ensures refused { IfErr result (λ fault. fault ≡ SplitFault.Log OutOfMemory) }
 {
-    let events = WrittenGroups::new(index, Order::Forward);
-    let ahead = WrittenGroups::new(index, Order::Forward);
-    CutEvents::new(alloc, most_of(index), limit, events, ahead)
+    cut_groups_in(alloc, index.log().bytes(), index, limit)
 }
 
 /// Returns the sizes of the cut log of an index, with a front of `front_len` bytes. Fails with `TooLong` if it is too large for a

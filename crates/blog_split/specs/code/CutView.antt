@@ -1,10 +1,9 @@
 -- What a contract sees of events whose statements are cut.
-use Rattle.std.specs.Prelude.{◌≡◌, ℕ, ◌+◌, ◌<◌, ◌≤◌, ◌||◌, nat_eq, nat_le, Bool, true, false, vec_len, List, [], ◌∷◌, ◌++◌, length, map, drop, take, if◌then◌else◌, Option, Some, None, MatchOption}
+use Rattle.std.specs.Prelude.{◌≡◌, ℕ, ◌+◌, ◌<◌, ◌≤◌, ◌||◌, nat_eq, nat_le, Bool, true, false, vec_len, List, [], ◌∷◌, ◌++◌, length, map, drop, take, if◌then◌else◌, Option, Some, MatchOption}
 use Rattle.std.specs.List.{All}
 use Rattle.std.specs.Iterator.{YieldsFirstBy}
 use Rattle.blog_event.specs.declared.event.Event as told
 use Rattle.blog_event.specs.Event.{Event}
-use Rattle.blog_trans.specs.Groups.{RowsEvent}
 use Rattle.blog_trans.specs.declared.group_events.SkippedEvent.{SkippedEvent}
 use Rattle.blog_trans.specs.declared.group_events.SkippedEvent.TheVariants as over
 use Rattle.blog_trans.specs.declared.group_events.SkippedRows.{SkippedRows}

@@ -1,9 +1,7 @@
 -- The cut that is made: from the front on, each piece with as many rows events as fit.
-use Rattle.std.specs.Prelude.{◌≡◌, ℕ, ◌+◌, true, ◌<◌, ◌≤◌, nat_le, if◌then◌else◌, List, [], ◌∷◌, ◌++◌, length, map, take, drop}
+use Rattle.std.specs.Prelude.{ℕ, nat_le, if◌then◌else◌, List, [], ◌∷◌, ◌++◌, map}
 use Rattle.std.specs.List.{flat_map}
-use Rattle.blog_event.specs.Event.{event_size}
-use Rattle.blog_trans.specs.Groups.{PlacedRows, RowsEvent, Statement, Transaction, rows_value}
-use Rattle.blog_flash.specs.Texts.{rows_event}
+use Rattle.blog_trans.specs.Groups.{RowsEvent, Statement, Transaction}
 use Rattle.blog_split.specs.Cuts.{rows_bytes, piece_statement}
 
 -- the pieces of rows events, the first of which has some already
@@ -26,19 +24,3 @@ cut_transaction limit t = record { begin = t.begin; statements = flat_map (cut_s
 
 abbrev pub cut_groups : ℕ → List Transaction → List Transaction
 cut_groups limit ts = map (cut_transaction limit) ts
-
--- ---- by number, from 0
-
--- the rows events of these numbers
-abbrev pub rows_between : ℕ → ℕ → List PlacedRows → List RowsEvent
-rows_between from to rows = map rows_value (drop from (take to rows))
-
--- the body that is written for a rows event is so long
-abbrev pub HasLength : PlacedRows → ℕ → Type 0
-HasLength x len = event_size (rows_event true (rows_value x)) ≡ 19 + len
-
--- the piece that begins with a rows event ends before another
-pub record IsPieceEnd (limit : ℕ) (rows : List PlacedRows) (from to : ℕ) : Type 0 where
-  pub behind : from < to
-  pub within : to ≤ length rows
-  pub cut : pieces_of limit (map rows_value (drop from rows)) ≡ rows_between from to rows ∷ pieces_of limit (map rows_value (drop to rows))

@@ -20,7 +20,7 @@ returns-in_err-sizes g c =
 pub lay_out-requires : goal.lay_out-requires
 lay_out-requires g c k =
     let ts = cut_groups c.args.limit (groups (index_bytes c.args.index.now) (index_selection c.args.index.now)) in
-    ((refl, tt), written-sizes (length c.front-front.result.now) ts _ c.in_ok-sizes.sizes c.in_ok-events.ensures.left c.in_ok-sizes.ensures)
+    ((refl, tt), (c.in_ok-events.ensures.sound, written-sizes (length c.front-front.result.now) ts _ c.in_ok-sizes.sizes c.in_ok-events.ensures.left c.in_ok-sizes.ensures))
 
 pub returns-in-Ok : goal.returns-in-Ok
 returns-in-Ok g c =

@@ -3,8 +3,8 @@ use Rattle.blog_trans.specs.Groups.{PlacedStatement}
 use Rattle.blog_trans.specs.code.IndexView.{index_groups, statement_at}
 use Rattle.std.proofs.lemmas.Option.{slice_get_within}
 use Rattle.blog_split.specs.code.Sizes.{IsAmongMost}
-use Rattle.blog_split.proofs.Between.{at-some, maps-counted, rows-counted, some-from, statement-here, statement-there, statements-counted}
-use Rattle.blog_split.proofs.Measuring.{among-more, below-next}
+use Rattle.blog_split.proofs.MapIds.{at-some}
+use Rattle.blog_split.proofs.Measuring.{among-more, below-next, maps-counted, rows-counted, some-from, statement-here, statement-there, statements-counted}
 use Rattle.blog_split.proofs.most.most_in.Goals as goal
 
 pub maps-requires : goal.maps-requires

@@ -3,8 +3,7 @@ use Rattle.blog_trans.specs.Groups.{PlacedStatement}
 use Rattle.blog_trans.specs.code.IndexView.{index_groups, statement_at}
 use Rattle.blog_trans.proofs.IndexFacts.{below}
 use Rattle.blog_split.specs.code.Sizes.{IsAmongMost}
-use Rattle.blog_split.proofs.Between.{some-from}
-use Rattle.blog_split.proofs.Measuring.{among-more, below-next}
+use Rattle.blog_split.proofs.Measuring.{among-more, below-next, some-from}
 use Rattle.blog_split.proofs.most.most_of.Goals as goal
 
 pub transactions-preserved : goal.transactions-preserved

@@ -20,17 +20,17 @@ returns-in-Err-clause-written g c =
 pub write_out-requires : goal.write_out-requires
 write_out-requires g c k =
     let ts = cut_groups c.args.limit (groups (index_bytes c.args.index.now) (index_selection c.args.index.now)) in
-    let has = written-sizes (length c.front-front.result.now) ts _ c.in-Ok.sizes c.in-Ok-new.ensures.left c.in-Ok.ensures in
-    ((refl, tt), record { short = omega (arith, has.len, has.short); each = has.each })
+    let has = written-sizes (length c.front-front.result.now) ts _ c.in-Ok.sizes c.in-Ok-cut_groups_of.ensures.left c.in-Ok.ensures in
+    ((refl, tt), (c.in-Ok-cut_groups_of.ensures.sound, record { short = omega (arith, has.len, has.short); each = has.each }))
 
 pub returns-in-Ok-write_out-clause-written : goal.returns-in-Ok-write_out-clause-written
 returns-in-Ok-write_out-clause-written g c =
     let ts = cut_groups c.args.limit (groups (index_bytes c.args.index.now) (index_selection c.args.index.now)) in
-    let (text, short) = whole-text c.front-front.result.now _ ts _ c.in-Ok.sizes (c.front-front.ensures.any ts) c.in-Ok.ensures c.in-Ok-new.ensures.left in
+    let (text, short) = whole-text c.front-front.result.now _ ts _ c.in-Ok.sizes (c.front-front.ensures.any ts) c.in-Ok.ensures c.in-Ok-cut_groups_of.ensures.left in
     (subst (Appends (g.W.Write.contents (device_of c.args.writer.now)) (g.W.Write.contents (device_of c.write_out.new.writer))) text c.in-Ok-write_out.ensures.written, short)
 
 pub returns-in-Err-Write-clause-written : goal.returns-in-Err-Write-clause-written
 returns-in-Err-Write-clause-written g c =
     let ts = cut_groups c.args.limit (groups (index_bytes c.args.index.now) (index_selection c.args.index.now)) in
-    let (text, short) = whole-text c.front-front.result.now _ ts _ c.in-Ok.sizes (c.front-front.ensures.any ts) c.in-Ok.ensures c.in-Ok-new.ensures.left in
+    let (text, short) = whole-text c.front-front.result.now _ ts _ c.in-Ok.sizes (c.front-front.ensures.any ts) c.in-Ok.ensures c.in-Ok-cut_groups_of.ensures.left in
     (cut-broken _ _ _ _ c.write_out.result c.in-Err-Write.field-0 c.in-Err-Write.is c.in-Err-Write.field-0-is text c.write_out.ensures.written, short)

@@ -1,4 +1,3 @@
-use Rattle.std.proofs.Common.{arith}
 use Rattle.std.specs.List.{IsDistinct}
 use Rattle.blog_split.proofs.MapIds.{listed-none}
 use Rattle.blog_split.proofs.cut_events.CutEvents.end_statement.Goals as goal

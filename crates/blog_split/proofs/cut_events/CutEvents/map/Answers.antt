@@ -1,4 +1,4 @@
-use Rattle.std.proofs.Common.{◌≡◌, ◌<◌, Some, length, map, option_map, refl, slice_get, sym, ap, arith, get_or, ◌∙◌}
+use Rattle.std.proofs.Common.{◌≡◌, Some, map, option_map, refl, slice_get, sym, ap, arith, ◌∙◌}
 use Rattle.std.proofs.lemmas.Option.{slice_get-get_or, slice_get-map}
 use Rattle.blog_split.specs.code.Marks.{event_told}
 use Rattle.blog_split.proofs.Marks.{numbered-first}

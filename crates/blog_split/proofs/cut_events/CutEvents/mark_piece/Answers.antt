@@ -1,15 +1,12 @@
-use Rattle.std.proofs.Common.{◌≡◌, ◌+◌, ◌∷◌, ◌++◌, Some, length, map, take, drop, refl, sym, ap, subst, arith, ◌∙◌}
+use Rattle.std.proofs.Common.{◌≡◌, ◌∷◌, length, map, take, drop, refl, ap, subst, arith, ◌∙◌}
 use Rattle.std.proofs.lemmas.List.{length-map}
-use Rattle.blog_trans.specs.declared.group_events.SkippedEvent.TheVariants as over
 use Rattle.blog_flash.specs.Written.{Written, Changes}
-use Rattle.blog_split.specs.Cuts.{rows_bytes}
 use Rattle.blog_split.specs.code.CutView.{maps_left}
 use Rattle.blog_split.specs.code.CutWritten.{AreApart, rows_of}
-use Rattle.blog_split.specs.code.Marks.{AreListed, IsFound, event_told, id_number}
+use Rattle.blog_split.specs.code.Marks.{AreListed, IsFound, event_told}
 use Rattle.blog_split.proofs.CutWritten.{bytes-more, rows-more}
-use Rattle.blog_split.proofs.Going.{can-go-on, ends, fewer-rows, goes-on, going, is-some, marked-one, room-as-asked, rows_open, size-known, skips-ahead}
-use Rattle.blog_split.proofs.MapIds.{number-found}
-use Rattle.blog_split.proofs.Marks.{marks-more, marks-none}
+use Rattle.blog_split.proofs.Going.{can-go-on, ends, fewer-rows, goes-on, is-some, marked-one, room-as-asked, rows_open, size-known, skips-ahead}
+use Rattle.blog_split.proofs.Marks.{marks-none}
 use Rattle.blog_split.proofs.cut_events.CutEvents.mark_piece.Goals as goal
 
 pub events-init : goal.events-init

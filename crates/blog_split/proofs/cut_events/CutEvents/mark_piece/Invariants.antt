@@ -1,4 +1,4 @@
-use Rattle.std.proofs.Common.{◌≡◌, ◌<◌, ◌≤◌, ◌-◌, true, false, length, map, take, drop, vec_len, []}
+use Rattle.std.proofs.Common.{◌≡◌, ◌≤◌, ◌-◌, true, false, length, map, take, drop, vec_len, []}
 use Rattle.blog_split.specs.Cuts.{rows_bytes}
 use Rattle.blog_split.specs.code.CutView.{HasRows, IsAhead, maps_left}
 use Rattle.blog_split.specs.code.CutWritten.{CanBeCut, cut_written, rows_of}

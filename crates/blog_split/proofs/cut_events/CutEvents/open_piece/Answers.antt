@@ -1,12 +1,12 @@
-use Rattle.std.proofs.Common.{◌≡◌, ◌++◌, append_assoc, eqb, filter, length, map, take, drop, rules, sym, ap, subst, refl, arith, ◌∙◌}
+use Rattle.std.proofs.Common.{append_assoc, eqb, filter, map, take, sym, arith, ◌∙◌}
 use Rattle.std.specs.List.{dedup}
 use Rattle.std.proofs.lemmas.List.{drop_all, length-map}
 use Rattle.std.proofs.lemmas.List.Filters.{dedup_is}
 use Rattle.std.proofs.lemmas.Map.Keys.{IsStrictlyIncreasing-dedup}
-use Rattle.blog_flash.specs.Written.{Written, Maps, rows_written}
+use Rattle.blog_flash.specs.Written.{Maps, rows_written}
 use Rattle.blog_split.specs.Cuts.{is_used_by}
-use Rattle.blog_split.specs.code.CutWritten.{cut_written, rows_of}
-use Rattle.blog_split.specs.code.Marks.{AreUsed, event_told, numbered}
+use Rattle.blog_split.specs.code.CutWritten.{rows_of}
+use Rattle.blog_split.specs.code.Marks.{event_told}
 use Rattle.blog_split.proofs.Marks.{marks-kept, used-are}
 use Rattle.blog_split.proofs.cut_events.CutEvents.open_piece.Goals as goal
 

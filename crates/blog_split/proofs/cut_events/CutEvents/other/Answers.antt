@@ -1,6 +1,6 @@
-use Rattle.std.proofs.Common.{refl, sym, subst, arith, drop}
+use Rattle.std.proofs.Common.{refl, arith}
 use Rattle.std.proofs.lemmas.List.{drop_all}
-use Rattle.blog_split.specs.code.CutView.{IsAhead, maps_left}
+use Rattle.blog_split.specs.code.CutView.{maps_left}
 use Rattle.blog_split.proofs.Going.{is-other, other-can, other-gives, skips-ahead, steps-ahead, yields-steps}
 use Rattle.blog_split.proofs.cut_events.CutEvents.other.Goals as goal
 
