@@ -17,7 +17,7 @@ use Rattle.blog_flash.proofs.Formed.{IsMapEvent, IsRowsEvent, IsStatement, IsTra
 use Rattle.blog_split.specs.Cuts.{is_used_by, rows_bytes}
 use Rattle.blog_split.specs.declared.most.Most.{Most}
 use Rattle.blog_split.specs.code.Greedy.{pieces_on, pieces_of, cut_statement, cut_transaction, cut_groups}
-use Rattle.blog_split.specs.code.CutWritten.{piece_written, has_room, cut_written, rows_of, AreApart, CanBeCut}
+use Rattle.blog_split.specs.code.CutWritten.{piece_written, has_room, cut_written, rows_among, AreApart, CanBeCut}
 use Rattle.blog_split.proofs.Pieces.{all-parts}
 use Rattle.blog_split.proofs.Small.{rows_bytes-append}
 
@@ -66,11 +66,7 @@ module _ (limit : ℕ) (maps : List Event) (piece : List RowsEvent) where
 pub bytes-more : (piece : List RowsEvent) (r : RowsEvent) → rows_bytes (piece ++ r ∷ []) ≡ rows_bytes piece + event_size (rows_event true r)
 bytes-more piece r = omega (arith, rows_bytes-append piece (r ∷ []))
 
--- for the first rows event of a piece
-pub room-first : (limit : ℕ) (r : RowsEvent) → has_room limit [] r ≡ true
-room-first limit r = refl
-
--- for another, by what is left of the limit
+-- for one more, by what is left of the limit
 pub room-is : (limit left : ℕ) (piece : List RowsEvent) (r : RowsEvent) → 0 < length piece → left ≡ limit - rows_bytes piece
     → (event_size (rows_event true r) ≤ left → has_room limit piece r ≡ true) × (left < event_size (rows_event true r) → has_room limit piece r ≡ false)
 room-is limit left [] r some is = absurd (omega arith)
@@ -173,9 +169,12 @@ module _ (Known : Event → Type 0) (most : Most) where
       → CanBeCut most before 0 (map Maps maps ++ ws)
   maps-can before [] all ws formed are apart few can = subst (λ (ms : List Event). CanBeCut most ms 0 ws) (sym are ∙ append-nil before) can
   maps-can before (m ∷ maps) all ws formed are apart few can =
-      let next = append_assoc before (m ∷ []) maps ∙ are in
-      (map-long m formed.0, omega (arith, ap length are, length-append before (m ∷ maps)), apart-front (before ++ m ∷ []) maps all next apart,
-       maps-can (before ++ m ∷ []) maps all ws formed.1 next apart few can)
+      let next = append_assoc before (m ∷ []) maps ∙ are in (
+        map-long m formed.0,
+        omega (arith, ap length are, length-append before (m ∷ maps)),
+        apart-front (before ++ m ∷ []) maps all next apart,
+        maps-can (before ++ m ∷ []) maps all ws formed.1 next apart few can,
+      )
 
   -- its rows events, behind so many
   rows-can : (own maps : List Event) (n : ℕ) (r : RowsEvent) (rows : List RowsEvent) (ws : List Written) → AllByRecursion (IsRowsEvent own) (r ∷ rows) → n + length (r ∷ rows) ≤ most.rows
@@ -206,7 +205,7 @@ module _ (Known : Event → Type 0) (most : Most) where
 -- ---- rows events among written events
 
 -- no more than there are events
-rows-within : (n : ℕ) (ws : List Written) → length (rows_of (take n ws)) ≤ n
+rows-within : (n : ℕ) (ws : List Written) → length (rows_among (take n ws)) ≤ n
 rows-within zero ws = omega arith
 rows-within (suc n) [] = omega arith
 rows-within (suc n) (Same e ∷ ws) = let others = rows-within n ws in omega arith
@@ -214,8 +213,8 @@ rows-within (suc n) (Maps m ∷ ws) = let others = rows-within n ws in omega ari
 rows-within (suc n) (Changes r last ∷ ws) = let others = rows-within n ws in omega arith
 
 -- where all of them are rows events, the first is
-pub rows-first : (n : ℕ) (ws : List Written) → length (rows_of (take (n + 1) ws)) ≡ n + 1
-    → (r : RowsEvent) × (last : Bool) × (behind : List Written) × (ws ≡ Changes r last ∷ behind) × (length (rows_of (take n behind)) ≡ n)
+pub rows-first : (n : ℕ) (ws : List Written) → length (rows_among (take (n + 1) ws)) ≡ n + 1
+    → (r : RowsEvent) × (last : Bool) × (behind : List Written) × (ws ≡ Changes r last ∷ behind) × (length (rows_among (take n behind)) ≡ n)
 rows-first n [] all = absurd (omega (arith, rw add-one at all))
 rows-first n (Same e ∷ ws) all = absurd (omega (arith, rows-within n ws, rw add-one at all))
 rows-first n (Maps m ∷ ws) all = absurd (omega (arith, rows-within n ws, rw add-one at all))
@@ -223,18 +222,18 @@ rows-first n (Changes r last ∷ ws) all = (r, last, ws, refl, omega (arith, rw 
 
 -- one more
 rows-next : (n : ℕ) (ws : List Written) (r : RowsEvent) (last : Bool) (behind : List Written) → drop n ws ≡ Changes r last ∷ behind
-    → (rows_of (take (suc n) ws) ≡ rows_of (take n ws) ++ r ∷ []) × (drop (suc n) ws ≡ behind)
-rows-next zero ws r last behind here = (ap (λ (es : List Written). rows_of (take 1 es)) here, ap (drop 1) here)
+    → (rows_among (take (suc n) ws) ≡ rows_among (take n ws) ++ r ∷ []) × (drop (suc n) ws ≡ behind)
+rows-next zero ws r last behind here = (ap (λ (es : List Written). rows_among (take 1 es)) here, ap (drop 1) here)
 rows-next (suc n) [] r last behind here = absurd (cc here)
 rows-next (suc n) (Same e ∷ ws) r last behind here = rows-next n ws r last behind here
 rows-next (suc n) (Maps m ∷ ws) r last behind here = rows-next n ws r last behind here
 rows-next (suc n) (Changes s b ∷ ws) r last behind here = let more = rows-next n ws r last behind here in (ap (λ (rows : List RowsEvent). s ∷ rows) more.0, more.1)
 
-pub rows-more : (n : ℕ) (ws : List Written) (r : RowsEvent) (last : Bool) (behind : List Written) → drop n ws ≡ Changes r last ∷ behind → length (rows_of (take n ws)) ≡ n
-    → (rows_of (take (n + 1) ws) ≡ rows_of (take n ws) ++ r ∷ []) × (length (rows_of (take (n + 1) ws)) ≡ n + 1) × (drop (n + 1) ws ≡ behind)
+pub rows-more : (n : ℕ) (ws : List Written) (r : RowsEvent) (last : Bool) (behind : List Written) → drop n ws ≡ Changes r last ∷ behind → length (rows_among (take n ws)) ≡ n
+    → (rows_among (take (n + 1) ws) ≡ rows_among (take n ws) ++ r ∷ []) × (length (rows_among (take (n + 1) ws)) ≡ n + 1) × (drop (n + 1) ws ≡ behind)
 rows-more n ws r last behind here all =
     let more = rows-next n ws r last behind here in
-    rw add-one (more.0, omega (arith, ap length more.0, length-append (rows_of (take n ws)) (r ∷ []), all), more.1)
+    rw add-one (more.0, omega (arith, ap length more.0, length-append (rows_among (take n ws)) (r ∷ []), all), more.1)
 
 -- the first of a piece, with the end flag where it is the last
 pub written-first : (r : RowsEvent) (rows : List RowsEvent) → rows_written (r ∷ rows) ≡ Changes r (length rows == 0) ∷ rows_written rows

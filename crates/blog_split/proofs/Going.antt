@@ -21,7 +21,7 @@ use Rattle.blog_flash.specs.declared.written_event.WrittenEvent.{WrittenEvent}
 use Rattle.blog_split.specs.Cuts.{rows_bytes}
 use Rattle.blog_split.specs.declared.most.Most.{Most}
 use Rattle.blog_split.specs.code.CutView.{IsAhead}
-use Rattle.blog_split.specs.code.CutWritten.{AreApart, CanBeCut, cut_written, ending, has_room, piece_written, rows_of}
+use Rattle.blog_split.specs.code.CutWritten.{AreApart, CanBeCut, cut_written, ending, has_room, piece_written, rows_among}
 use Rattle.blog_split.specs.code.Marks.{AreMarks, IsFound, IsTable, id_number}
 use Rattle.blog_split.specs.declared.used_maps.MapId.{MapId}
 use Rattle.blog_split.proofs.MapIds.{differs, number-found}
@@ -123,34 +123,34 @@ map-first limit maps m ws = ap (λ (es : List Written). es ++ cut_written limit 
 
 -- the first of n + 1 of them, and the others
 pub record IsFirst (n rows : ℕ) (ws : List Written) (w : Written) (rest : List Written) : Type 0 where
-  pub counted : length (rows_of (take n rest)) ≡ n
-  pub written : rows_written (rows_of (take rows ws)) ≡ ending (nat_eq n 0) w ∷ rows_written (rows_of (take n rest))
+  pub counted : length (rows_among (take n rest)) ≡ n
+  pub written : rows_written (rows_among (take rows ws)) ≡ ending (nat_eq n 0) w ∷ rows_written (rows_among (take n rest))
   pub left : drop rows ws ≡ drop n rest
 
-written-next : (n : ℕ) (r : RowsEvent) (last : Bool) (rest : List Written) → length (rows_of (take n rest)) ≡ n
-    → rows_written (rows_of (take (n + 1) (Changes r last ∷ rest))) ≡ Changes r (nat_eq n 0) ∷ rows_written (rows_of (take n rest))
+written-next : (n : ℕ) (r : RowsEvent) (last : Bool) (rest : List Written) → length (rows_among (take n rest)) ≡ n
+    → rows_written (rows_among (take (n + 1) (Changes r last ∷ rest))) ≡ Changes r (nat_eq n 0) ∷ rows_written (rows_among (take n rest))
 written-next n r last rest counted =
-    let others = rows_of (take n rest) in
-    ap (λ (m : ℕ). rows_written (rows_of (take m (Changes r last ∷ rest)))) (add-one n) ∙ written-first r others ∙ ap (λ (m : ℕ). Changes r (nat_eq m 0) ∷ rows_written others) counted
+    let others = rows_among (take n rest) in
+    ap (λ (m : ℕ). rows_written (rows_among (take m (Changes r last ∷ rest)))) (add-one n) ∙ written-first r others ∙ ap (λ (m : ℕ). Changes r (nat_eq m 0) ∷ rows_written others) counted
 
-pub first-rows : (n rows : ℕ) (ws : List Written) (w : Written) (rest : List Written) → rows ≡ n + 1 → length (rows_of (take rows ws)) ≡ rows → ws ≡ w ∷ rest → IsFirst n rows ws w rest
+pub first-rows : (n rows : ℕ) (ws : List Written) (w : Written) (rest : List Written) → rows ≡ n + 1 → length (rows_among (take rows ws)) ≡ rows → ws ≡ w ∷ rest → IsFirst n rows ws w rest
 first-rows n rows ws w rest many counted is =
-    let (r, last, behind, here, others) = rows-first n ws (subst (λ (m : ℕ). length (rows_of (take m ws)) ≡ m) many counted) in
+    let (r, last, behind, here, others) = rows-first n ws (subst (λ (m : ℕ). length (rows_among (take m ws)) ≡ m) many counted) in
     let same : behind ≡ rest = cc (is, here) in
     let first : w ≡ Changes r last = cc (is, here) in
-    let all = subst (λ (xs : List Written). length (rows_of (take n xs)) ≡ n) same others in
+    let all = subst (λ (xs : List Written). length (rows_among (take n xs)) ≡ n) same others in
     record {
       counted = all;
-      written = ap₂ (λ (m : ℕ) (xs : List Written). rows_written (rows_of (take m xs))) many (is ∙ ap (λ (v : Written). v ∷ rest) first)
-          ∙ written-next n r last rest all ∙ ap (λ (v : Written). ending (nat_eq n 0) v ∷ rows_written (rows_of (take n rest))) (sym first);
+      written = ap₂ (λ (m : ℕ) (xs : List Written). rows_written (rows_among (take m xs))) many (is ∙ ap (λ (v : Written). v ∷ rest) first)
+          ∙ written-next n r last rest all ∙ ap (λ (v : Written). ending (nat_eq n 0) v ∷ rows_written (rows_among (take n rest))) (sym first);
       left = ap₂ (λ (m : ℕ) (xs : List Written). drop m xs) many is ∙ ap (λ (m : ℕ). drop m (w ∷ rest)) (add-one n);
     }
 
 -- there is a first one
-pub some-rows : (rows : ℕ) (ws : List Written) → 0 < rows → length (rows_of (take rows ws)) ≡ rows → ws ≡ [] → ⊥
+pub some-rows : (rows : ℕ) (ws : List Written) → 0 < rows → length (rows_among (take rows ws)) ≡ rows → ws ≡ [] → ⊥
 some-rows zero ws some counted none = absurd (omega (arith, some))
 some-rows (suc n) ws some counted none =
-    let (r, last, behind, is, others) = rows-first n ws (subst (λ (m : ℕ). length (rows_of (take m ws)) ≡ m) (sym (add-one n)) counted) in
+    let (r, last, behind, is, others) = rows-first n ws (subst (λ (m : ℕ). length (rows_among (take m ws)) ≡ m) (sym (add-one n)) counted) in
     absurd (cc (is, none))
 
 -- fewer rows events of an open statement are no more than so many

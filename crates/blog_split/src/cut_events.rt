@@ -256,7 +256,8 @@ impl<'a, E: WrittenEvents<'a> + Drop, A: Allocator> CutEvents<'a, E, A> {
     {
         let mut left = self.limit;
         'events: while let Some(rows) = self.next_rows(left) {
-            mark(&mut self.used, number_of(&self.ids, id_of(rows.event.body)));
+            let number = number_of(&self.ids, id_of(rows.event.body));
+            mark(&mut self.used, number);
             left = left.saturating_sub(HEADER_LEN).saturating_sub(rows.len);
             self.rows += 1;
             self.is_last = rows.last;

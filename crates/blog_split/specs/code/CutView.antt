@@ -11,7 +11,7 @@ use Rattle.blog_flash.specs.Written.{Written, Maps, rows_written}
 use Rattle.blog_flash.specs.code.Skipping.{IsSkipped}
 use Rattle.blog_flash.specs.code.WrittenView.{written_told}
 use Rattle.blog_flash.specs.declared.written_event.WrittenEvent.{WrittenEvent}
-use Rattle.blog_split.specs.code.CutWritten.{CanBeCut, cut_written, piece_written, rows_of}
+use Rattle.blog_split.specs.code.CutWritten.{CanBeCut, cut_written, piece_written, rows_among}
 use Rattle.blog_split.specs.declared.cut_events.Coming.{Coming}
 use Rattle.blog_split.specs.declared.cut_events.Coming.TheVariants as coming
 use Rattle.blog_split.specs.declared.cut_events.CutEvents.{CutEvents}
@@ -28,14 +28,14 @@ maps_left is_last maps = if is_last then [] else map event_told maps
 -- the events that are still to come: what the open piece has left, and the others as they are cut
 abbrev pub cut_to_come : {E A : Type 0} → (E → List Written) → CutEvents E A → List Written
 cut_to_come to_come cut =
-    map Maps (numbered (map event_told cut.maps.items) (drop cut.given cut.used.items)) ++ (rows_written (rows_of (take cut.rows (to_come cut.events)))
+    map Maps (numbered (map event_told cut.maps.items) (drop cut.given cut.used.items)) ++ (rows_written (rows_among (take cut.rows (to_come cut.events)))
     ++ cut_written cut.limit (maps_left cut.is_last cut.maps.items) [] (drop cut.rows (to_come cut.events)))
 
 -- the source and the walk ahead of it agree, and the other events can be cut
 pub record IsSound {E A : Type 0} (can_next : E → Type 0) (to_come : E → List Written) (cut : CutEvents E A) : Type 0 where
   pub events : can_next cut.events
   pub ahead : can_next cut.ahead
-  pub counted : length (rows_of (take cut.rows (to_come cut.events))) ≡ cut.rows
+  pub counted : length (rows_among (take cut.rows (to_come cut.events))) ≡ cut.rows
   pub next : IsAhead cut.next (drop cut.rows (to_come cut.events)) (to_come cut.ahead)
   pub can_be_cut : CanBeCut cut.most (maps_left cut.is_last cut.maps.items) 0 (drop cut.rows (to_come cut.events))
   pub used : All (λ n. n < length cut.maps.items) cut.used.items
@@ -87,7 +87,7 @@ pub record MarksPiece {E A : Type 0} (to_come : E → List Written) (before afte
   pub maps : after.maps ≡ before.maps
   pub given : after.given ≡ before.given
   pub some : 0 < after.rows
-  pub marks : AreMarks (map event_told before.maps.items) (rows_of (take after.rows (to_come before.events))) after.used.items
+  pub marks : AreMarks (map event_told before.maps.items) (rows_among (take after.rows (to_come before.events))) after.used.items
   pub cut : cut_written before.limit (map event_told before.maps.items) [] (to_come before.events)
-      ≡ piece_written (map event_told before.maps.items) (rows_of (take after.rows (to_come before.events)))
+      ≡ piece_written (map event_told before.maps.items) (rows_among (take after.rows (to_come before.events)))
       ++ cut_written before.limit (maps_left after.is_last before.maps.items) [] (drop after.rows (to_come before.events))

@@ -34,11 +34,11 @@ cut_written limit maps piece (Changes r true ∷ ws) = ended limit maps piece r 
 cut_written limit maps piece (Changes r false ∷ ws) = ended limit maps piece r ++ cut_written limit maps (joined limit piece r) ws
 
 -- the rows events among written events
-abbrev pub rows_of : List Written → List RowsEvent
-rows_of [] = []
-rows_of (Same e ∷ ws) = rows_of ws
-rows_of (Maps m ∷ ws) = rows_of ws
-rows_of (Changes r last ∷ ws) = r ∷ rows_of ws
+abbrev pub rows_among : List Written → List RowsEvent
+rows_among [] = []
+rows_among (Same e ∷ ws) = rows_among ws
+rows_among (Maps m ∷ ws) = rows_among ws
+rows_among (Changes r last ∷ ws) = r ∷ rows_among ws
 
 -- a written event with another end flag, where it has one
 abbrev pub ending : Bool → Written → Written

@@ -31,5 +31,5 @@ returns-clause-left g c =
     let sel = index_selection index in
     let are = source-groups bytes sel (subst AreBytes c.requires (λ i. omega (arith, c.type_inv.bytes i))) index.accepted in
     let cut = ap (cut_written c.args.limit [] []) c.new-events.ensures ∙ cut-of-groups (Chosen bytes sel) c.args.limit (groups bytes sel) are
-        ∙ ap (λ (own : List ℕ). groups_written (cut_groups c.args.limit (groups own sel))) (sym c.requires) in
+    ∙ ap (λ (own : List ℕ). groups_written (cut_groups c.args.limit (groups own sel))) (sym c.requires) in
     subst (λ (ws : List Written). IfOk c.new.result (λ events. cut_to_come groups_to_come events ≡ ws)) cut c.new.ensures.left

@@ -2,7 +2,7 @@ use Rattle.std.proofs.Common.{◌≡◌, ◌∷◌, length, map, take, drop, ref
 use Rattle.std.proofs.lemmas.List.{length-map}
 use Rattle.blog_flash.specs.Written.{Written, Changes}
 use Rattle.blog_split.specs.code.CutView.{maps_left}
-use Rattle.blog_split.specs.code.CutWritten.{AreApart, rows_of}
+use Rattle.blog_split.specs.code.CutWritten.{AreApart, rows_among}
 use Rattle.blog_split.specs.code.Marks.{AreListed, IsFound, event_told}
 use Rattle.blog_split.proofs.CutWritten.{bytes-more, rows-more}
 use Rattle.blog_split.proofs.Going.{can-go-on, ends, fewer-rows, goes-on, is-some, marked-one, room-as-asked, rows_open, size-known, skips-ahead}
@@ -39,7 +39,7 @@ events-preserved g c =
     let to_come = g.E.WrittenEvents.to_come in
     let own = map event_told before.maps.items in
     let ws = to_come before.events in
-    let piece = rows_of (take cut.rows ws) in
+    let piece = rows_among (take cut.rows ws) in
     let rows = c.in-Some.rows in
     let on = c.in-Some.ensures in
     let others = to_come cut.ahead in
@@ -47,10 +47,10 @@ events-preserved g c =
     let rest : drop cut.rows ws ≡ Changes r rows.last ∷ others = first ∙ ap (λ (v : Written). v ∷ others) is in
     let more = rows-more cut.rows ws r rows.last others rest kept.counted in
     let (long, room, can) = can-go-on before.most own cut.rows r rows.last others (rw (on.same_statement, rest) at kept.can_be_cut) in
-    let marks = marked-one own cut.ids.items piece cut.used.items r rows c.id_of.result c.number_of.result kept.marks
-            (subst (λ m. AreApart (map event_told m.items)) kept.maps cut.apart)
-            (record { all = subst (λ m. AreListed (map event_told m.items) cut.ids.items) kept.maps cut.listed; ordered = cut.ordered kept.sorted })
-            long known c.id_of.ensures.number c.id_of.ensures.bytes (subst (λ ids. IsFound ids c.id_of.result c.number_of.result) c.deref.ensures.value c.number_of.ensures) in
+    let marks = marked-one own cut.ids.items piece cut.used.items r rows c.id_of.result c.number_of-number.result kept.marks
+    (subst (λ m. AreApart (map event_told m.items)) kept.maps cut.apart)
+    (record { all = subst (λ m. AreListed (map event_told m.items) cut.ids.items) kept.maps cut.listed; ordered = cut.ordered kept.sorted })
+    long known c.id_of.ensures.number c.id_of.ensures.bytes (subst (λ ids. IsFound ids c.id_of.result c.number_of-number.result) c.deref.ensures.value c.number_of-number.ensures) in
     record {
       limit = kept.limit;
       events = kept.events;
@@ -98,5 +98,5 @@ returns-clause-first g c =
       given = kept.given;
       some = is-some cut.rows c.events.left cut.is_last cut.next kept.some kept.none_last c.in_default.ensures;
       marks = kept.marks;
-      cut = kept.cut ∙ ends before.limit c.events.left cut.rows cut.is_last own (rows_of (take cut.rows ws)) cut.next (drop cut.rows ws) (g.E.WrittenEvents.to_come cut.ahead) kept.next kept.counted kept.bytes c.in_default.ensures;
+      cut = kept.cut ∙ ends before.limit c.events.left cut.rows cut.is_last own (rows_among (take cut.rows ws)) cut.next (drop cut.rows ws) (g.E.WrittenEvents.to_come cut.ahead) kept.next kept.counted kept.bytes c.in_default.ensures;
     }

@@ -1,7 +1,7 @@
 use Rattle.std.proofs.Common.{◌≡◌, ◌≤◌, ◌-◌, true, false, length, map, take, drop, vec_len, []}
 use Rattle.blog_split.specs.Cuts.{rows_bytes}
 use Rattle.blog_split.specs.code.CutView.{HasRows, IsAhead, maps_left}
-use Rattle.blog_split.specs.code.CutWritten.{CanBeCut, cut_written, rows_of}
+use Rattle.blog_split.specs.code.CutWritten.{CanBeCut, cut_written, rows_among}
 use Rattle.blog_split.specs.code.Marks.{AreMarks, event_told}
 use Rattle.blog_split.proofs.Going.{going, rows_open}
 use Rattle.blog_split.proofs.cut_events.CutEvents.mark_piece.Given as goal
@@ -12,7 +12,7 @@ invariant-events g l =
     let to_come = g.E.WrittenEvents.to_come in
     let ws = to_come l.fn.self.events in
     let own = map event_told l.fn.self.maps.items in
-    let piece = rows_of (take l.self.rows ws) in
+    let piece = rows_among (take l.self.rows ws) in
     let rest = drop l.self.rows ws in
     record {
       limit : l.self.limit ≡ l.fn.self.limit;

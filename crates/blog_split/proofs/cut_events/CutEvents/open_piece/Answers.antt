@@ -5,7 +5,7 @@ use Rattle.std.proofs.lemmas.List.Filters.{dedup_is}
 use Rattle.std.proofs.lemmas.Map.Keys.{IsStrictlyIncreasing-dedup}
 use Rattle.blog_flash.specs.Written.{Maps, rows_written}
 use Rattle.blog_split.specs.Cuts.{is_used_by}
-use Rattle.blog_split.specs.code.CutWritten.{rows_of}
+use Rattle.blog_split.specs.code.CutWritten.{rows_among}
 use Rattle.blog_split.specs.code.Marks.{event_told}
 use Rattle.blog_split.proofs.Marks.{marks-kept, used-are}
 use Rattle.blog_split.proofs.cut_events.CutEvents.open_piece.Goals as goal
@@ -23,9 +23,9 @@ returns-clause-sound g c =
     let own = map event_told before.maps.items in
     let marked = c.mark_piece.ensures.first in
     let sound = c.mark_piece.ensures.sound in
-    let piece = rows_of (take cut.rows (g.E.WrittenEvents.to_come before.events)) in
+    let piece = rows_among (take cut.rows (g.E.WrittenEvents.to_come before.events)) in
     let used = used-are own piece (dedup eqb c.sort_unstable.new.self.items) (marks-kept own piece cut.used.items c.sort_unstable.new.self.items marked.marks c.sort_unstable.ensures.permutation)
-        (IsStrictlyIncreasing-dedup c.sort_unstable.new.self.items c.sort_unstable.ensures.sorted) in
+    (IsStrictlyIncreasing-dedup c.sort_unstable.new.self.items c.sort_unstable.ensures.sorted) in
     record {
       events = sound.events;
       ahead = sound.ahead;
@@ -41,8 +41,8 @@ returns-clause-left g c =
     let cut = c.mark_piece.new.self in
     let own = map event_told before.maps.items in
     let marked = c.mark_piece.ensures.first in
-    let piece = rows_of (take cut.rows (g.E.WrittenEvents.to_come before.events)) in
+    let piece = rows_among (take cut.rows (g.E.WrittenEvents.to_come before.events)) in
     let used = used-are own piece (dedup eqb c.sort_unstable.new.self.items) (marks-kept own piece cut.used.items c.sort_unstable.new.self.items marked.marks c.sort_unstable.ensures.permutation)
-        (IsStrictlyIncreasing-dedup c.sort_unstable.new.self.items c.sort_unstable.ensures.sorted) in
+    (IsStrictlyIncreasing-dedup c.sort_unstable.new.self.items c.sort_unstable.ensures.sorted) in
     rw (dedup_is _ _ _ c.dedup.ensures.filtered, marked.limit, marked.events, marked.maps, marked.given, used.maps_are, c.requires.open, c.requires.no_rows, drop_all before.given before.used.items (omega (arith, c.requires.no_maps)))
     (sym (marked.cut ∙ append_assoc (map Maps (filter (is_used_by piece) own)) (rows_written piece) _))

@@ -28,6 +28,8 @@ returns-clause-first g c =
     let to_come = g.E.WrittenEvents.to_come in
     let (through, no_map, no_rows) = c.requires.ready in
     let ahead = rw (through.rows) at c.requires.sound.next in
-    record { first = rw (drop_all before.given before.used.items (omega (arith, through.maps)), through.rows)
-        (other-gives to_come before.events c.next_event.new.self before.limit (maps_left before.is_last before.maps.items) c.next_event.result c.next_event.ensures.first
-        (is-other before.next (to_come before.events) (to_come before.ahead) ahead no_map no_rows)) }
+    record {
+      first = rw (drop_all before.given before.used.items (omega (arith, through.maps)), through.rows)
+          (other-gives to_come before.events c.next_event.new.self before.limit (maps_left before.is_last before.maps.items) c.next_event.result c.next_event.ensures.first
+          (is-other before.next (to_come before.events) (to_come before.ahead) ahead no_map no_rows));
+    }

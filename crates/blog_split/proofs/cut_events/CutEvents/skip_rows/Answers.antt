@@ -27,7 +27,8 @@ returns-clause-first g c =
     let before = c.args.self.now in
     let to_come = g.E.WrittenEvents.to_come in
     let (w, taken, is) = c.in_ok-event.ensures.first in
-    let first = first-rows (before.rows - 1) before.rows (to_come before.events) w (to_come c.skip_event.new.self) (omega (arith, c.requires.some)) c.requires.sound.counted taken in
-    (ending (nat_eq (before.rows - 1) 0) w,
-     rw (drop_all before.given before.used.items (omega (arith, c.requires.no_maps)), first.written, first.left) refl,
-     c.skipped_with_last.ensures w is)
+    let first = first-rows (before.rows - 1) before.rows (to_come before.events) w (to_come c.skip_event.new.self) (omega (arith, c.requires.some)) c.requires.sound.counted taken in (
+      ending (nat_eq (before.rows - 1) 0) w,
+      rw (drop_all before.given before.used.items (omega (arith, c.requires.no_maps)), first.written, first.left) refl,
+      c.skipped_with_last.ensures w is,
+    )
