@@ -1,4 +1,4 @@
-//! Runs without a command, with an unknown one, and of the help.
+//! Runs without a command, with an unknown one or with two, and of the help.
 
 use super::{path_of, run_arguments};
 use sample_logs::small::PLAIN;
@@ -57,6 +57,62 @@ fn an_unknown_command_is_an_error(rt: HostRuntime) -> Result<(), Fail> {
     check_wrong(&rt, &["foo", name], "error: unrecognized subcommand 'foo'")?;
     fs::remove_file(&rt, name)?;
     check_wrong(&rt, &["LOG"], "error: unrecognized subcommand 'LOG'")
+}
+
+/// The arguments are wrong, as a line that begins so says, and there is no file of this path.
+fn check_unmade(rt: &HostRuntime, arguments: &[&str], line: &str, file: &str) -> Result<(), Fail> {
+    let refused = run_arguments(rt, arguments)?.begins_refusal(2, line);
+    if refused && !fs::exists(rt, file)? {
+        Ok(())
+    } else {
+        Err(Fail::new(format_args!("{arguments:?}")))
+    }
+}
+
+#[test]
+fn a_wrong_command_makes_no_file(rt: HostRuntime) -> Result<(), Fail> {
+    let log = path_of(&rt, "kept")?;
+    let result = path_of(&rt, "not-made")?;
+    let name = log.as_str();
+    let file = result.as_str();
+    fs::write(&rt, name, PLAIN.as_slice())?;
+    let missing = "error: unexpected argument '-r' found\n\nUsage: binlog plain ";
+    check_unmade(&rt, &["-r", file, name], missing, file)?;
+    check_unmade(&rt, &["-r", file, "plain", name], missing, file)?;
+    let unknown = "error: unrecognized subcommand 'foo'\n\nUsage: binlog plain ";
+    check_unmade(&rt, &["foo", "-r", file, name], unknown, file)?;
+    check_unmade(&rt, &["foo", "plain", "-r", file, name], unknown, file)?;
+    let kept = fs::read(&rt, name)?;
+    fs::remove_file(&rt, name)?;
+    assert_eq!(rt; kept.as_slice(), PLAIN.as_slice());
+    Ok(())
+}
+
+#[test]
+fn a_command_given_twice_is_an_error(rt: HostRuntime) -> Result<(), Fail> {
+    let log = path_of(&rt, "twice")?;
+    let result = path_of(&rt, "not-made-twice")?;
+    let name = log.as_str();
+    let file = result.as_str();
+    fs::write(&rt, name, PLAIN.as_slice())?;
+    for command in ["plain", "list", "split"] {
+        let usage = format!(in rt.alloc(); "found\n\nUsage: binlog {command} ")?;
+        let usage = usage.as_str();
+        let second = format!(in rt.alloc(); "error: unexpected argument '{name}' {usage}")?;
+        check_unmade(&rt, &[command, command, name], second.as_str(), file)?;
+        check_unmade(&rt, &[command, "list", name], second.as_str(), file)?;
+        let last = format!(in rt.alloc(); "error: unexpected argument '{command}' {usage}")?;
+        check_unmade(&rt, &[command, name, command], last.as_str(), file)?;
+    }
+    let line = format!(in rt.alloc(); "error: unexpected argument '{name}' found\n")?;
+    for command in ["plain", "split"] {
+        let arguments = [command, "-r", file, command, name];
+        check_unmade(&rt, &arguments, line.as_str(), file)?;
+    }
+    let kept = fs::read(&rt, name)?;
+    fs::remove_file(&rt, name)?;
+    assert_eq!(rt; kept.as_slice(), PLAIN.as_slice());
+    Ok(())
 }
 
 #[test]
