@@ -86,7 +86,7 @@ maps-passed limit before (m ∷ maps) ws =
     ∙ maps-passed limit (before ++ m ∷ []) maps ws
     ∙ ap (λ (ms : List Event). cut_written limit ms [] ws) (append_assoc before (m ∷ []) maps)
 
--- rows events behind a piece give it and the pieces behind it
+-- rows events after a piece give it and the pieces after it
 module _ (limit : ℕ) (maps : List Event) (ws : List Written) where
   abbrev with_pieces : List (List RowsEvent) → List Written
   with_pieces pieces = flat_map (piece_written maps) pieces ++ cut_written limit [] [] ws
@@ -176,7 +176,7 @@ module _ (Known : Event → Type 0) (most : Most) where
         maps-can (before ++ m ∷ []) maps all ws formed.1 next apart few can,
       )
 
-  -- its rows events, behind so many
+  -- its rows events, after so many
   rows-can : (own maps : List Event) (n : ℕ) (r : RowsEvent) (rows : List RowsEvent) (ws : List Written) → AllByRecursion (IsRowsEvent own) (r ∷ rows) → n + length (r ∷ rows) ≤ most.rows
       → CanBeCut most [] 0 ws → CanBeCut most maps n (rows_written (r ∷ rows) ++ ws)
   rows-can own maps n r [] ws formed few can = (formed.0.content.2.id_len, omega arith, can)

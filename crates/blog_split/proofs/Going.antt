@@ -163,7 +163,7 @@ fewer-rows most maps m n (Changes r false ∷ ws) few (id, room, others) = (id, 
 
 -- ---- a piece goes on
 
--- behind a piece, which ends its statement or doesn't
+-- after a piece, which ends its statement or doesn't
 abbrev pub going : ℕ → Bool → List Event → List RowsEvent → List Written → List Written
 going limit true maps piece ws = piece_written maps piece ++ cut_written limit [] [] ws
 going limit false maps piece ws = cut_written limit maps piece ws
@@ -190,7 +190,7 @@ pub goes-on : (limit : ℕ) (maps : List Event) (piece : List RowsEvent) (r : Ro
 goes-on limit maps piece r true ws room = joins-last limit maps piece r ws room
 goes-on limit maps piece r false ws room = joins-open limit maps piece r ws room
 
--- what can be cut behind it
+-- what can be cut after it
 pub can-go-on : (most : Most) (maps : List Event) (rows : ℕ) (r : RowsEvent) (last : Bool) (ws : List Written) → CanBeCut most maps rows (Changes r last ∷ ws)
     → (length r.content.id ≡ 6) × (rows < most.rows) × CanBeCut most (if last then [] else maps) (rows_open last (rows + 1)) ws
 can-go-on most maps rows r true ws can = can

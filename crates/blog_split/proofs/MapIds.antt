@@ -93,7 +93,7 @@ of-map maps m e here is_id id_is = record {
     same : (q : Event) → slice_get maps e.number ≡ Some q → m ≡ q
     same q at = same_Some m q (sym here ∙ at)
 
--- one more map, behind the others
+-- one more map, after the others
 pub listed-more : (maps : List Event) (ids : List MapId) (m : Event) (e : MapId) → AreListed maps ids → IsId (table_id m.body) → e.number ≡ length maps → e.id ≡ id_number (table_id m.body)
     → AreListed (maps ++ m ∷ []) (ids ++ e ∷ [])
 listed-more maps ids m e h is_id number_is id_is =

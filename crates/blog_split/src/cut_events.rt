@@ -63,7 +63,7 @@ pub(crate) struct CutEvents<'a, E: Drop, A: Allocator> {
     most: Most,
     // Gives the rows events.
     events: E,
-    // Has skipped what the open piece has left, and the event behind it, which is `next`.
+    // Has skipped what the open piece has left, and the event after it, which is `next`.
     ahead: E,
     next: Option<SkippedEvent<'a>>,
     // The maps of the open statement, in order, and the same by their table ids once these are sorted.

@@ -74,6 +74,10 @@ abbrev pub kept_rows : Selection → List Placed → Placed → Option PlacedRow
 kept_rows sel statement p =
     option_and_then (λ map. if is_selected sel map.event.body then rows_by_kind p map (kind_at p) else None) (map_in statement (table_id p.event.body))
 
+-- the table ids that rows events go by
+abbrev pub ids_of : List PlacedRows → List (List ℕ)
+ids_of rows = map (λ x. table_id x.event.event.body) rows
+
 -- the first map of each of these table ids
 abbrev pub first_maps : List (List ℕ) → List Placed → List Placed
 first_maps ids [] = []
@@ -85,7 +89,7 @@ first_maps ids (p ∷ ps) =
 -- a statement without kept rows events is left out
 abbrev pub statement_if : List Placed → List PlacedRows → Option PlacedStatement
 statement_if events [] = None
-statement_if events (r ∷ rows) = Some (record { maps = first_maps (map (λ x. table_id x.event.event.body) (r ∷ rows)) events; rows = r ∷ rows })
+statement_if events (r ∷ rows) = Some (record { maps = first_maps (ids_of (r ∷ rows)) events; rows = r ∷ rows })
 
 abbrev pub kept_statement : Selection → List Placed → Option PlacedStatement
 kept_statement sel events = statement_if events (filter_map (kept_rows sel events) events)

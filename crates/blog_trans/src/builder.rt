@@ -15,7 +15,7 @@ ghost use Rattle.blog_trans.specs.code.Progress.{Open, with_rows};
 ghost use Rattle.blog_trans.specs.code.TablesView.{tables_known};
 ghost use Rattle.blog_trans.specs.code.StatementMaps.{used_of};
 ghost use Rattle.blog_trans.specs.code.CheckerView.{IsKept, HasChecked, images_of};
-ghost use Rattle.blog_trans.specs.code.ListsView.{closed_by, open_behind};
+ghost use Rattle.blog_trans.specs.code.ListsView.{closed_behind, open_behind};
 ghost use Rattle.blog_trans.specs.code.BuilderView.{HasTaken, IsWithin, IsTakenOrRefused, Keeps, placed};
 ghost use Rattle.blog_event.specs.code.LogView.{log_bytes};
 ghost use Rattle.blog_trans.specs.code.WalkView.{IsRead, IsReached, IsThrough, end_fault};
@@ -78,7 +78,7 @@ impl<'a, A: Allocator + Copy> IndexBuilder<'a, A> {
         requires { vec_len self.old.lists.entries + index_map_len self.old.checker.maps < 2 ^ 32 }
         ensures kept { (sel : Sel) (statement earlier : List Placed) (done : List PlacedTransaction) (o : Open) → HasChecked sel statement earlier self.old.checker
             → (o.rows ≡ [] → used_of sel statement ≡ []) → Keeps (open_behind done o) self.old
-            → OnOk result (HasChecked sel [] earlier self.new.checker × Keeps (open_behind done (closed_by (used_of sel statement) o)) self.new) }
+            → OnOk result (HasChecked sel [] earlier self.new.checker × Keeps (closed_behind done (used_of sel statement) o) self.new) }
         ensures layouts { OnOk result (self.new.checker.layouts ≡ self.old.checker.layouts) }
         ensures entries { OnOk result (vec_len self.new.lists.entries + index_map_len self.new.checker.maps ≤ vec_len self.old.lists.entries + index_map_len self.old.checker.maps) }
         ensures images { OnOk result (self.new.counts.images ≡ self.old.counts.images) }

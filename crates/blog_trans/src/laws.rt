@@ -6,11 +6,10 @@ ghost use Rattle.blog_event.specs.declared.fault.Fault.{Fault};
 ghost use Rattle.blog_event.specs.Fault.{first_failing};
 ghost use Rattle.blog_event.specs.File.{Placed, placed_from, read};
 ghost use Rattle.blog_event.specs.Opening.{opening_fault};
-ghost use Rattle.blog_row.specs.RowsEvent.{table_id};
 ghost use Rattle.blog_trans.specs.Selection.{Selection};
 ghost use Rattle.blog_trans.specs.Places.{place, is_inside, is_begin, is_last_rows, since};
 ghost use Rattle.blog_trans.specs.Acceptance.{range, lines, fault, IsAccepted, HavePassed, Passes};
-ghost use Rattle.blog_trans.specs.Groups.{statements_of, kept_rows, first_maps, placed_groups_in, placed_groups};
+ghost use Rattle.blog_trans.specs.Groups.{statements_of, kept_rows, first_maps, ids_of, placed_groups_in, placed_groups};
 ghost use Rattle.blog_trans.specs.code.Progress.{Open, with_rows, progress};
 ghost use Rattle.blog_trans.specs.code.StatementMaps.{first_of_ids, is_used};
 ghost use Rattle.blog_trans.specs.PlacedFacts.{IsPlacedTransaction};
@@ -42,7 +41,7 @@ pub fn statements_are_those_since()
 /// the used ones of its first maps. The call does nothing.
 pub fn statements_have_used_maps()
     ensures { (sel : Selection) (earlier : List Placed) (p : Placed) (o : Open) → HavePassed sel (p ∷ earlier) → (progress sel earlier).current ≡ Some o
-        → first_maps (map (λ x. table_id x.event.event.body) (with_rows (kept_rows sel (reverse (since earlier)) p) o).rows) (reverse (p ∷ since earlier))
+        → first_maps (ids_of (with_rows (kept_rows sel (reverse (since earlier)) p) o).rows) (reverse (p ∷ since earlier))
         ≡ filter (is_used sel (p ∷ since earlier)) (first_of_ids (p ∷ since earlier)) }
 {}
 

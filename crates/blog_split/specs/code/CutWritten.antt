@@ -25,7 +25,7 @@ joined limit piece r = if has_room limit piece r then piece ++ r ∷ [] else r �
 abbrev pub ended : ℕ → List Event → List RowsEvent → RowsEvent → List Written
 ended limit maps piece r = if has_room limit piece r then [] else piece_written maps piece
 
--- events whose statements are cut, behind these maps and these rows events of an open statement
+-- events whose statements are cut, after these maps and these rows events of an open statement
 abbrev pub cut_written : ℕ → List Event → List RowsEvent → List Written → List Written
 cut_written limit maps piece [] = piece_written maps piece
 cut_written limit maps piece (Same e ∷ ws) = piece_written maps piece ++ Same e ∷ cut_written limit [] [] ws
@@ -58,7 +58,7 @@ HasId (Same e) = ⊤
 HasId (Maps m) = 6 ≤ length m.body
 HasId (Changes r last) = length r.content.id ≡ 6
 
--- behind these maps and so many rows events of an open statement, each statement has its maps apart, and no more maps and rows
+-- after these maps and so many rows events of an open statement, each statement has its maps apart, and no more maps and rows
 -- events than these
 abbrev pub CanBeCut : Most → List Event → ℕ → List Written → Type 0
 CanBeCut most maps rows [] = ⊤

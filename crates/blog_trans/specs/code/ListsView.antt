@@ -38,3 +38,6 @@ statement_behind statements maps (r ∷ rows) = statements ++ record { maps = ma
 -- the end of the open statement, whose rows events go by these maps
 abbrev pub closed_by : List Placed → Open → Open
 closed_by maps o = between_statements o.begin (statement_behind o.statements maps o.rows)
+
+abbrev pub closed_behind : List PlacedTransaction → List Placed → Open → Progress
+closed_behind done maps o = open_behind done (closed_by maps o)
