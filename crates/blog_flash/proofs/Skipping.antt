@@ -24,10 +24,14 @@ rows-length order last r = ap (λ (n : ℕ). 19 + n) (body-len order last r.cont
 pub skipped-written : (order : Order) (event : SkippedEvent) (e : GroupEvent) → group.IsSkipped event e → IsSkipped event (written_in order e)
 skipped-written order (over.Begin event) e is = ap (written_in order) is
 skipped-written order (over.Map event) e is = ap (written_in order) is
-skipped-written order (over.Rows rows) e (r, is, known) = (rows_in order (rows_value r), ap (written_in order) is, record {
-  id = known.id ∙ sym (kept order (content_of r.kind r.body)).id;
-  len = rows-length order rows.last (rows_value r) ∙ ap (λ (n : ℕ). 19 + n) (sym known.len);
-})
+skipped-written order (over.Rows rows) e (r, is, known) = (
+  rows_in order (rows_value r),
+  ap (written_in order) is,
+  record {
+    id = known.id ∙ sym (kept order (content_of r.kind r.body)).id;
+    len = rows-length order rows.last (rows_value r) ∙ ap (λ (n : ℕ). 19 + n) (sym known.len);
+  },
+)
 skipped-written order (over.End event) e is = ap (written_in order) is
 
 pub skips-written : {A : Type 0} (order : Order) (before : GroupEvents A) (event : Option SkippedEvent) (after : GroupEvents A) → SkipsEvent before event after

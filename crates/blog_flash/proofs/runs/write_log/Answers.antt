@@ -23,10 +23,13 @@ write_out-requires g c k =
     let es = ap (map event_written) c.new-events.ensures ∙ events-of-written ts in
     let fits = groups-fit-room (index_bytes index) (index_selection index) c.args.order 0 c.largest.result (omega (arith, c.largest.ensures)) in (
       (refl, tt),
-      (tt, record {
-        short = omega (arith, written-end (length c.front-front.result.now) ts _ c.new-events.ensures, c.front-front.ensures.short c.args.order);
-        each = subst (AllByRecursion (λ e. event_size e ≤ c.largest.result)) (sym es) fits;
-      }),
+      (
+        tt,
+        record {
+          short = omega (arith, written-end (length c.front-front.result.now) ts _ c.new-events.ensures, c.front-front.ensures.short c.args.order);
+          each = subst (AllByRecursion (λ e. event_size e ≤ c.largest.result)) (sym es) fits;
+        },
+      ),
     )
 
 pub returns-clause-written : goal.returns-clause-written
