@@ -73,44 +73,55 @@ fn check_unmade(rt: &HostRuntime, arguments: &[&str], line: &str, file: &str) ->
 fn a_wrong_command_makes_no_file(rt: HostRuntime) -> Result<(), Fail> {
     let log = path_of(&rt, "kept")?;
     let result = path_of(&rt, "not-made")?;
-    let name = log.as_str();
-    let file = result.as_str();
-    fs::write(&rt, name, PLAIN.as_slice())?;
+    fs::write(&rt, log.as_str(), PLAIN.as_slice())?;
     let missing = "error: unexpected argument '-r' found\n\nUsage: binlog plain ";
-    check_unmade(&rt, &["-r", file, name], missing, file)?;
-    check_unmade(&rt, &["-r", file, "plain", name], missing, file)?;
+    let arguments = ["-r", result.as_str(), log.as_str()];
+    check_unmade(&rt, arguments.as_slice(), missing, result.as_str())?;
+    let arguments = ["-r", result.as_str(), "plain", log.as_str()];
+    check_unmade(&rt, arguments.as_slice(), missing, result.as_str())?;
     let unknown = "error: unrecognized subcommand 'foo'\n\nUsage: binlog plain ";
-    check_unmade(&rt, &["foo", "-r", file, name], unknown, file)?;
-    check_unmade(&rt, &["foo", "plain", "-r", file, name], unknown, file)?;
-    let kept = fs::read(&rt, name)?;
-    fs::remove_file(&rt, name)?;
+    let arguments = ["foo", "-r", result.as_str(), log.as_str()];
+    check_unmade(&rt, arguments.as_slice(), unknown, result.as_str())?;
+    let arguments = ["foo", "plain", "-r", result.as_str(), log.as_str()];
+    check_unmade(&rt, arguments.as_slice(), unknown, result.as_str())?;
+    let kept = fs::read(&rt, log.as_str())?;
+    fs::remove_file(&rt, log.as_str())?;
     assert_eq!(rt; kept.as_slice(), PLAIN.as_slice());
     Ok(())
+}
+
+/// The log is `name`, and the command is given before and after it, or before another command.
+fn check_given_twice(
+    rt: &HostRuntime,
+    command: &str,
+    name: &str,
+    file: &str,
+) -> Result<(), Fail> {
+    let usage = format!(in rt.alloc(); "found\n\nUsage: binlog {command} ")?;
+    let usage = usage.as_str();
+    let second = format!(in rt.alloc(); "error: unexpected argument '{name}' {usage}")?;
+    check_unmade(rt, &[command, command, name], second.as_str(), file)?;
+    check_unmade(rt, &[command, "list", name], second.as_str(), file)?;
+    let last = format!(in rt.alloc(); "error: unexpected argument '{command}' {usage}")?;
+    check_unmade(rt, &[command, name, command], last.as_str(), file)
 }
 
 #[test]
 fn a_command_given_twice_is_an_error(rt: HostRuntime) -> Result<(), Fail> {
     let log = path_of(&rt, "twice")?;
     let result = path_of(&rt, "not-made-twice")?;
-    let name = log.as_str();
-    let file = result.as_str();
-    fs::write(&rt, name, PLAIN.as_slice())?;
+    fs::write(&rt, log.as_str(), PLAIN.as_slice())?;
     for command in ["plain", "list", "split"] {
-        let usage = format!(in rt.alloc(); "found\n\nUsage: binlog {command} ")?;
-        let usage = usage.as_str();
-        let second = format!(in rt.alloc(); "error: unexpected argument '{name}' {usage}")?;
-        check_unmade(&rt, &[command, command, name], second.as_str(), file)?;
-        check_unmade(&rt, &[command, "list", name], second.as_str(), file)?;
-        let last = format!(in rt.alloc(); "error: unexpected argument '{command}' {usage}")?;
-        check_unmade(&rt, &[command, name, command], last.as_str(), file)?;
+        check_given_twice(&rt, command, log.as_str(), result.as_str())?;
     }
+    let name = log.as_str();
     let line = format!(in rt.alloc(); "error: unexpected argument '{name}' found\n")?;
-    for command in ["plain", "split"] {
-        let arguments = [command, "-r", file, command, name];
-        check_unmade(&rt, &arguments, line.as_str(), file)?;
-    }
-    let kept = fs::read(&rt, name)?;
-    fs::remove_file(&rt, name)?;
+    let arguments = ["plain", "-r", result.as_str(), "plain", log.as_str()];
+    check_unmade(&rt, arguments.as_slice(), line.as_str(), result.as_str())?;
+    let arguments = ["split", "-r", result.as_str(), "split", log.as_str()];
+    check_unmade(&rt, arguments.as_slice(), line.as_str(), result.as_str())?;
+    let kept = fs::read(&rt, log.as_str())?;
+    fs::remove_file(&rt, log.as_str())?;
     assert_eq!(rt; kept.as_slice(), PLAIN.as_slice());
     Ok(())
 }
