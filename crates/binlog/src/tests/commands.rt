@@ -91,12 +91,7 @@ fn a_wrong_command_makes_no_file(rt: HostRuntime) -> Result<(), Fail> {
 }
 
 /// The log is `name`, and the command is given before and after it, or before another command.
-fn check_given_twice(
-    rt: &HostRuntime,
-    command: &str,
-    name: &str,
-    file: &str,
-) -> Result<(), Fail> {
+fn check_given_twice(rt: &HostRuntime, command: &str, name: &str, file: &str) -> Result<(), Fail> {
     let usage = format!(in rt.alloc(); "found\n\nUsage: binlog {command} ")?;
     let usage = usage.as_str();
     let second = format!(in rt.alloc(); "error: unexpected argument '{name}' {usage}")?;
