@@ -13,7 +13,7 @@ use crate::fault::SplitFault;
 use crate::most::Most;
 use crate::used_maps::{MapId, id_of, mark, number_of, push_map, sort_ids};
 use blog_event::{Event, Fault, HEADER_LEN};
-use blog_flash::{WrittenEvent, WrittenEvents, WrittenRows};
+use blog_flash::{WrittenEvent, WrittenEvents};
 use blog_trans::{SkippedEvent, SkippedRows};
 use std::alloc::Allocator;
 
@@ -24,24 +24,23 @@ fn has_room(rows: usize, left: usize, body_len: usize) -> bool
     rows == 0 || (left >= HEADER_LEN && left - HEADER_LEN >= body_len)
 }
 
-/// The event, with another end flag if it is a rows event.
+/// Gives the event another end flag, if it is a rows event.
 #[inline(always)]
-fn with_last(event: WrittenEvent<'_>, last: bool) -> WrittenEvent<'_>
-    ensures { written_told result ≡ ending last (written_told event.entry) }
+fn set_last(event: &mut WrittenEvent<'_>, last: bool)
+    ensures { written_told event.new ≡ ending last (written_told event.old) }
 {
-    match event {
-        WrittenEvent::Rows(rows) => WrittenEvent::Rows(WrittenRows { last, ..rows }),
-        event => event,
+    if let WrittenEvent::Rows(rows) = event {
+        rows.last = last;
     }
 }
 
 /// The same for an event that was skipped.
-fn skipped_with_last(event: SkippedEvent<'_>, last: bool) -> SkippedEvent<'_>
-    ensures { (w : Written) → IsSkipped event.entry w → IsSkipped result (ending last w) }
+#[inline(always)]
+fn set_skipped_last(event: &mut SkippedEvent<'_>, last: bool)
+    ensures { (w : Written) → IsSkipped event.old w → IsSkipped event.new (ending last w) }
 {
-    match event {
-        SkippedEvent::Rows(rows) => SkippedEvent::Rows(SkippedRows { last, ..rows }),
-        event => event,
+    if let SkippedEvent::Rows(rows) = event {
+        rows.last = last;
     }
 }
 
@@ -286,8 +285,9 @@ impl<'a, E: WrittenEvents<'a> + Drop, A: Allocator> CutEvents<'a, E, A> {
         ensures first { GivesCut E.to_come self.old result self.new }
     {
         self.rows -= 1;
-        let event = self.events.next_event()?;
-        Some(with_last(event, self.rows == 0))
+        let mut event = self.events.next_event()?;
+        set_last(&mut event, self.rows == 0);
+        Some(event)
     }
 
     /// Skips the next rows event of the open piece.
@@ -299,8 +299,9 @@ impl<'a, E: WrittenEvents<'a> + Drop, A: Allocator> CutEvents<'a, E, A> {
         ensures first { Skips (cut_to_come E.to_come) self.old result self.new }
     {
         self.rows -= 1;
-        let event = self.events.skip_event()?;
-        Some(skipped_with_last(event, self.rows == 0))
+        let mut event = self.events.skip_event()?;
+        set_skipped_last(&mut event, self.rows == 0);
+        Some(event)
     }
 
     /// What the source has next, which is of no statement.

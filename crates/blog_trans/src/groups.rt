@@ -44,17 +44,16 @@ pub struct Index<'a, 's, A: Allocator = Global> {
 
 /// A table map of a log, read.
 #[derive(Clone, Copy, Debug)]
-pub struct MapRead<'a> {
-    /// The event.
-    pub event: Event<'a>,
+pub(crate) struct MapRead<'a> {
+    pub(crate) event: Event<'a>,
     pub(crate) table: TableMap<'a>,
     pub(crate) layout: Layout<'a>,
-    pub ghost named: { names_of event.body.now ≡ Some (map_names table) },
-    pub ghost laid_out: { layout_of event.body.now ≡ Ok (layout_columns layout) },
+    ghost named: { names_of event.body.now ≡ Some (map_names table) },
+    ghost laid_out: { layout_of event.body.now ≡ Ok (layout_columns layout) },
 }
 
 /// A rows event of a log, the map that it goes by, and the rows.
-pub type RowsRead<'a> = (Event<'a>, MapRead<'a>, RowsEvent<'a>);
+pub(crate) type RowsRead<'a> = (Event<'a>, MapRead<'a>, RowsEvent<'a>);
 
 /// A table, and how many of its rows the groups insert, update and delete.
 #[derive(Clone, Copy, Debug, PartialEq, Eq)]
@@ -81,7 +80,7 @@ impl<'a, 's, A: Allocator> Index<'a, 's, A> {
     ghost use Rattle.blog_row.specs.RowsWriting.{content_of, written_body};
     ghost use Rattle.blog_trans.specs.Groups.{PlacedRows, groups};
     ghost use Rattle.blog_trans.specs.Changes.{counts_of};
-    ghost use Rattle.blog_trans.specs.code.IndexView.{IsOfEntry, IsRowsOfEntry, Stands, table_counted, index_bytes, index_groups, index_selection, placed, map_at, maps_in, rows_at, rows_place, statement_at};
+    ghost use Rattle.blog_trans.specs.code.IndexView.{IsOfEntry, IsRowsOfEntry, table_counted, index_bytes, index_groups, index_selection, placed, map_at, maps_in, rows_at, rows_place, statement_at};
     ghost use Rattle.blog_trans.specs.code.Entries.{ShowsGroups, statement_place, transaction_place};
     ghost use Rattle.blog_trans.specs.Shown.{events_in_range, largest, shown, shown_positions};
 
@@ -312,34 +311,6 @@ impl<'a, 's, A: Allocator> Index<'a, 's, A> {
         (event, written_len(kind, event.body))
     }
 
-    /// The rows event `r` of statement `s` of transaction `t`, and how many bytes the body has that is written for it, in
-    /// either order. Its map isn't read.
-    #[inline(always)]
-    pub fn rows_sized(&self, t: usize, s: usize, r: usize) -> (Event<'a>, usize)
-        requires { IsSome (rows_at (index_groups self.now) t s r) }
-        ensures event { option_map (λ x. x.event) (rows_at (index_groups self.now) t s r) ≡ Some (placed result.0) }
-        ensures len { IfSome (rows_at (index_groups self.now) t s r) (λ x. result.1 ≡ length (written_body true (content_of x.kind x.body))) }
-    {
-        self.rows_len(self.first_rows(t, s) + r)
-    }
-
-    /// The rows event `r` of statement `s` of transaction `t`, the map that it goes by, and the rows. The map isn't read
-    /// again where it is the one that was `read` before. No row is read.
-    #[inline(always)]
-    pub fn rows_by(&self, t: usize, s: usize, r: usize, read: Option<MapRead<'a>>) -> RowsRead<'a>
-        requires some { IsSome (rows_at (index_groups self.now) t s r) }
-        requires read { ForSome read (λ map. Stands (index_bytes self.now) (placed map.event)) }
-        ensures event { option_map (λ x. x.event) (rows_at (index_groups self.now) t s r) ≡ Some (placed result.0) }
-        ensures map { option_map (λ x. x.map) (rows_at (index_groups self.now) t s r) ≡ Some (placed result.1.event) }
-        ensures kind { IfSome (rows_at (index_groups self.now) t s r) (λ x. x.kind ≡ rows_kind result.2) }
-        ensures read { IfSome (rows_at (index_groups self.now) t s r) (λ x. x.body ≡ rows_body result.2) }
-        ensures layout { layout_of result.1.event.body.now ≡ Ok (layout_columns (rows_layout result.2)) }
-        ensures stands { Stands (index_bytes self.now) (placed result.1.event) }
-        ensures size { result.0.header.size ≡ event_size (event_of result.0) }
-    {
-        self.group_rows(self.first_rows(t, s) + r, read)
-    }
-
     /// The rows event `r` of statement `s` of transaction `t`, with the map that it goes by. No row is read.
     pub fn rows_event(
         &self,
@@ -355,7 +326,7 @@ impl<'a, 's, A: Allocator> Index<'a, 's, A> {
         ensures layout { IfSome (rows_at (index_groups self.now) t s r) (λ x. layout_of x.map.event.body ≡ Ok (layout_columns (rows_layout result.2))) }
         ensures size { result.0.header.size ≡ event_size (event_of result.0) }
     {
-        let (event, map, rows) = self.rows_by(t, s, r, None);
+        let (event, map, rows) = self.group_rows(self.first_rows(t, s) + r, None);
         (event, map.table, rows)
     }
 

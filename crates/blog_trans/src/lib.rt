@@ -17,7 +17,7 @@ mod table_name;
 pub use blog_row::{EventKind, event_kind, query_text};
 pub use builder::{index, index_from};
 pub use group_events::{GroupEvent, GroupEvents, GroupRows, SkippedEvent, SkippedRows};
-pub use groups::{Index, MapRead, RowsRead, TableCount};
+pub use groups::{Index, TableCount};
 pub use laws::{
     accepted_logs_have_groups, groups_are_of_events, opening_asks_the_first_lines,
     progress_gives_groups, statements_are_those_since, statements_have_used_maps,

@@ -26,4 +26,4 @@ returns-clause-first g c =
     let before = c.args.self.now in
     let to_come = g.E.WrittenEvents.to_come in
     let first = first-rows (before.rows - 1) before.rows (to_come before.events) (written_told c.in_ok-event.event) (to_come c.next_event.new.self) (omega (arith, c.requires.some)) c.requires.sound.counted c.in_ok-event.ensures.first in
-    record { first = rw (drop_all before.given before.used.items (omega (arith, c.requires.no_maps)), first.written, first.left, c.with_last.ensures) refl }
+    record { first = rw (drop_all before.given before.used.items (omega (arith, c.requires.no_maps)), first.written, first.left, c.set_last.ensures) refl }

@@ -30,5 +30,5 @@ returns-clause-first g c =
     let first = first-rows (before.rows - 1) before.rows (to_come before.events) w (to_come c.skip_event.new.self) (omega (arith, c.requires.some)) c.requires.sound.counted taken in (
       ending (nat_eq (before.rows - 1) 0) w,
       rw (drop_all before.given before.used.items (omega (arith, c.requires.no_maps)), first.written, first.left) refl,
-      c.skipped_with_last.ensures w is,
+      c.set_skipped_last.ensures w is,
     )

@@ -2,7 +2,7 @@ use Rattle.std.proofs.Common.{sym, ap, subst, ◌∙◌}
 use Rattle.blog_flash.specs.code.Skipping.{IsSkipped}
 use Rattle.blog_split.specs.code.CutWritten.{ending}
 use Rattle.blog_split.proofs.Turned.{rows_event-size}
-use Rattle.blog_split.proofs.cut_events.skipped_with_last.Goals as goal
+use Rattle.blog_split.proofs.cut_events.set_skipped_last.Goals as goal
 
 pub returns-in-Rows : goal.returns-in-Rows
 returns-in-Rows c w skipped =
