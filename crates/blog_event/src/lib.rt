@@ -21,4 +21,4 @@ pub use laws::{
 };
 pub use log::{Log, format_description};
 pub use reading::{HEADER_LEN, event_at};
-pub use writing::{open_event, open_event_from, put_event, put_event_from};
+pub use writing::{header_bytes, open_event, open_event_from, put_event, put_event_from};

@@ -13,7 +13,7 @@ use std::alloc::Allocator;
 
 /// The 19 bytes of a header (MySQL Internals manual, "Binary Log Event Header").
 #[tactic(auto, unfolding(crate::specs::Writing::header_text))]
-fn header_bytes(header: Header) -> [u8; 19]
+pub fn header_bytes(header: Header) -> [u8; 19]
     ensures { result ≡ header_text header }
 {
     let mut bytes = [0u8; 19];

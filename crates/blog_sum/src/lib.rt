@@ -10,7 +10,7 @@ mod register;
 mod sums;
 mod tables;
 
-pub use crc::crc32;
+pub use crc::{Crc, crc32};
 pub use fault::SumFault;
 pub use laws::check_value;
 pub use plain_laws::{
@@ -18,3 +18,4 @@ pub use plain_laws::{
     plain_log_opens,
 };
 pub use plain_log::plain;
+pub use sums::{SUM_LEN, check_format_sum, crc_not_in_use, summed_event};

@@ -1,0 +1,4 @@
+pub mod Found
+pub mod Handed
+pub mod Places
+pub mod code

@@ -1,0 +1,9 @@
+//! A server's log as a source: its checksums are checked, and a log without them is handed out, each of whose events knows
+//! where in the server's log it stands.
+#![tactic(auto)]
+
+mod front;
+mod reading;
+mod walk;
+
+pub use reading::Reading;
