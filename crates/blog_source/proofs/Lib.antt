@@ -1,3 +1,6 @@
 pub mod Left
 pub mod Moving
 pub mod Handing
+pub mod Tails
+pub mod Opened
+pub mod Placing

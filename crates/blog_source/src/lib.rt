@@ -4,6 +4,8 @@
 
 mod front;
 mod reading;
+mod source;
 mod walk;
 
 pub use reading::Reading;
+pub use source::Source;

@@ -160,13 +160,7 @@ fn put_handed(bytes: &mut [u8], at: u32, to: u32, header: Header, sums: bool, en
 
 /// Goes through the events from `first` on, and moves what is handed out for each to the front. The log_pos of each is where it
 /// ends then if `ends` is given, else where the event of the log begins that it stands for.
-pub(crate) fn hand_out(
-    bytes: &mut [u8],
-    first: u32,
-    sums: bool,
-    ends: bool,
-    how: Reading,
-) -> Walked
+pub(crate) fn hand_out(bytes: &mut [u8], first: u32, sums: bool, ends: bool, how: Reading) -> Walked
     requires short { length bytes.old < 2 ^ 32 }
     requires within { first ≤ length bytes.old }
     ensures text { take result.len bytes.new ≡ take first bytes.old
