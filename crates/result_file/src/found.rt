@@ -65,19 +65,23 @@ pub fn way_to(found: Found, replace: bool) -> Result<Way, Refusal>
     }
 }
 
-/// Looks at what has this name. Fails where the system doesn't say.
+/// Looks at what has this name. Fails where the system doesn't say what it is, or whether it is the log.
 pub fn look<R: Files>(rt: &R, path: &str, log: &str) -> io::Result<Found> {
     let named = match fs::symlink_metadata(rt, path) {
         Ok(named) => named,
         Err(cause) if cause.kind() == io::ErrorKind::NotFound => return Ok(Found::Nothing),
         Err(cause) => return Err(cause),
     };
-    match fs::metadata(rt, path) {
-        Ok(meant) if is_log(rt, &meant, log) => Ok(Found::Log),
-        Ok(meant) => Ok(found_by(&named, &meant)),
-        Err(_) if named.is_symlink() => Ok(Found::Link),
-        Err(cause) => Err(cause),
+    let meant = match fs::metadata(rt, path) {
+        Ok(meant) => meant,
+        Err(_) if named.is_symlink() => return Ok(Found::Link),
+        Err(cause) => return Err(cause),
+    };
+    let log = fs::metadata(rt, log)?;
+    if are_same(&meant, &log) {
+        return Ok(Found::Log);
     }
+    Ok(found_by(&named, &meant))
 }
 
 /// What was found: `named` is what has the name, and `meant` what a link of that name leads to.
@@ -93,10 +97,7 @@ fn found_by(named: &Metadata, meant: &Metadata) -> Found {
     }
 }
 
-/// Whether this is the log, by its device and file number.
-fn is_log<R: Files>(rt: &R, there: &Metadata, log: &str) -> bool {
-    match fs::metadata(rt, log) {
-        Ok(log) => there.dev() == log.dev() && there.ino() == log.ino(),
-        Err(_) => false,
-    }
+/// Whether two names are of one file, by its device and its number there.
+fn are_same(one: &Metadata, other: &Metadata) -> bool {
+    one.dev() == other.dev() && one.ino() == other.ino()
 }
