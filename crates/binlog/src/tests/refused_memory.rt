@@ -1,6 +1,6 @@
 //! Runs in which one request for memory is refused, each in turn.
 
-use super::{arguments_of, path_of};
+use super::{arguments_of, path_of, this_process};
 use crate::commands::command;
 use blog_device::Watched;
 use linked_list_allocator::LocalHeap;
@@ -31,7 +31,8 @@ fn run_refusing(
     let mut output = Watched::new(Vec::new(rt.alloc()));
     let mut errors = Watched::new(Vec::new(rt.alloc()));
     let all = arguments_of(rt, arguments)?;
-    let status = command(rt, &refusing, Ok(all), &mut output, &mut errors);
+    let process = this_process(rt);
+    let status = command(rt, &refusing, process, Ok(all), &mut output, &mut errors);
     if heap.used() != 0 {
         return Err(Fail::new(format_args!("kept memory: {arguments:?}")));
     }
