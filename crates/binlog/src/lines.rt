@@ -105,7 +105,10 @@ fn print_file_fault<W: fmt::Write, A: Allocator>(
             f,
             "the result file is there: {path}: give another name, or --force"
         ),
-        FileFault::IsLog(path) => write!(f, "the result file is the log: {path}: give another name"),
+        FileFault::IsLog(path) => write!(
+            f,
+            "the result file is the log: {path}: give another name"
+        ),
         FileFault::IsLink(path) => write!(
             f,
             "the result file is a symbolic link: {path}: give the name of the file itself"

@@ -124,8 +124,8 @@ fn is_index(first: &[u8]) -> bool {
 fn names_log(line: &[u8]) -> bool {
     let mut parts = line.rsplit(|byte| *byte == b'.');
     match (parts.next(), parts.next()) {
-        (Some(number), Some(_)) =>
-            number.len() >= DIGITS && number.iter().all(|byte| byte.is_ascii_digit()),
+        (Some(number), Some(_)) => number.len() >= DIGITS
+            && number.iter().all(|byte| byte.is_ascii_digit()),
         _ => false,
     }
 }

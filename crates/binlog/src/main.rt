@@ -23,5 +23,12 @@ fn main(rt: HostRuntime) -> ExitCode {
     };
     let mut output = Watched::new(rt.stdout());
     let mut errors = Watched::new(rt.stderr());
-    command(&rt, rt.alloc(), process, arguments, &mut output, &mut errors)
+    command(
+        &rt,
+        rt.alloc(),
+        process,
+        arguments,
+        &mut output,
+        &mut errors,
+    )
 }

@@ -101,6 +101,10 @@ fn other_files_are_told_as_before(rt: HostRuntime) -> Result<(), Fail> {
             assert!(rt; outcome.is_refusal(1, line), "{bytes:?}");
         }
     }
-    assert!(rt; run_log(&rt, "log", INSERT_ONE_ROW.as_slice(), &["split"])?.is_done(INSERT_ONE_ROW.as_slice()));
+    assert!(rt;
+        run_log(&rt, "log", INSERT_ONE_ROW.as_slice(), &["split"])?.is_done(
+            INSERT_ONE_ROW.as_slice()
+        )
+    );
     Ok(())
 }

@@ -23,7 +23,10 @@ fn check_told(
     }
 }
 
-const IS_THERE: (&str, &str) = ("the result file is there: ", ": give another name, or --force");
+const IS_THERE: (&str, &str) = (
+    "the result file is there: ",
+    ": give another name, or --force",
+);
 
 const IS_LINK: (&str, &str) = (
     "the result file is a symbolic link: ",
@@ -68,7 +71,13 @@ fn a_file_that_is_there_is_kept_unless_forced(rt: HostRuntime) -> Result<(), Fai
     let path = result.as_str();
     let long = [0x2A; 300];
     fs::write(&rt, path, long.as_slice())?;
-    check_told(&rt, SUMMED.as_slice(), &["plain", "-r", path], path, IS_THERE)?;
+    check_told(
+        &rt,
+        SUMMED.as_slice(),
+        &["plain", "-r", path],
+        path,
+        IS_THERE,
+    )?;
     assert_eq!(rt; fs::read(&rt, path)?.as_slice(), long.as_slice());
     let arguments = ["plain", "--force", "-r", path];
     assert!(rt; run_log(&rt, "forces", SUMMED.as_slice(), arguments.as_slice())?.is_done(b""));
@@ -104,7 +113,9 @@ fn the_log_is_no_result_file(rt: HostRuntime) -> Result<(), Fail> {
     let path = path_of(&rt, "itself")?;
     let name = path.as_str();
     fs::write(&rt, name, SUMMED.as_slice())?;
-    let line = format!(in rt.alloc(); "binlog: the result file is the log: {name}: give another name\n")?;
+    let line = format!(in rt.alloc();
+        "binlog: the result file is the log: {name}: give another name\n"
+    )?;
     let outcomes = [
         run_arguments(&rt, &["plain", "-r", name, name])?,
         run_arguments(&rt, &["plain", "--force", "-r", name, name])?,
@@ -124,7 +135,13 @@ fn a_link_is_left_alone(rt: HostRuntime) -> Result<(), Fail> {
     let result = path_of(&rt, "link")?;
     let path = result.as_str();
     symlink(&rt, "nothing-is-there", path)?;
-    check_told(&rt, SUMMED.as_slice(), &["plain", "-r", path], path, IS_LINK)?;
+    check_told(
+        &rt,
+        SUMMED.as_slice(),
+        &["plain", "-r", path],
+        path,
+        IS_LINK,
+    )?;
     check_told(
         &rt,
         SUMMED.as_slice(),
@@ -141,7 +158,13 @@ fn a_link_is_left_alone(rt: HostRuntime) -> Result<(), Fail> {
 fn a_file_that_cannot_be_created_is_told(rt: HostRuntime) -> Result<(), Fail> {
     let result = path_of(&rt, "no-folder")?.join(rt.alloc(), "plain.binlog")?;
     let path = result.as_str();
-    check_told(&rt, SUMMED.as_slice(), &["plain", "-r", path], path, NO_FOLDER)?;
+    check_told(
+        &rt,
+        SUMMED.as_slice(),
+        &["plain", "-r", path],
+        path,
+        NO_FOLDER,
+    )?;
     let folder = env::temp_dir(&rt)?;
     let path = folder.as_str();
     check_told(

@@ -39,6 +39,9 @@ fn a_new_log_is_not_written_to_a_terminal(rt: HostRuntime) -> Result<(), Fail> {
     fs::remove_file(&rt, log.as_path())?;
     assert_eq!(rt; list.status, ExitCode::SUCCESS);
     assert!(rt; !list.output().is_empty());
-    assert_eq!(rt; run_on_terminal(&rt, &["--help"])?.status, ExitCode::SUCCESS);
+    assert_eq!(rt;
+        run_on_terminal(&rt, &["--help"])?.status,
+        ExitCode::SUCCESS
+    );
     Ok(())
 }
