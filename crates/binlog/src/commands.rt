@@ -1,43 +1,50 @@
 //! One run of the program, from its arguments to its exit status.
 
-ghost use Rattle.std.specs.Prelude.{◌≡◌, ◌⊎◌, ◌≤◌, ◌||◌, IfErr, IsErr, IsOk, IsSome, None, OnErr, false, true};
+ghost use Rattle.std.specs.Prelude.{◌≡◌, ◌↔◌, ◌⊎◌, ◌≤◌, ◌||◌, IfErr, IsErr, IsOk, IsSome, None, OnErr, false, true};
 ghost use Rattle.std.specs.Process.{exit_status};
 ghost use Rattle.blog_device.specs.Watched.{device_of, has_failed};
 ghost use Rattle.binlog.specs.Request.{asks_for_list};
 ghost use Rattle.binlog.specs.Status.{status_of};
 ghost use Rattle.binlog.specs.Runs.{MakesNewLog, MayFollowList, OfNewLog, OfList, WritesNewLog, WritesList, new_log_fault, is_failed_read, is_failed_write, may_list};
 ghost use Rattle.blog_device.specs.Devices.{is_read_fault, is_write_fault};
-ghost use Rattle.binlog.specs.declared.commands.Failure.TheVariants.{Arguments, NewLog};
+ghost use Rattle.binlog.specs.declared.commands.Failure.TheVariants.{Arguments, NewLog, ResultFile};
 ghost use Rattle.binlog.specs.declared.commands.NewLogFault.TheVariants.{Run, Sums, Split};
 ghost use Rattle.binlog.specs.declared.arguments.Making.TheVariants as made;
 
 use crate::arguments::{ArgumentsFault, Asked, ListTask, Making, NewLogTask, read_arguments};
+use crate::log_file::{LogFault, open_log};
 use blog_device::{RunFault, Watched, put, read_log};
 use blog_event::Fault;
 use blog_list::list;
 use blog_split::{SplitFault, SplitRunFault, split, split_to};
 use blog_sum::{SumFault, plain};
+use result_file::{FileFault, ResultFile, Wanted};
 use std::alloc::Allocator;
-use std::fs::{File, Metadata};
+use std::io;
 use std::io::{Read, Write};
-use std::os::unix::fs::MetadataExt;
 use std::process::ExitCode;
 use std::rt::Files;
-use std::{fs, io};
+
+/// What the program knows of its own process.
+#[derive(Clone, Copy, Debug)]
+pub struct Process {
+    /// Its number.
+    pub id: u32,
+    /// Whether its standard output is a terminal.
+    pub writes_to_terminal: bool,
+}
 
 /// Why the program didn't do what its arguments ask for.
 #[derive(Drop)]
 pub enum Failure<'a, A: Allocator> {
     /// The arguments ask for nothing.
     Arguments(ArgumentsFault<A>),
-    /// The log of this path can't be opened.
-    NoLog(&'a str, io::Error),
-    /// The result file, of this path, is the log.
-    LogIsResultFile(&'a str),
-    /// The result file of this path is there.
-    ResultFileIsThere(&'a str),
-    /// The result file of this path can't be created.
-    NoResultFile(&'a str, io::Error),
+    /// The log of this path can't be opened, or is none.
+    NoLog(&'a str, LogFault),
+    /// A new log would go to a terminal.
+    Terminal,
+    /// The result file can't be written.
+    ResultFile(FileFault<'a, A>),
     /// The new log can't be made, or not be written.
     NewLog(NewLogFault),
     /// The list can't be made, or not be written.
@@ -97,6 +104,14 @@ impl<'a, A: Allocator> From<NewLogFault> for Failure<'a, A> {
     }
 }
 
+impl<'a, A: Allocator> From<FileFault<'a, A>> for Failure<'a, A> {
+    ghost from_gives = { λ fault failure. failure ≡ ResultFile fault };
+
+    fn from(fault: FileFault<'a, A>) -> Failure<'a, A> {
+        Failure::ResultFile(fault)
+    }
+}
+
 impl From<RunFault> for NewLogFault {
     ghost from_gives = { λ run fault. fault ≡ Run run };
 
@@ -140,6 +155,7 @@ impl From<SplitFault> for NewLogFault {
 pub fn command<R: Files + AllocGlobal, A: Allocator + Copy, O: Write, E: Write>(
     rt: &R,
     alloc: A,
+    process: Process,
     arguments: io::Result<Vec<String>>,
     output: &mut Watched<O>,
     errors: &mut Watched<E>,
@@ -163,7 +179,7 @@ pub fn command<R: Files + AllocGlobal, A: Allocator + Copy, O: Write, E: Write>(
             return report(outcome, errors);
         }
     };
-    let outcome = carry_out(rt, alloc, arguments.as_slice(), output);
+    let outcome = carry_out(rt, alloc, process, arguments.as_slice(), output);
     report(outcome, errors)
 }
 
@@ -187,6 +203,7 @@ fn report<A: Allocator, E: Write>(
 fn carry_out<'a, R: Files + AllocGlobal, A: Allocator + Copy, O: Write>(
     rt: &R,
     alloc: A,
+    process: Process,
     arguments: &'a [String],
     output: &mut Watched<O>,
 ) -> Result<(), Failure<'a, A>>
@@ -197,8 +214,9 @@ fn carry_out<'a, R: Files + AllocGlobal, A: Allocator + Copy, O: Write>(
     match read_arguments(rt.alloc(), alloc, arguments)? {
         Asked::Text(text) => put(output, text.as_bytes()).map_err(NewLogFault::Run)?,
         Asked::NewLog(task) => {
+            check_output(process, &task)?;
             let mut reader = open_log(rt, task.log)?;
-            run_new_log(rt, alloc, &mut reader, &task, output)?
+            run_new_log(rt, alloc, process, &mut reader, &task, output)?
         }
         Asked::List(task) => {
             let mut reader = open_log(rt, task.log)?;
@@ -208,16 +226,18 @@ fn carry_out<'a, R: Files + AllocGlobal, A: Allocator + Copy, O: Write>(
     Ok(())
 }
 
-/// Opens the log of this path.
-fn open_log<'a, R: Files, A: Allocator>(
-    rt: &R,
-    path: &'a str,
-) -> Result<Watched<R::File>, Failure<'a, A>>
+/// A new log, which is binary, isn't written to a terminal.
+fn check_output<'a, A: Allocator>(
+    process: Process,
+    task: &NewLogTask<'a>,
+) -> Result<(), Failure<'a, A>>
+    ensures refused { IsErr result ↔ (process.writes_to_terminal ≡ true) × (task.now.result_file ≡ None) }
     ensures status { IfErr result (λ f. status_of f ≡ 1) }
 {
-    match File::open(rt, path) {
-        Ok(log) => Ok(Watched::new(log)),
-        Err(cause) => Err(Failure::NoLog(path, cause)),
+    if process.writes_to_terminal && task.result_file.is_none() {
+        Err(Failure::Terminal)
+    } else {
+        Ok(())
     }
 }
 
@@ -225,6 +245,7 @@ fn open_log<'a, R: Files, A: Allocator>(
 fn run_new_log<'a, R: Files, A: Allocator + Copy, D: Read, O: Write>(
     rt: &R,
     alloc: A,
+    process: Process,
     reader: &mut Watched<D>,
     task: &NewLogTask<'a>,
     output: &mut Watched<O>,
@@ -238,7 +259,15 @@ fn run_new_log<'a, R: Files, A: Allocator + Copy, D: Read, O: Write>(
 {
     match task.result_file {
         None => new_log_to_output(alloc, reader, task.making, output)?,
-        Some(path) => new_log_to_file(rt, alloc, reader, task, path)?,
+        Some(path) => {
+            let wanted = Wanted {
+                path,
+                log: task.log,
+                replace: task.force,
+                process: process.id,
+            };
+            new_log_to_file(rt, alloc, reader, task.making, &wanted)?
+        }
     }
     Ok(())
 }
@@ -298,68 +327,23 @@ fn split_to_output<A: Allocator + Copy, D: Read, O: Write>(
     Ok(split_to(alloc, output, log.as_slice(), size as usize)?)
 }
 
-/// Writes it to the file of this path, which is created once all is made. Where a write fails it is removed again.
+/// Writes what is made of the log that is read to the result file, which has its name once it is whole.
 fn new_log_to_file<'a, R: Files, A: Allocator + Copy, D: Read>(
     rt: &R,
     alloc: A,
     reader: &mut Watched<D>,
-    task: &NewLogTask<'a>,
-    path: &'a str,
+    making: Making,
+    wanted: &Wanted<'a>,
 ) -> Result<(), Failure<'a, A>>
     ensures status { IfErr result (λ f. status_of f ≡ 1) }
 {
-    check_result_file(rt, task, path)?;
-    let text = new_log_text(alloc, reader, task.making)?;
-    let created = if task.force {
-        File::create(rt, path)
-    } else {
-        File::create_new(rt, path)
-    };
-    let file = match created {
-        Ok(file) => file,
-        Err(cause) => return Err(Failure::NoResultFile(path, cause)),
-    };
-    let Ok(()) = put(&mut Watched::new(file), text.as_slice()) else {
-        remove_file(rt, path);
-        return Err(Failure::NewLog(NewLogFault::Run(RunFault::Write)));
-    };
-    Ok(())
-}
-
-/// The result file isn't the log, and isn't there unless it may be.
-fn check_result_file<'a, R: Files, A: Allocator>(
-    rt: &R,
-    task: &NewLogTask<'a>,
-    path: &'a str,
-) -> Result<(), Failure<'a, A>>
-    ensures status { IfErr result (λ f. status_of f ≡ 1) }
-{
-    let Ok(there) = fs::metadata(rt, path) else {
-        return Ok(());
-    };
-    if let Ok(log) = fs::metadata(rt, task.log) {
-        if are_same(&there, &log) {
-            return Err(Failure::LogIsResultFile(path));
-        }
-    }
-    if task.force {
-        Ok(())
-    } else {
-        Err(Failure::ResultFileIsThere(path))
-    }
-}
-
-/// Whether two names are of one file.
-fn are_same(one: &Metadata, other: &Metadata) -> bool {
-    one.dev() == other.dev() && one.ino() == other.ino()
-}
-
-/// Removes a file that was half written. A device or a pipe stays.
-fn remove_file<R: Files>(rt: &R, path: &str) {
-    if let Ok(there) = fs::metadata(rt, path) {
-        if there.is_file() {
-            let _ = fs::remove_file(rt, path);
-        }
+    let mut file = ResultFile::create(rt, alloc, wanted)?;
+    match new_log_to_output(alloc, reader, making, &mut file.writer) {
+        Ok(()) => Ok(file.finish(rt)?),
+        Err(fault) => match file.discard(rt) {
+            Some(failed) => Err(Failure::ResultFile(failed)),
+            None => Err(Failure::NewLog(fault)),
+        },
     }
 }
 

@@ -2,10 +2,12 @@
 
 use crate::arguments::ArgumentsFault;
 use crate::commands::{Failure, NewLogFault};
+use crate::log_file::LogFault;
 use blog_device::{RunFault, Watched, put};
 use blog_event::Fault;
 use blog_split::SplitFault;
 use console::put_line;
+use result_file::FileFault;
 use std::alloc::Allocator;
 use std::fmt;
 use std::io::Write;
@@ -30,22 +32,9 @@ impl<A: Allocator> fmt::Display for Failure<'_, A> {
                 let fault = Fault::OutOfMemory;
                 write!(f, "{fault}: {}", advice::of_log(&fault))
             }
-            Failure::NoLog(path, cause) => write!(
-                f,
-                "cannot open the log {path}: {cause}: {NO_LOG}"
-            ),
-            Failure::LogIsResultFile(path) => write!(
-                f,
-                "the result file is the log: {path}: {OTHER_NAME}"
-            ),
-            Failure::ResultFileIsThere(path) => write!(
-                f,
-                "the result file is there: {path}: {OTHER_NAME}, or --force"
-            ),
-            Failure::NoResultFile(path, cause) => write!(
-                f,
-                "cannot create the result file {path}: {cause}: {NO_RESULT_FILE}"
-            ),
+            Failure::NoLog(path, fault) => print_no_log(f, path, fault),
+            Failure::Terminal => f.write_str(TERMINAL),
+            Failure::ResultFile(fault) => print_file_fault(f, fault),
             Failure::NewLog(NewLogFault::Run(fault)) | Failure::List(fault) => print_run_fault(
                 f, fault,
             ),
@@ -74,13 +63,98 @@ fn print_run_fault<W: fmt::Write>(f: &mut fmt::Formatter<W>, fault: &RunFault) -
     }
 }
 
+/// Why a file can't be read as a log.
+fn print_no_log<W: fmt::Write>(
+    f: &mut fmt::Formatter<W>,
+    path: &str,
+    fault: &LogFault,
+) -> fmt::Result {
+    match fault {
+        LogFault::Absent(cause) => write!(
+            f,
+            "cannot open the log {path}: {cause}: see its name and its folder"
+        ),
+        LogFault::NotPermitted(cause) => write!(
+            f,
+            "cannot open the log {path}: {cause}: run it as a user who may read it"
+        ),
+        LogFault::NotOpened(cause) => write!(
+            f,
+            "cannot open the log {path}: {cause}: see its name and whether you may read it"
+        ),
+        LogFault::Directory => write!(
+            f,
+            "the log is a directory: {path}: give a file in it, such as binlog.000042"
+        ),
+        LogFault::Empty => write!(f, "the log is empty: {path}: copy it from the server again"),
+        LogFault::Index => write!(
+            f,
+            "the log is an index file: {path}: give one of the logs that it lists"
+        ),
+        LogFault::Encrypted => write!(f, "the log is encrypted: {path}: {ENCRYPTED}"),
+    }
+}
+
+/// Why there is no result file, or what is left beside it.
+fn print_file_fault<W: fmt::Write, A: Allocator>(
+    f: &mut fmt::Formatter<W>,
+    fault: &FileFault<'_, A>,
+) -> fmt::Result {
+    match fault {
+        FileFault::IsThere(path) => write!(
+            f,
+            "the result file is there: {path}: give another name, or --force"
+        ),
+        FileFault::IsLog(path) => write!(
+            f,
+            "the result file is the log: {path}: give another name"
+        ),
+        FileFault::IsLink(path) => write!(
+            f,
+            "the result file is a symbolic link: {path}: give the name of the file itself"
+        ),
+        FileFault::IsDirectory(path) => write!(
+            f,
+            "the result file is a directory: {path}: give the name of a file"
+        ),
+        FileFault::NamesTaken(path) => write!(
+            f,
+            "the temporary names beside the result file are taken: {path}: remove old files .NAME.NUMBER.tmp there"
+        ),
+        FileFault::OutOfMemory => {
+            let fault = Fault::OutOfMemory;
+            write!(f, "{fault}: {}", advice::of_log(&fault))
+        }
+        FileFault::NameLeft(path, name, cause) => write!(
+            f,
+            "cannot remove {name}: {cause}: the result file {path} is whole: remove the other name"
+        ),
+        FileFault::NotCreated(path, cause) => write!(
+            f,
+            "cannot create the result file {path}: {cause}: see its folder and whether you may write there"
+        ),
+        FileFault::NotWritten(path, cause) => write!(
+            f,
+            "cannot write the result file {path}: {cause}: see whether its disk is full"
+        ),
+        FileFault::NotSynced(path, cause) => write!(
+            f,
+            "cannot sync the result file {path}: {cause}: see its disk"
+        ),
+        FileFault::NotNamed(path, cause) => write!(
+            f,
+            "cannot give the result file its name {path}: {cause}: see its folder and whether you may write there"
+        ),
+    }
+}
+
 const NOT_TEXT: &str = "the arguments are not UTF-8: give names in UTF-8";
 
-const NO_LOG: &str = "see its name and whether you may read it";
+const TERMINAL: &str =
+    "the new log is binary, and standard output is a terminal: use -r FILE or > FILE";
 
-const OTHER_NAME: &str = "give another name";
-
-const NO_RESULT_FILE: &str = "see its folder and whether you may write there";
+const ENCRYPTED: &str =
+    "fetch it from its server by mysqlbinlog --read-from-remote-server --raw, which decrypts it";
 
 const CUT_TOO_LONG: &str =
     "TooLong: cut so small the log would have more than 4294967295 bytes: give a larger --size";

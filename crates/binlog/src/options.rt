@@ -68,7 +68,8 @@ Positions in the plain log are its own: look for them there, and not in LOG.";
 const PLAIN_USAGE: &str = "binlog plain [-r FILE [--force]] LOG";
 
 const PLAIN_AFTER_HELP: &str = "\
-The plain log is binary, and standard output may be a terminal: use -r FILE or > FILE.
+The plain log is binary, and isn't written to a terminal: use -r FILE or > FILE.
+FILE appears once the new log is whole, and only its owner may read it.
 
 Examples:
   binlog plain binlog.000042 -r plain.000042
@@ -76,7 +77,7 @@ Examples:
   binlog plain binlog.000042 > plain.000042
       the same by the shell, which overwrites a file that is there
   binlog plain binlog.000042 -r plain.000042 --force
-      overwrite a file that is there
+      replace a file that is there
   binlog plain binlog.000042 -r plain.000042 && flashback --summary plain.000042
       then count rows by table
 
@@ -129,7 +130,8 @@ Nothing is written unless the whole log can be cut.";
 const SPLIT_USAGE: &str = "binlog split [--size BYTES] [-r FILE [--force]] LOG";
 
 const SPLIT_AFTER_HELP: &str = "\
-The new log is binary, and standard output may be a terminal: use -r FILE or > FILE.
+The new log is binary, and isn't written to a terminal: use -r FILE or > FILE.
+FILE appears once the new log is whole, and only its owner may read it.
 
 Examples:
   binlog split undo.binlog -r parts.binlog
@@ -139,7 +141,7 @@ Examples:
   binlog split undo.binlog > parts.binlog
       the same as the first by the shell, which overwrites a file that is there
   binlog split undo.binlog -r parts.binlog --force
-      overwrite a file that is there
+      replace a file that is there
 
 Exit status: 0 done, 1 the log is refused or something failed, 2 the arguments are wrong.";
 
@@ -165,7 +167,7 @@ fn plain_arguments<'a>(alloc: Global) -> Result<Command<'a>, AllocError> {
     new_log_arguments(
         alloc,
         command,
-        "Create FILE once LOG is checked, and write to it; it must not be there",
+        "Write to FILE, which must not be there, unless it is a device or a pipe",
     )
 }
 
@@ -181,7 +183,7 @@ fn split_arguments<'a>(alloc: Global) -> Result<Command<'a>, AllocError> {
     new_log_arguments(
         alloc,
         command.arg(size)?,
-        "Create FILE once LOG is cut, and write to it; it must not be there",
+        "Write to FILE, which must not be there, unless it is a device or a pipe",
     )
 }
 
@@ -192,7 +194,7 @@ fn new_log_arguments<'a>(
     creating: &'a str,
 ) -> Result<Command<'a>, AllocError> {
     let file = option(alloc, RESULT_FILE, "FILE").help(creating);
-    let force = flag(alloc, FORCE).help("With -r: overwrite FILE if it is there");
+    let force = flag(alloc, FORCE).help("With -r: replace FILE if it is there");
     let log = Arg::new(alloc, LOG).help("The binary log, a file");
     command
         .arg(file.short('r'))?

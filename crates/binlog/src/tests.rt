@@ -3,18 +3,20 @@
 mod commands;
 mod failing_writers;
 mod lists;
+mod log_files;
 mod refused_memory;
 mod result_files;
 mod splits;
+mod terminals;
 
-use crate::commands::command;
+use crate::commands::{Process, command};
 use blog_device::Watched;
 use sample_logs::small::{PLAIN, SUMMED};
 use std::alloc::AllocError;
 use std::path::PathBuf;
 use std::process::{Abort, ExitCode};
 use std::test::Fail;
-use std::{env, fs, io};
+use std::{fs, io, process};
 use testkit::runs::Outcome;
 
 /// Where the Stop event of `SUMMED` begins.
@@ -25,15 +27,27 @@ fn arguments_of(rt: &HostRuntime, arguments: &[&str]) -> Result<Vec<String>, All
     testkit::runs::arguments_of(rt, "binlog", arguments)
 }
 
-fn run_given(rt: &HostRuntime, arguments: io::Result<Vec<String>>) -> Outcome {
+/// This process, whose standard output is no terminal.
+fn this_process(rt: &HostRuntime) -> Process {
+    Process {
+        id: process::id(rt.process()),
+        writes_to_terminal: false,
+    }
+}
+
+fn run_in(rt: &HostRuntime, process: Process, arguments: io::Result<Vec<String>>) -> Outcome {
     let mut output = Watched::new(Vec::new(rt.alloc()));
     let mut errors = Watched::new(Vec::new(rt.alloc()));
-    let status = command(rt, rt.alloc(), arguments, &mut output, &mut errors);
+    let status = command(rt, rt.alloc(), process, arguments, &mut output, &mut errors);
     Outcome {
         status,
         output,
         errors,
     }
+}
+
+fn run_given(rt: &HostRuntime, arguments: io::Result<Vec<String>>) -> Outcome {
+    run_in(rt, this_process(rt), arguments)
 }
 
 fn run_arguments(rt: &HostRuntime, arguments: &[&str]) -> Result<Outcome, AllocError> {
@@ -91,21 +105,6 @@ fn refused_logs_are_told(rt: HostRuntime) -> Result<(), Fail> {
     tells(&rt, old.as_slice(), "binlog: OldServer at 4: ")?;
     tells(&rt, unknown.as_slice(), "binlog: UnknownAlgorithm at 4: ")?;
     tells(&rt, wrong.as_slice(), "binlog: WrongSum at 120: ")
-}
-
-#[test]
-fn logs_that_cannot_be_read_are_told(rt: HostRuntime) -> Result<(), Fail> {
-    let absent = path_of(&rt, "absent")?;
-    let absent_name = absent.as_str();
-    let line = format!(in rt.alloc();
-        "binlog: cannot open the log {absent_name}: No such file or directory (os error 2): "
-    )?;
-    let outcome = run_arguments(&rt, &["plain", absent.as_str()])?;
-    assert!(rt; outcome.begins_refusal(1, line.as_str()));
-    let folder = env::temp_dir(&rt)?;
-    let outcome = run_arguments(&rt, &["plain", folder.as_str()])?;
-    assert!(rt; outcome.begins_refusal(1, "binlog: read failed: "));
-    Ok(())
 }
 
 #[test]

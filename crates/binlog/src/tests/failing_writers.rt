@@ -1,6 +1,6 @@
 //! Runs whose writers fail.
 
-use super::{arguments_of, path_of, run_arguments};
+use super::{arguments_of, path_of, run_arguments, this_process};
 use crate::commands::command;
 use blog_device::Watched;
 use sample_logs::logs::insert_and_drop;
@@ -22,7 +22,15 @@ fn fails(
     let mut output = Watched::new(SlowWriter::new(rt, STEP, failure));
     let mut errors = Watched::new(Vec::new(rt.alloc()));
     let arguments = arguments_of(rt, arguments)?;
-    let status = command(rt, rt.alloc(), Ok(arguments), &mut output, &mut errors);
+    let process = this_process(rt);
+    let status = command(
+        rt,
+        rt.alloc(),
+        process,
+        Ok(arguments),
+        &mut output,
+        &mut errors,
+    );
     let told = errors.device().starts_with(b"binlog: write failed: ");
     let is_failure = status == ExitCode::FAILURE && output.device().failed_calls == 1;
     Ok((told && is_failure, output))
@@ -89,7 +97,15 @@ fn a_line_that_cannot_be_printed_is_dropped(rt: HostRuntime) -> Result<(), Fail>
         let mut output = Watched::new(Vec::new(rt.alloc()));
         let mut errors = Watched::new(SlowWriter::new(&rt, ALL, Failure::At(1, kind)));
         let arguments = arguments_of(&rt, &["plain", ""])?;
-        let status = command(&rt, rt.alloc(), Ok(arguments), &mut output, &mut errors);
+        let process = this_process(&rt);
+        let status = command(
+            &rt,
+            rt.alloc(),
+            process,
+            Ok(arguments),
+            &mut output,
+            &mut errors,
+        );
         assert_eq!(rt; status, ExitCode::FAILURE);
         assert!(rt; output.device().is_empty());
         assert_eq!(rt; errors.device().calls, 1);

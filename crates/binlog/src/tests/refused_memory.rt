@@ -1,10 +1,11 @@
 //! Runs in which one request for memory is refused, each in turn.
 
-use super::{arguments_of, path_of};
+use super::{arguments_of, path_of, this_process};
 use crate::commands::command;
 use blog_device::Watched;
 use linked_list_allocator::LocalHeap;
 use refusing::Refusing;
+use result_file::temporary_name;
 use sample_logs::logs::insert_and_drop;
 use sample_logs::small::{INSERT_ONE_ROW, PLAIN, SUMMED};
 use std::fs;
@@ -31,7 +32,8 @@ fn run_refusing(
     let mut output = Watched::new(Vec::new(rt.alloc()));
     let mut errors = Watched::new(Vec::new(rt.alloc()));
     let all = arguments_of(rt, arguments)?;
-    let status = command(rt, &refusing, Ok(all), &mut output, &mut errors);
+    let process = this_process(rt);
+    let status = command(rt, &refusing, process, Ok(all), &mut output, &mut errors);
     if heap.used() != 0 {
         return Err(Fail::new(format_args!("kept memory: {arguments:?}")));
     }
@@ -43,15 +45,19 @@ fn run_refusing(
     Ok((outcome, refusing.has_refused()))
 }
 
-/// Refuses each request of a run in turn: it ends with want of memory, and the result file isn't created. Answers the run
+/// Refuses each request of a run in turn: it ends with want of memory, and neither the result file nor a temporary one is left. Answers the run
 /// that is refused none, and how many were refused before it.
 fn refuse_in_turn(
     rt: &HostRuntime,
     arguments: &[&str],
     file: &str,
 ) -> Result<(Outcome, usize), Fail> {
+    let temporary = temporary_name(rt.alloc(), file, this_process(rt).id, 0)?;
     for number in 1..REQUESTS {
         let (outcome, refused) = run_refusing(rt, arguments, number)?;
+        if fs::exists(rt, temporary.as_str())? {
+            return Err(Fail::new("a temporary file is left"));
+        }
         if !refused {
             return Ok((outcome, number - 1));
         }
