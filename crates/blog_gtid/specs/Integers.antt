@@ -1,8 +1,27 @@
 -- Integers of variable length (MySQL source code documentation, "mysql::serialization").
-use Rattle.std.specs.Prelude.{ℕ, zero, suc, ◌+◌, ◌/◌, ◌%◌, ◌^◌, ◌==◌, nat_lt, nat_le, if◌then◌else◌, List, [], ◌∷◌, length, drop, Option, Some, None}
+use Rattle.std.specs.Prelude.{◌≡◌, ◌↔◌, ◌<◌, ◌≤◌, ℕ, zero, suc, ◌+◌, ◌-◌, ◌*◌, ◌/◌, ◌%◌, ◌^◌, ◌==◌, nat_lt, nat_le, if◌then◌else◌, List, [], ◌∷◌, ◌++◌, length, drop, Option, Some, None}
 use Rattle.std.specs.Int.{w8, trailing_ones}
-use Rattle.byteorder.specs.Endian.{little_number}
+use Rattle.byteorder.specs.Endian.{little_bytes, little_number}
 use Rattle.blog_event.specs.Format.{◌>>=◌}
+
+-- ---- what an integer is
+
+-- v in n + 1 bytes: from the lowest bit on n one bits, a zero bit, and v; or, for n = 8, eight one bits and v
+unfoldable pub spelled : ℕ → ℕ → List ℕ
+spelled n v = if n == 8 then 255 ∷ little_bytes 8 v else little_bytes (n + 1) (v * 2 ^ (n + 1) + (2 ^ n - 1))
+
+-- how many bits v has at most
+abbrev pub most_bits : ℕ → ℕ
+most_bits n = if n == 8 then 64 else 7 * (n + 1)
+
+-- the bytes are v, not always as shortly as they could
+pub record IsInteger (bytes : List ℕ) (v : ℕ) : Type 0 where
+  pub more : ℕ
+  pub few : more ≤ 8
+  pub fits : v < 2 ^ most_bits more
+  pub is : bytes ≡ spelled more v
+
+-- ---- reading one
 
 -- how many bytes follow the first: as many as it has trailing one bits
 unfoldable pub following : ℕ → ℕ
@@ -19,6 +38,12 @@ integer_front [] = None
 integer_front (first ∷ bytes) =
     let n = following first in
     if nat_le n (length bytes) then Some (value_in n (first ∷ bytes), drop n bytes) else None
+
+-- it is read exactly where one stands at the front
+abbrev pub ReadsInteger : List ℕ → ℕ → List ℕ → Type 0
+ReadsInteger bytes v rest = (integer_front bytes ≡ Some (v, rest)) ↔ ((first : List ℕ) × IsInteger first v × (bytes ≡ first ++ rest))
+
+-- ---- what is made of integers
 
 -- an integer below 256
 unfoldable pub byte_front : List ℕ → Option (ℕ × List ℕ)

@@ -2,6 +2,8 @@
 #![tactic(auto)]
 
 mod integers;
+mod laws;
 mod tagged;
 
+pub use laws::reading_an_integer_is_exact;
 pub use tagged::{TaggedId, gtid_body, tagged_id};
