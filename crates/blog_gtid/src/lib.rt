@@ -4,6 +4,8 @@
 mod integers;
 mod laws;
 mod tagged;
+#[cfg(test)]
+mod tests;
 
 pub use laws::reading_an_integer_is_exact;
 pub use tagged::{TaggedId, gtid_body, tagged_id};
