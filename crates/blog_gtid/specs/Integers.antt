@@ -21,6 +21,11 @@ pub record IsInteger (bytes : List ℕ) (v : ℕ) : Type 0 where
   pub fits : v < 2 ^ most_bits more
   pub is : bytes ≡ spelled more v
 
+-- bytes begin with these integers, one after the other, and the rest is after them
+abbrev pub BeginWith : List ℕ → List ℕ → List ℕ → Type 0
+BeginWith [] rest bytes = bytes ≡ rest
+BeginWith (v ∷ vs) rest bytes = (first : List ℕ) × (others : List ℕ) × IsInteger first v × (bytes ≡ first ++ others) × BeginWith vs rest others
+
 -- ---- reading one
 
 -- how many bytes follow the first: as many as it has trailing one bits

@@ -1,11 +1,12 @@
 -- The body of a tagged GTID event (MySQL source code documentation, "mysql::serialization"; event type 42,
 -- "GTID_TAGGED_LOG_EVENT"), and of the Gtid event that it becomes (event type 33, "GTID_LOG_EVENT").
-use Rattle.std.specs.Prelude.{ℕ, ◌==◌, ◌&&◌, nat_lt, nat_le, if◌then◌else◌, List, [], ◌∷◌, ◌++◌, length, take, replicate, Option, Some, None}
+use Rattle.std.specs.Prelude.{◌≡◌, ◌↔◌, ◌⊎◌, ◌<◌, ◌≤◌, ℕ, ◌*◌, ◌==◌, ◌&&◌, nat_lt, nat_le, if◌then◌else◌, List, [], ◌∷◌, ◌++◌, length, take, replicate, Option, Some, None}
+use Rattle.std.specs.List.{AllByRecursion}
 use Rattle.std.specs.Option.{option_map_or}
 use Rattle.byteorder.specs.Endian.{little_bytes}
 use Rattle.blog_event.specs.Format.{◌>>=◌}
 use Rattle.blog_gtid.specs.declared.tagged.TaggedId as told
-use Rattle.blog_gtid.specs.Integers.{integer_front, byte_front, bytes_front, signed_front}
+use Rattle.blog_gtid.specs.Integers.{BeginWith, integer_front, byte_front, bytes_front, signed_front}
 
 -- flags, the server's UUID, the transaction's number, and the tag, which can be empty
 pub record TaggedId : Type 0 where
@@ -17,6 +18,25 @@ pub record TaggedId : Type 0 where
 -- the same of the program
 abbrev pub tagged_value : told.TaggedId → TaggedId
 tagged_value id = record { flags = id.flags; server = id.server; number = id.number; tag = id.tag.now }
+
+-- ---- what a body is
+
+-- what is after the number: field 3 with the tag's length and bytes, or no tag, and then nothing or a later field
+abbrev pub HasTag : List ℕ → List ℕ → Type 0
+HasTag tag bytes =
+    ((length tag ≤ 32) × ((rest : List ℕ) × BeginWith (3 ∷ length tag ∷ []) (tag ++ rest) bytes))
+    ⊎ ((tag ≡ []) × ((bytes ≡ []) ⊎ ((id : ℕ) × (rest : List ℕ) × (3 < id) × BeginWith (id ∷ []) rest bytes)))
+
+-- version 1, the size of the body, the id of the last field that a reader has to know; field 0, the flags; field 1, the
+-- bytes of the UUID, each an integer; field 2, the number, twice as large; then the tag
+pub record HasTagged (body : List ℕ) (id : TaggedId) : Type 0 where
+  pub last : ℕ
+  pub after : List ℕ
+  pub flags : id.flags < 256
+  pub server : AllByRecursion (λ byte. byte < 256) id.server
+  pub server_len : length id.server ≡ 16
+  pub text : BeginWith (1 ∷ length body ∷ last ∷ 0 ∷ id.flags ∷ 1 ∷ (id.server ++ 2 ∷ 2 * id.number ∷ [])) after body
+  pub tag : HasTag id.tag after
 
 -- ---- the parts of a message
 
@@ -59,6 +79,10 @@ tagged_of body = do
   number ← after_id 2 server.1 >>= signed_front
   tag ← tag_of number.1
   Some (record { flags = flags.0; server = server.0; number = number.0; tag = tag })
+
+-- an identifier is read exactly where the body has it
+abbrev pub ReadsTagged : List ℕ → TaggedId → Type 0
+ReadsTagged body id = (tagged_of body ≡ Some id) ↔ HasTagged body id
 
 -- the body of the Gtid event: flags, UUID and number
 abbrev pub gtid_text : TaggedId → List ℕ
