@@ -11,125 +11,125 @@ use Rattle.blog_event.specs.Format.{◌>>=◌}
 use Rattle.blog_event.specs.File.{AreBytes}
 use Rattle.blog_gtid.specs.Integers.{BeginWith, integer_front, byte_front, bytes_front, signed_front}
 use Rattle.blog_gtid.specs.Tagged.{TaggedId, HasTag, HasTagged, after_header, after_id, text_front, tag_of, tagged_of}
-use Rattle.blog_gtid.proofs.Spellings.{integer_found, integer_again}
+use Rattle.blog_gtid.proofs.Spellings.{integer-found, integer-again}
 
 -- ---- steps
 
 -- a step that gave something
-step_found : {A B : Type 0} (o : Option A) (f : A → Option B) (y : B) → (o >>= f) ≡ Some y → (x : A) × (o ≡ Some x) × (f x ≡ Some y)
-step_found None f y e = absurd (none-some y e)
-step_found (Some x) f y e = (x, refl, e)
+step-found : {A B : Type 0} (o : Option A) (f : A → Option B) (y : B) → (o >>= f) ≡ Some y → (x : A) × (o ≡ Some x) × (f x ≡ Some y)
+step-found None f y e = absurd (none-some y e)
+step-found (Some x) f y e = (x, refl, e)
 
 -- ---- what is there is read
 
 -- the first of several integers
-first_again : (v : ℕ) (vs rest bytes : List ℕ) → BeginWith (v ∷ vs) rest bytes → (others : List ℕ) × (integer_front bytes ≡ Some (v, others)) × BeginWith vs rest others
-first_again v vs rest bytes h = (h.1, rw h.3 (integer_again h.0 v h.1 h.2), h.4)
+first-again : (v : ℕ) (vs rest bytes : List ℕ) → BeginWith (v ∷ vs) rest bytes → (others : List ℕ) × (integer_front bytes ≡ Some (v, others)) × BeginWith vs rest others
+first-again v vs rest bytes h = (h.1, rw h.3 (integer-again h.0 v h.1 h.2), h.4)
 
 -- a byte
-byte_again : (v : ℕ) (bytes others : List ℕ) → v < 256 → integer_front bytes ≡ Some (v, others) → byte_front bytes ≡ Some (v, others)
+byte-again : (v : ℕ) (bytes others : List ℕ) → v < 256 → integer_front bytes ≡ Some (v, others) → byte_front bytes ≡ Some (v, others)
 unfolding byte_front
-byte_again v bytes others fits e =
+byte-again v bytes others fits e =
     let test : nat_lt v 256 ≡ true = grind (arith, nat_tests) in
     rw (e, test)
 
 -- bytes in front of several integers
-bytes_again : (xs vs rest bytes : List ℕ) → AllByRecursion (λ byte. byte < 256) xs → BeginWith (xs ++ vs) rest bytes
+bytes-again : (xs vs rest bytes : List ℕ) → AllByRecursion (λ byte. byte < 256) xs → BeginWith (xs ++ vs) rest bytes
     → (others : List ℕ) × (bytes_front (length xs) bytes ≡ Some (xs, others)) × BeginWith vs rest others
 unfolding bytes_front
-bytes_again [] vs rest bytes are h = (bytes, refl, h)
-bytes_again (x ∷ xs) vs rest bytes are h =
-    let one = first_again x (xs ++ vs) rest bytes h in
-    let others = bytes_again xs vs rest one.0 are.1 one.2 in
-    (others.0, rw (byte_again x bytes one.0 are.0 one.1, others.1), others.2)
+bytes-again [] vs rest bytes are h = (bytes, refl, h)
+bytes-again (x ∷ xs) vs rest bytes are h =
+    let one = first-again x (xs ++ vs) rest bytes h in
+    let others = bytes-again xs vs rest one.0 are.1 one.2 in
+    (others.0, rw (byte-again x bytes one.0 are.0 one.1, others.1), others.2)
 
 -- a number that isn't negative
-signed_again : (v : ℕ) (bytes others : List ℕ) → integer_front bytes ≡ Some (2 * v, others) → signed_front bytes ≡ Some (v, others)
+signed-again : (v : ℕ) (bytes others : List ℕ) → integer_front bytes ≡ Some (2 * v, others) → signed_front bytes ≡ Some (v, others)
 unfolding signed_front
-signed_again v bytes others e =
+signed-again v bytes others e =
     let test : (2 * v % 2 == 0) ≡ true = grind (arith, nat_tests) in
     let half : 2 * v / 2 ≡ v = omega arith in
     rw (e, test, half)
 
-id_again : (id : ℕ) (bytes others : List ℕ) → integer_front bytes ≡ Some (id, others) → after_id id bytes ≡ Some others
+id-again : (id : ℕ) (bytes others : List ℕ) → integer_front bytes ≡ Some (id, others) → after_id id bytes ≡ Some others
 unfolding after_id
-id_again id bytes others e =
+id-again id bytes others e =
     let test : (id == id) ≡ true = grind (arith, nat_tests) in
     rw (e, test)
 
-header_again : (last : ℕ) (body one two three : List ℕ) → integer_front body ≡ Some (1, one) → integer_front one ≡ Some (length body, two) → integer_front two ≡ Some (last, three)
+header-again : (last : ℕ) (body one two three : List ℕ) → integer_front body ≡ Some (1, one) → integer_front one ≡ Some (length body, two) → integer_front two ≡ Some (last, three)
     → after_header body ≡ Some three
 unfolding after_header
-header_again last body one two three e f g =
+header-again last body one two three e f g =
     let test : (length body == length body) ≡ true = grind (arith, nat_tests) in
     rw (e, f, g, test)
 
-text_again : (tag rest bytes : List ℕ) → length tag ≤ 32 → integer_front bytes ≡ Some (length tag, tag ++ rest) → text_front bytes ≡ Some tag
+text-again : (tag rest bytes : List ℕ) → length tag ≤ 32 → integer_front bytes ≡ Some (length tag, tag ++ rest) → text_front bytes ≡ Some tag
 unfolding text_front
-text_again tag rest bytes short e =
+text-again tag rest bytes short e =
     let len = length-append tag rest in
     let first : nat_le (length tag) 32 ≡ true = grind (arith, nat_tests) in
     let second : nat_le (length tag) (length (tag ++ rest)) ≡ true = grind (arith, nat_tests) in
     rw (e, first, second, take_at tag rest (length tag) refl)
 
 -- what is after the number, by its first integer
-abbrev by_id : ℕ → List ℕ → Option (List ℕ)
-by_id id rest = if id == 3 then text_front rest else if nat_lt 3 id then Some [] else None
+abbrev from_id : ℕ → List ℕ → Option (List ℕ)
+from_id id rest = if id == 3 then text_front rest else if nat_lt 3 id then Some [] else None
 
-tag_by_id : (bytes : List ℕ) (id : ℕ) (rest : List ℕ) → integer_front bytes ≡ Some (id, rest) → tag_of bytes ≡ by_id id rest
+tag-by-id : (bytes : List ℕ) (id : ℕ) (rest : List ℕ) → integer_front bytes ≡ Some (id, rest) → tag_of bytes ≡ from_id id rest
 unfolding tag_of integer_front
-tag_by_id [] id rest e = absurd (none-some (id, rest) e)
-tag_by_id (first ∷ bytes) id rest e = rw e
+tag-by-id [] id rest e = absurd (none-some (id, rest) e)
+tag-by-id (first ∷ bytes) id rest e = rw e
 
-later_again : (id : ℕ) (rest : List ℕ) → 3 < id → by_id id rest ≡ Some []
-later_again id rest later =
+later-again : (id : ℕ) (rest : List ℕ) → 3 < id → from_id id rest ≡ Some []
+later-again id rest later =
     let first : (id == 3) ≡ false = grind (arith, nat_tests) in
     let second : nat_lt 3 id ≡ true = grind (arith, nat_tests) in
     rw (first, second)
 
-none_again : tag_of [] ≡ Some []
+none-again : tag_of [] ≡ Some []
 unfolding tag_of
-none_again = refl
+none-again = refl
 
-tag_again : (tag bytes : List ℕ) → HasTag tag bytes → tag_of bytes ≡ Some tag
-tag_again tag bytes h = elim h [
+tag-again : (tag bytes : List ℕ) → HasTag tag bytes → tag_of bytes ≡ Some tag
+tag-again tag bytes h = elim h [
   | inl k ↦
       let rest : List ℕ = k.1.0 in
-      let one = first_again 3 (length tag ∷ []) (tag ++ rest) bytes k.1.1 in
-      let two = first_again (length tag) [] (tag ++ rest) one.0 one.2 in
+      let one = first-again 3 (length tag ∷ []) (tag ++ rest) bytes k.1.1 in
+      let two = first-again (length tag) [] (tag ++ rest) one.0 one.2 in
       let text : integer_front one.0 ≡ Some (length tag, tag ++ rest) = two.1 ∙ ap (λ (r : List ℕ). Some (length tag, r)) two.2 in
-      tag_by_id bytes 3 one.0 one.1 ∙ text_again tag rest one.0 k.0 text
+      tag-by-id bytes 3 one.0 one.1 ∙ text-again tag rest one.0 k.0 text
   | inr k ↦ elim k.1 [
-    | inl none ↦ ap tag_of none ∙ none_again ∙ ap Some (sym k.0)
+    | inl none ↦ ap tag_of none ∙ none-again ∙ ap Some (sym k.0)
     | inr later ↦
-        let one = first_again later.0 [] later.1 bytes later.3 in
-        tag_by_id bytes later.0 one.0 one.1 ∙ later_again later.0 one.0 later.2 ∙ ap Some (sym k.0)
+        let one = first-again later.0 [] later.1 bytes later.3 in
+        tag-by-id bytes later.0 one.0 one.1 ∙ later-again later.0 one.0 later.2 ∙ ap Some (sym k.0)
   ]
 ]
 
-pub tagged_again : (body : List ℕ) (id : TaggedId) → HasTagged body id → tagged_of body ≡ Some id
+pub tagged-again : (body : List ℕ) (id : TaggedId) → HasTagged body id → tagged_of body ≡ Some id
 unfolding tagged_of
-tagged_again body id h =
+tagged-again body id h =
     let numbers : List ℕ = 2 ∷ 2 * id.number ∷ [] in
-    let a = first_again 1 (length body ∷ h.last ∷ 0 ∷ id.flags ∷ 1 ∷ (id.server ++ numbers)) h.after body h.text in
-    let b = first_again (length body) (h.last ∷ 0 ∷ id.flags ∷ 1 ∷ (id.server ++ numbers)) h.after a.0 a.2 in
-    let c = first_again h.last (0 ∷ id.flags ∷ 1 ∷ (id.server ++ numbers)) h.after b.0 b.2 in
-    let d = first_again 0 (id.flags ∷ 1 ∷ (id.server ++ numbers)) h.after c.0 c.2 in
-    let e = first_again id.flags (1 ∷ (id.server ++ numbers)) h.after d.0 d.2 in
-    let f = first_again 1 (id.server ++ numbers) h.after e.0 e.2 in
-    let g = bytes_again id.server numbers h.after f.0 h.server f.2 in
-    let i = first_again 2 (2 * id.number ∷ []) h.after g.0 g.2 in
-    let j = first_again (2 * id.number) [] h.after i.0 i.2 in
+    let a = first-again 1 (length body ∷ h.last ∷ 0 ∷ id.flags ∷ 1 ∷ (id.server ++ numbers)) h.after body h.text in
+    let b = first-again (length body) (h.last ∷ 0 ∷ id.flags ∷ 1 ∷ (id.server ++ numbers)) h.after a.0 a.2 in
+    let c = first-again h.last (0 ∷ id.flags ∷ 1 ∷ (id.server ++ numbers)) h.after b.0 b.2 in
+    let d = first-again 0 (id.flags ∷ 1 ∷ (id.server ++ numbers)) h.after c.0 c.2 in
+    let e = first-again id.flags (1 ∷ (id.server ++ numbers)) h.after d.0 d.2 in
+    let f = first-again 1 (id.server ++ numbers) h.after e.0 e.2 in
+    let g = bytes-again id.server numbers h.after f.0 h.server f.2 in
+    let i = first-again 2 (2 * id.number ∷ []) h.after g.0 g.2 in
+    let j = first-again (2 * id.number) [] h.after i.0 i.2 in
     let server : bytes_front 16 f.0 ≡ Some (id.server, g.0) = ap (λ n. bytes_front n f.0) (sym h.server_len) ∙ g.1 in
-    let tag : tag_of j.0 ≡ Some id.tag = ap tag_of j.2 ∙ tag_again id.tag h.after h.tag in
+    let tag : tag_of j.0 ≡ Some id.tag = ap tag_of j.2 ∙ tag-again id.tag h.after h.tag in
     rw (
-      header_again h.last body a.0 b.0 c.0 a.1 b.1 c.1,
-      id_again 0 c.0 d.0 d.1,
-      byte_again id.flags d.0 e.0 h.flags e.1,
-      id_again 1 e.0 f.0 f.1,
+      header-again h.last body a.0 b.0 c.0 a.1 b.1 c.1,
+      id-again 0 c.0 d.0 d.1,
+      byte-again id.flags d.0 e.0 h.flags e.1,
+      id-again 1 e.0 f.0 f.1,
       server,
-      id_again 2 g.0 i.0 i.1,
-      signed_again id.number i.0 j.0 j.1,
+      id-again 2 g.0 i.0 i.1,
+      signed-again id.number i.0 j.0 j.1,
       tag,
     )
 
@@ -140,76 +140,76 @@ record Reads (vs bytes rest : List ℕ) : Type 0 where
   are : AreBytes rest
   more : (ws end : List ℕ) → BeginWith ws end rest → BeginWith (vs ++ ws) end bytes
 
-some_parts : {A : Type 0} (x y : A) → Some x ≡ Some y → x ≡ y
-some_parts x y e = ap (λ o. unwrap_or o x) e
+some-parts : {A : Type 0} (x y : A) → Some x ≡ Some y → x ≡ y
+some-parts x y e = ap (λ o. unwrap_or o x) e
 
-are_after : (first rest : List ℕ) → AreBytes (first ++ rest) → AreBytes rest
-are_after first rest are = λ i. rw (get_or-append-add first rest i 0) at (are (length first + i))
+are-after : (first rest : List ℕ) → AreBytes (first ++ rest) → AreBytes rest
+are-after first rest are = λ i. rw (get_or-append-add first rest i 0) at (are (length first + i))
 
-integer_reads : (bytes : List ℕ) (v : ℕ) (rest : List ℕ) → AreBytes bytes → integer_front bytes ≡ Some (v, rest) → Reads (v ∷ []) bytes rest
-integer_reads bytes v rest are e =
-    let f = integer_found bytes v rest are e in
-    record { are = are_after f.0 rest (subst AreBytes f.2 are); more = λ ws end h. (f.0, rest, f.1, f.2, h) }
+integer-reads : (bytes : List ℕ) (v : ℕ) (rest : List ℕ) → AreBytes bytes → integer_front bytes ≡ Some (v, rest) → Reads (v ∷ []) bytes rest
+integer-reads bytes v rest are e =
+    let f = integer-found bytes v rest are e in
+    record { are = are-after f.0 rest (subst AreBytes f.2 are); more = λ ws end h. (f.0, rest, f.1, f.2, h) }
 
-id_reads : (id : ℕ) (bytes rest : List ℕ) → AreBytes bytes → after_id id bytes ≡ Some rest → Reads (id ∷ []) bytes rest
+id-reads : (id : ℕ) (bytes rest : List ℕ) → AreBytes bytes → after_id id bytes ≡ Some rest → Reads (id ∷ []) bytes rest
 unfolding after_id
-id_reads id bytes rest are e =
-    let s = step_found (integer_front bytes) (λ found. if found.0 == id then Some found.1 else None) rest e in
+id-reads id bytes rest are e =
+    let s = step-found (integer_front bytes) (λ found. if found.0 == id then Some found.1 else None) rest e in
     let (test, same) = cond_some _ _ _ s.2 in
-    integer_reads bytes id rest are (s.1 ∙ ap₂ (λ (v : ℕ) (r : List ℕ). Some (v, r)) (eqb-true s.0.0 id test) same)
+    integer-reads bytes id rest are (s.1 ∙ ap₂ (λ (v : ℕ) (r : List ℕ). Some (v, r)) (eqb-true s.0.0 id test) same)
 
-byte_reads : (bytes : List ℕ) (v : ℕ) (rest : List ℕ) → AreBytes bytes → byte_front bytes ≡ Some (v, rest) → (v < 256) × Reads (v ∷ []) bytes rest
+byte-reads : (bytes : List ℕ) (v : ℕ) (rest : List ℕ) → AreBytes bytes → byte_front bytes ≡ Some (v, rest) → (v < 256) × Reads (v ∷ []) bytes rest
 unfolding byte_front
-byte_reads bytes v rest are e =
-    let s = step_found (integer_front bytes) (λ value. if nat_lt value.0 256 then Some value else None) (v, rest) e in
+byte-reads bytes v rest are e =
+    let s = step-found (integer_front bytes) (λ value. if nat_lt value.0 256 then Some value else None) (v, rest) e in
     let (test, same) = cond_some _ _ _ s.2 in
     let below : s.0.0 < 256 = ltb-true s.0.0 256 test in
     let value : s.0.0 ≡ v = ap (λ (p : ℕ × List ℕ). p.0) same in
-    (omega (arith, below, value), integer_reads bytes v rest are (s.1 ∙ ap (λ (p : ℕ × List ℕ). Some p) same))
+    (omega (arith, below, value), integer-reads bytes v rest are (s.1 ∙ ap (λ (p : ℕ × List ℕ). Some p) same))
 
-signed_reads : (bytes : List ℕ) (v : ℕ) (rest : List ℕ) → AreBytes bytes → signed_front bytes ≡ Some (v, rest) → Reads (2 * v ∷ []) bytes rest
+signed-reads : (bytes : List ℕ) (v : ℕ) (rest : List ℕ) → AreBytes bytes → signed_front bytes ≡ Some (v, rest) → Reads (2 * v ∷ []) bytes rest
 unfolding signed_front
-signed_reads bytes v rest are e =
-    let s = step_found (integer_front bytes) (λ value. if value.0 % 2 == 0 then Some (value.0 / 2, value.1) else None) (v, rest) e in
+signed-reads bytes v rest are e =
+    let s = step-found (integer_front bytes) (λ value. if value.0 % 2 == 0 then Some (value.0 / 2, value.1) else None) (v, rest) e in
     let (test, same) = cond_some _ _ _ s.2 in
     let even : s.0.0 % 2 ≡ 0 = eqb-true (s.0.0 % 2) 0 test in
     let half : s.0.0 / 2 ≡ v = ap (λ (p : ℕ × List ℕ). p.0) same in
     let twice : s.0.0 ≡ 2 * v = omega (arith, even, half) in
-    integer_reads bytes (2 * v) rest are (s.1 ∙ ap₂ (λ (v : ℕ) (r : List ℕ). Some (v, r)) twice (ap (λ (p : ℕ × List ℕ). p.1) same))
+    integer-reads bytes (2 * v) rest are (s.1 ∙ ap₂ (λ (v : ℕ) (r : List ℕ). Some (v, r)) twice (ap (λ (p : ℕ × List ℕ). p.1) same))
 
 -- this many bytes
 abbrev AreRead : ℕ → List ℕ → List ℕ × List ℕ → Type 0
 AreRead n bytes p = (length p.0 ≡ n) × AllByRecursion (λ byte. byte < 256) p.0 × Reads p.0 bytes p.1
 
-bytes_read : (n : ℕ) (bytes : List ℕ) (p : List ℕ × List ℕ) → AreBytes bytes → bytes_front n bytes ≡ Some p → AreRead n bytes p
+bytes-reads : (n : ℕ) (bytes : List ℕ) (p : List ℕ × List ℕ) → AreBytes bytes → bytes_front n bytes ≡ Some p → AreRead n bytes p
 unfolding bytes_front
-bytes_read zero bytes p are e =
-    subst (AreRead 0 bytes) (some_parts ([], bytes) p e) (refl, tt, record { are = are; more = λ ws end h. h })
-bytes_read (suc n) bytes p are e =
-    let s = step_found (byte_front bytes) (λ first. bytes_front n first.1 >>= (λ others. Some (first.0 ∷ others.0, others.1))) p e in
-    let t = step_found (bytes_front n s.0.1) (λ others. Some (s.0.0 ∷ others.0, others.1)) p s.2 in
-    let b = byte_reads bytes s.0.0 s.0.1 are s.1 in
-    let o = bytes_read n s.0.1 t.0 b.1.are t.1 in
-    subst (AreRead (suc n) bytes) (some_parts (s.0.0 ∷ t.0.0, t.0.1) p t.2)
+bytes-reads zero bytes p are e =
+    subst (AreRead 0 bytes) (some-parts ([], bytes) p e) (refl, tt, record { are = are; more = λ ws end h. h })
+bytes-reads (suc n) bytes p are e =
+    let s = step-found (byte_front bytes) (λ first. bytes_front n first.1 >>= (λ others. Some (first.0 ∷ others.0, others.1))) p e in
+    let t = step-found (bytes_front n s.0.1) (λ others. Some (s.0.0 ∷ others.0, others.1)) p s.2 in
+    let b = byte-reads bytes s.0.0 s.0.1 are s.1 in
+    let o = bytes-reads n s.0.1 t.0 b.1.are t.1 in
+    subst (AreRead (suc n) bytes) (some-parts (s.0.0 ∷ t.0.0, t.0.1) p t.2)
     (ap suc o.0, (b.0, o.1), record { are = o.2.are; more = λ ws end h. b.1.more (t.0.0 ++ ws) end (o.2.more ws end h) })
 
-header_reads : (body rest : List ℕ) → AreBytes body → after_header body ≡ Some rest → (last : ℕ) × Reads (1 ∷ length body ∷ last ∷ []) body rest
+header-reads : (body rest : List ℕ) → AreBytes body → after_header body ≡ Some rest → (last : ℕ) × Reads (1 ∷ length body ∷ last ∷ []) body rest
 unfolding after_header
-header_reads body rest are e =
-    let s = step_found (integer_front body) (λ version. integer_front version.1 >>= (λ size. integer_front size.1 >>= (λ last. if version.0 == 1 && size.0 == length body then Some last.1 else None))) rest e in
-    let t = step_found (integer_front s.0.1) (λ size. integer_front size.1 >>= (λ last. if s.0.0 == 1 && size.0 == length body then Some last.1 else None)) rest s.2 in
-    let u = step_found (integer_front t.0.1) (λ last. if s.0.0 == 1 && t.0.0 == length body then Some last.1 else None) rest t.2 in
+header-reads body rest are e =
+    let s = step-found (integer_front body) (λ version. integer_front version.1 >>= (λ size. integer_front size.1 >>= (λ last. if version.0 == 1 && size.0 == length body then Some last.1 else None))) rest e in
+    let t = step-found (integer_front s.0.1) (λ size. integer_front size.1 >>= (λ last. if s.0.0 == 1 && size.0 == length body then Some last.1 else None)) rest s.2 in
+    let u = step-found (integer_front t.0.1) (λ last. if s.0.0 == 1 && t.0.0 == length body then Some last.1 else None) rest t.2 in
     let (test, same) = cond_some _ _ _ u.2 in
     let tests = and_parts (s.0.0 == 1) (t.0.0 == length body) test in
-    let a = integer_reads body 1 s.0.1 are (s.1 ∙ ap (λ (v : ℕ). Some (v, s.0.1)) (eqb-true s.0.0 1 tests.0)) in
-    let b = integer_reads s.0.1 (length body) t.0.1 a.are (t.1 ∙ ap (λ (v : ℕ). Some (v, t.0.1)) (eqb-true t.0.0 (length body) tests.1)) in
-    let c = integer_reads t.0.1 u.0.0 rest b.are (u.1 ∙ ap (λ (r : List ℕ). Some (u.0.0, r)) same) in
+    let a = integer-reads body 1 s.0.1 are (s.1 ∙ ap (λ (v : ℕ). Some (v, s.0.1)) (eqb-true s.0.0 1 tests.0)) in
+    let b = integer-reads s.0.1 (length body) t.0.1 a.are (t.1 ∙ ap (λ (v : ℕ). Some (v, t.0.1)) (eqb-true t.0.0 (length body) tests.1)) in
+    let c = integer-reads t.0.1 u.0.0 rest b.are (u.1 ∙ ap (λ (r : List ℕ). Some (u.0.0, r)) same) in
     (u.0.0, record { are = c.are; more = λ ws end h. a.more (length body ∷ u.0.0 ∷ ws) end (b.more (u.0.0 ∷ ws) end (c.more ws end h)) })
 
-text_reads : (bytes tag : List ℕ) → AreBytes bytes → text_front bytes ≡ Some tag → (length tag ≤ 32) × ((rest : List ℕ) × Reads (length tag ∷ []) bytes (tag ++ rest))
+text-reads : (bytes tag : List ℕ) → AreBytes bytes → text_front bytes ≡ Some tag → (length tag ≤ 32) × ((rest : List ℕ) × Reads (length tag ∷ []) bytes (tag ++ rest))
 unfolding text_front
-text_reads bytes tag are e =
-    let s = step_found (integer_front bytes) (λ size. if nat_le size.0 32 && nat_le size.0 (length size.1) then Some (take size.0 size.1) else None) tag e in
+text-reads bytes tag are e =
+    let s = step-found (integer_front bytes) (λ size. if nat_le size.0 32 && nat_le size.0 (length size.1) then Some (take size.0 size.1) else None) tag e in
     let (test, same) = cond_some _ _ _ s.2 in
     let tests = and_parts (nat_le s.0.0 32) (nat_le s.0.0 (length s.0.1)) test in
     let short : s.0.0 ≤ 32 = leb-true s.0.0 32 tests.0 in
@@ -219,28 +219,28 @@ text_reads bytes tag are e =
       omega (arith, short, len),
       (
         drop s.0.0 s.0.1,
-        integer_reads bytes (length tag) (tag ++ drop s.0.0 s.0.1) are
+        integer-reads bytes (length tag) (tag ++ drop s.0.0 s.0.1) are
             (s.1 ∙ ap₂ (λ (v : ℕ) (r : List ℕ). Some (v, r)) len text),
       ),
     )
 
-tag_from : (b : Bool) (id : ℕ) (bytes rest tag : List ℕ) → (id == 3) ≡ b → AreBytes bytes → integer_front bytes ≡ Some (id, rest)
+tag-by-test : (b : Bool) (id : ℕ) (bytes rest tag : List ℕ) → (id == 3) ≡ b → AreBytes bytes → integer_front bytes ≡ Some (id, rest)
     → (if b then text_front rest else if nat_lt 3 id then Some [] else None) ≡ Some tag → HasTag tag bytes
-tag_from true id bytes rest tag is are e found =
-    let one = integer_reads bytes 3 rest are (e ∙ ap (λ (v : ℕ). Some (v, rest)) (eqb-true id 3 is)) in
-    let two = text_reads rest tag one.are found in
+tag-by-test true id bytes rest tag is are e found =
+    let one = integer-reads bytes 3 rest are (e ∙ ap (λ (v : ℕ). Some (v, rest)) (eqb-true id 3 is)) in
+    let two = text-reads rest tag one.are found in
     inl (two.0, (two.1.0, one.more (length tag ∷ []) (tag ++ two.1.0) (two.1.1.more [] (tag ++ two.1.0) refl)))
-tag_from false id bytes rest tag is are e found =
+tag-by-test false id bytes rest tag is are e found =
     let (test, same) = cond_some _ _ _ found in
-    let one = integer_reads bytes id rest are e in
+    let one = integer-reads bytes id rest are e in
     inr (sym same, inr (id, rest, ltb-true 3 id test, one.more [] rest refl))
 
-tag_found : (bytes tag : List ℕ) → AreBytes bytes → tag_of bytes ≡ Some tag → HasTag tag bytes
+tag-found : (bytes tag : List ℕ) → AreBytes bytes → tag_of bytes ≡ Some tag → HasTag tag bytes
 unfolding tag_of
-tag_found [] tag are e = inr (sym (some_parts [] tag e), inl refl)
-tag_found (first ∷ bytes) tag are e =
-    let s = step_found (integer_front (first ∷ bytes)) (λ id. if id.0 == 3 then text_front id.1 else if nat_lt 3 id.0 then Some [] else None) tag e in
-    tag_from (s.0.0 == 3) s.0.0 (first ∷ bytes) s.0.1 tag refl are s.1 s.2
+tag-found [] tag are e = inr (sym (some-parts [] tag e), inl refl)
+tag-found (first ∷ bytes) tag are e =
+    let s = step-found (integer_front (first ∷ bytes)) (λ id. if id.0 == 3 then text_front id.1 else if nat_lt 3 id.0 then Some [] else None) tag e in
+    tag-by-test (s.0.0 == 3) s.0.0 (first ∷ bytes) s.0.1 tag refl are s.1 s.2
 
 -- ---- the steps of a body
 
@@ -273,23 +273,23 @@ assembled body last flags number server tag a b c d e f g head zeroth first_fiel
       tag = has;
     }
 
-pub tagged_found : (body : List ℕ) (id : TaggedId) → AreBytes body → tagged_of body ≡ Some id → HasTagged body id
+pub tagged-found : (body : List ℕ) (id : TaggedId) → AreBytes body → tagged_of body ≡ Some id → HasTagged body id
 unfolding tagged_of
-tagged_found body id are e =
-    let s = step_found (after_header body) from_flags id e in
-    let head = header_reads body s.0 are s.1 in
-    let f = step_found (after_id 0 s.0 >>= byte_front) from_server id s.2 in
-    let f_id = step_found (after_id 0 s.0) byte_front f.0 f.1 in
-    let zeroth = id_reads 0 s.0 f_id.0 head.1.are f_id.1 in
-    let flags = byte_reads f_id.0 f.0.0 f.0.1 zeroth.are f_id.2 in
-    let v = step_found (after_id 1 f.0.1 >>= bytes_front 16) (from_number f.0.0) id f.2 in
-    let v_id = step_found (after_id 1 f.0.1) (bytes_front 16) v.0 v.1 in
-    let first = id_reads 1 f.0.1 v_id.0 flags.1.are v_id.1 in
-    let server = bytes_read 16 v_id.0 v.0 first.are v_id.2 in
-    let n = step_found (after_id 2 v.0.1 >>= signed_front) (from_tag f.0.0 v.0.0) id v.2 in
-    let n_id = step_found (after_id 2 v.0.1) signed_front n.0 n.1 in
-    let second = id_reads 2 v.0.1 n_id.0 server.2.are n_id.1 in
-    let number = signed_reads n_id.0 n.0.0 n.0.1 second.are n_id.2 in
-    let t = step_found (tag_of n.0.1) (λ tag. Some (record { flags = f.0.0; server = v.0.0; number = n.0.0; tag = tag })) id n.2 in
-    let has = assembled body head.0 f.0.0 n.0.0 v.0.0 t.0 s.0 f_id.0 f.0.1 v_id.0 v.0.1 n_id.0 n.0.1 head.1 zeroth flags first server second number (tag_found n.0.1 t.0 number.are t.1) in
-    subst (HasTagged body) (some_parts (record { flags = f.0.0; server = v.0.0; number = n.0.0; tag = t.0 }) id t.2) has
+tagged-found body id are e =
+    let s = step-found (after_header body) from_flags id e in
+    let head = header-reads body s.0 are s.1 in
+    let f = step-found (after_id 0 s.0 >>= byte_front) from_server id s.2 in
+    let f_id = step-found (after_id 0 s.0) byte_front f.0 f.1 in
+    let zeroth = id-reads 0 s.0 f_id.0 head.1.are f_id.1 in
+    let flags = byte-reads f_id.0 f.0.0 f.0.1 zeroth.are f_id.2 in
+    let v = step-found (after_id 1 f.0.1 >>= bytes_front 16) (from_number f.0.0) id f.2 in
+    let v_id = step-found (after_id 1 f.0.1) (bytes_front 16) v.0 v.1 in
+    let first = id-reads 1 f.0.1 v_id.0 flags.1.are v_id.1 in
+    let server = bytes-reads 16 v_id.0 v.0 first.are v_id.2 in
+    let n = step-found (after_id 2 v.0.1 >>= signed_front) (from_tag f.0.0 v.0.0) id v.2 in
+    let n_id = step-found (after_id 2 v.0.1) signed_front n.0 n.1 in
+    let second = id-reads 2 v.0.1 n_id.0 server.2.are n_id.1 in
+    let number = signed-reads n_id.0 n.0.0 n.0.1 second.are n_id.2 in
+    let t = step-found (tag_of n.0.1) (λ tag. Some (record { flags = f.0.0; server = v.0.0; number = n.0.0; tag = tag })) id n.2 in
+    let has = assembled body head.0 f.0.0 n.0.0 v.0.0 t.0 s.0 f_id.0 f.0.1 v_id.0 v.0.1 n_id.0 n.0.1 head.1 zeroth flags first server second number (tag-found n.0.1 t.0 number.are t.1) in
+    subst (HasTagged body) (some-parts (record { flags = f.0.0; server = v.0.0; number = n.0.0; tag = t.0 }) id t.2) has

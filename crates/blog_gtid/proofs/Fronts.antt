@@ -14,32 +14,32 @@ abbrev in_front : ℕ → Option (List ℕ × List ℕ) → Option (List ℕ × 
 in_front value read = read >>= (λ others. Some (value ∷ others.0, others.1))
 
 -- it moves to the end of those before
-after_moved : (front : List ℕ) (value : ℕ) (read : Option (List ℕ × List ℕ)) → after front (in_front value read) ≡ after (front ++ value ∷ []) read
-after_moved front value None = refl
-after_moved front value (Some (others, rest)) = ap (λ xs. Some (xs, rest)) (sym (append_assoc front (value ∷ []) others))
+after-moved : (front : List ℕ) (value : ℕ) (read : Option (List ℕ × List ℕ)) → after front (in_front value read) ≡ after (front ++ value ∷ []) read
+after-moved front value None = refl
+after-moved front value (Some (others, rest)) = ap (λ xs. Some (xs, rest)) (sym (append_assoc front (value ∷ []) others))
 
 -- the first of several is read
-bytes_more : (front : List ℕ) (n : ℕ) (bytes : List ℕ) (value : ℕ) (rest : List ℕ) → Some (value, rest) ≡ byte_front bytes
+bytes-more : (front : List ℕ) (n : ℕ) (bytes : List ℕ) (value : ℕ) (rest : List ℕ) → Some (value, rest) ≡ byte_front bytes
     → after front (bytes_front (suc n) bytes) ≡ after (front ++ value ∷ []) (bytes_front n rest)
 unfolding bytes_front
-bytes_more front n bytes value rest e = rw (← e) (after_moved front value (bytes_front n rest))
+bytes-more front n bytes value rest e = rw (← e) (after-moved front value (bytes_front n rest))
 
 -- the first of several can't be read
-bytes_missing : (front : List ℕ) (n : ℕ) (bytes : List ℕ) → None ≡ byte_front bytes → after front (bytes_front (suc n) bytes) ≡ None
+bytes-none : (front : List ℕ) (n : ℕ) (bytes : List ℕ) → None ≡ byte_front bytes → after front (bytes_front (suc n) bytes) ≡ None
 unfolding bytes_front
-bytes_missing front n bytes e = rw (← e)
+bytes-none front n bytes e = rw (← e)
 
 -- of n items the first i are read: one more is
-pub read_on : (n : ℕ) (items : List ℕ) (i : ℕ) (bytes : List ℕ) (value : ℕ) (rest : List ℕ) → i < n → length items ≡ n → Some (value, rest) ≡ byte_front bytes
+pub front-more : (n : ℕ) (items : List ℕ) (i : ℕ) (bytes : List ℕ) (value : ℕ) (rest : List ℕ) → i < n → length items ≡ n → Some (value, rest) ≡ byte_front bytes
     → after (take i items) (bytes_front (n - i) bytes) ≡ after (take (i + 1) (set items i value)) (bytes_front (n - (i + 1)) rest)
-read_on n items i bytes value rest within size e =
+front-more n items i bytes value rest within size e =
     let left : n - i ≡ suc (n - (i + 1)) = omega arith in
     let here : i < length items = omega arith in
-    rw (left, take_more_set items i value here) (bytes_more (take i items) (n - (i + 1)) bytes value rest e)
+    rw (left, take_more_set items i value here) (bytes-more (take i items) (n - (i + 1)) bytes value rest e)
 
 -- of n items the first i are read, and the next can't be
-pub read_stops : (n : ℕ) (items : List ℕ) (i : ℕ) (bytes : List ℕ) → i < n → None ≡ byte_front bytes
+pub front-none : (n : ℕ) (items : List ℕ) (i : ℕ) (bytes : List ℕ) → i < n → None ≡ byte_front bytes
     → after (take i items) (bytes_front (n - i) bytes) ≡ None
-read_stops n items i bytes within e =
+front-none n items i bytes within e =
     let left : n - i ≡ suc (n - (i + 1)) = omega arith in
-    rw left (bytes_missing (take i items) (n - (i + 1)) bytes e)
+    rw left (bytes-none (take i items) (n - (i + 1)) bytes e)

@@ -32,28 +32,28 @@ abbrev is_ended : ℕ → ℕ → Bool
 is_ended byte n = (eqb n 8 && eqb byte 255) || (nat_lt n 8 && ends_in byte n)
 
 -- computed over all bytes
-all_counted : T (all_below (λ byte. all_below (is_counted byte) 8) 256)
+all-counted : T (all_below (λ byte. all_below (is_counted byte) 8) 256)
 unfolding following count_trailing_zeros
-all_counted = tt
+all-counted = tt
 
-all_ended : T (all_below (λ byte. is_ended byte (following byte)) 256)
+all-ended : T (all_below (λ byte. is_ended byte (following byte)) 256)
 unfolding following count_trailing_zeros
-all_ended = tt
+all-ended = tt
 
 -- ---- what the tests say
 
-is_true : (b : Bool) → T b → b ≡ true
-is_true true t = refl
-is_true false t = absurd t
+is-true : (b : Bool) → T b → b ≡ true
+is-true true t = refl
+is-true false t = absurd t
 
-one_of : (a b : Bool) → T (a || b) → T a ⊎ T b
-one_of true b t = inl tt
-one_of false b t = inr t
+one-of : (a b : Bool) → T (a || b) → T a ⊎ T b
+one-of true b t = inl tt
+one-of false b t = inr t
 
 -- a byte that ends in n one bits behind a zero bit has n trailing ones
 pub counted : (byte n : ℕ) → byte < 256 → n < 8 → byte % 2 ^ (n + 1) ≡ 2 ^ n - 1 → following byte ≡ n
 counted byte n fits few ends =
-    let t : T (is_counted byte n) = passes (is_counted byte) 8 (passes (λ byte. all_below (is_counted byte) 8) 256 all_counted byte fits) n few in
+    let t : T (is_counted byte n) = passes (is_counted byte) 8 (passes (λ byte. all_below (is_counted byte) 8) 256 all-counted byte fits) n few in
     let test : ends_in byte n ≡ true = eq-eqb (byte % 2 ^ (n + 1)) (2 ^ n - 1) ends in
     eqb→eq (following byte) n (rw test at t)
 
@@ -61,16 +61,16 @@ counted byte n fits few ends =
 pub ended : (byte : ℕ) → byte < 256
     → ((following byte ≡ 8) × (byte ≡ 255)) ⊎ ((following byte < 8) × (byte % 2 ^ (following byte + 1) ≡ 2 ^ following byte - 1))
 ended byte fits =
-    let t : T (is_ended byte (following byte)) = passes (λ byte. is_ended byte (following byte)) 256 all_ended byte fits in
-    elim (one_of (eqb (following byte) 8 && eqb byte 255) (nat_lt (following byte) 8 && ends_in byte (following byte)) t) [
+    let t : T (is_ended byte (following byte)) = passes (λ byte. is_ended byte (following byte)) 256 all-ended byte fits in
+    elim (one-of (eqb (following byte) 8 && eqb byte 255) (nat_lt (following byte) 8 && ends_in byte (following byte)) t) [
       | inl h ↦ inl (eqb→eq (following byte) 8 (and_l (eqb (following byte) 8) (eqb byte 255) h), eqb→eq byte 255 (and_r (eqb (following byte) 8) (eqb byte 255) h))
       | inr h ↦
-          let few : nat_lt (following byte) 8 ≡ true = is_true (nat_lt (following byte) 8) (and_l (nat_lt (following byte) 8) (ends_in byte (following byte)) h) in
+          let few : nat_lt (following byte) 8 ≡ true = is-true (nat_lt (following byte) 8) (and_l (nat_lt (following byte) 8) (ends_in byte (following byte)) h) in
           let below : following byte < 8 = grind (arith, nat_tests) in
           inr (below, eqb→eq (byte % 2 ^ (following byte + 1)) (2 ^ following byte - 1) (and_r (nat_lt (following byte) 8) (ends_in byte (following byte)) h))
     ]
 
 -- eight one bits
-pub of_255 : following 255 ≡ 8
+pub ones-of-255 : following 255 ≡ 8
 unfolding following count_trailing_zeros
-of_255 = refl
+ones-of-255 = refl

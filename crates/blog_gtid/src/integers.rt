@@ -58,9 +58,9 @@ pub(crate) fn server_front(bytes: &[u8]) -> Option<([u8; 16], &[u8])>
     let mut server = [0; 16];
     let mut rest = bytes;
     for byte in &mut server {
-        let (value, behind) = byte_front(rest)?;
+        let (value, after) = byte_front(rest)?;
         *byte = value;
-        rest = behind;
+        rest = after;
     }
     Some((server, rest))
 }
