@@ -1,0 +1,4 @@
+pub mod Fronts
+pub mod TrailingOnes
+pub mod Spellings
+pub mod Bodies

@@ -1,0 +1,230 @@
+//! The body of an event that a server 9.7.4 wrote, bodies that differ from it, and integers of each length.
+
+use crate::integers::integer_front;
+use crate::{TaggedId, gtid_body, tagged_id};
+use std::process::Abort;
+
+/// The body of the GTID event of 9dc90577-e933-11f1-9db2-02fc00000001:tag1:1, without its checksum.
+static WRITTEN: [u8; 57] = [
+    0x02, 0x72, 0x00, // version 1, size 57, last field to know 0
+    0x00, 0x00, // field 0: flags 0
+    0x02, 0x75, 0x02, 0x25, 0x03, 0x0A, 0xEE, 0xA5, 0x03, 0x66, 0x22, 0xC5, 0x03, 0x75, 0x02, 0xC9,
+    0x02, 0x04, 0xF1, 0x03, 0x00, 0x00, 0x00, 0x02, // field 1: the UUID
+    0x04, 0x04, // field 2: number 1
+    0x06, 0x08, 0x74, 0x61, 0x67, 0x31, // field 3: the tag
+    0x08, 0x00, 0x0A, 0x04, 0x0C, 0x7F, 0x16, 0xBD, 0xBF, 0x5A, 0x23, 0x61, 0x06, 0x10, 0x29, 0x04,
+    0x12, 0x83, 0x12, 0x0B, // fields 4 to 9
+];
+
+/// The server of that event.
+static SERVER: [u8; 16] = [
+    0x9D, 0xC9, 0x05, 0x77, 0xE9, 0x33, 0x11, 0xF1, 0x9D, 0xB2, 0x02, 0xFC, 0x00, 0x00, 0x00, 0x01,
+];
+
+/// A body without a tag, and with no field after the number.
+static SHORTEST: [u8; 24] = [
+    0x02, 0x30, 0x00, 0x00, 0x00, 0x02, 0x00, 0x00, 0x00, 0x00, 0x00, 0x00, 0x00, 0x00, 0x00, 0x00,
+    0x00, 0x00, 0x00, 0x00, 0x00, 0x00, 0x04, 0x04,
+];
+
+/// A body whose fields have their greatest values, and whose tag has 32 bytes.
+static GREATEST: [u8; 83] = [
+    0x02, 0xA6, 0x00, // version 1, size 83, last field to know 0
+    0x00, 0xFD, 0x03, // flags 255
+    0x02, 0xFD, 0x03, 0xFD, 0x03, 0xFD, 0x03, 0xFD, 0x03, 0xFD, 0x03, 0xFD, 0x03, 0xFD, 0x03, 0xFD,
+    0x03, 0xFD, 0x03, 0xFD, 0x03, 0xFD, 0x03, 0xFD, 0x03, 0xFD, 0x03, 0xFD, 0x03, 0xFD, 0x03, 0xFD,
+    0x03, // each byte of the UUID 255
+    0x04, 0xFF, 0xFE, 0xFF, 0xFF, 0xFF, 0xFF, 0xFF, 0xFF, 0xFF, // number 9,223,372,036,854,775,807
+    0x06, 0x40, // a tag of 32 bytes
+    0x7A, 0x7A, 0x7A, 0x7A, 0x7A, 0x7A, 0x7A, 0x7A, 0x7A, 0x7A, 0x7A, 0x7A, 0x7A, 0x7A, 0x7A, 0x7A,
+    0x7A, 0x7A, 0x7A, 0x7A, 0x7A, 0x7A, 0x7A, 0x7A, 0x7A, 0x7A, 0x7A, 0x7A, 0x7A, 0x7A, 0x7A, 0x7A,
+];
+
+/// A body that can't be read.
+fn check_unread(rt: &impl Abort, body: &[u8]) {
+    assert_eq!(rt; tagged_id(body), None, "{} bytes", body.len());
+    assert_eq!(rt; gtid_body(body), [0; 25], "{} bytes", body.len());
+}
+
+/// A body with another byte at a place.
+fn changed<const N: usize>(rt: &impl Abort, body: [u8; N], place: usize, byte: u8) -> [u8; N] {
+    let mut changed = body;
+    *changed.get_mut(place).expect(rt, "a place in the body") = byte;
+    changed
+}
+
+#[test]
+fn reads_what_a_server_wrote(rt: HostRuntime) {
+    let id = TaggedId {
+        flags: 0,
+        server: SERVER,
+        number: 1,
+        tag: b"tag1",
+    };
+    assert_eq!(rt; tagged_id(&WRITTEN), Some(id));
+    let written = [
+        0x00, 0x9D, 0xC9, 0x05, 0x77, 0xE9, 0x33, 0x11, 0xF1, 0x9D, 0xB2, 0x02, 0xFC, 0x00, 0x00,
+        0x00, 0x01, 0x01, 0x00, 0x00, 0x00, 0x00, 0x00, 0x00, 0x00,
+    ];
+    assert_eq!(rt; gtid_body(&WRITTEN), written);
+}
+
+#[test]
+fn reads_no_other_length(rt: HostRuntime) {
+    for len in 0..WRITTEN.len() {
+        check_unread(&rt, &WRITTEN[..len]);
+    }
+    let mut longer = [0; 58];
+    longer[..57].copy_from_slice(&WRITTEN);
+    check_unread(&rt, &longer);
+}
+
+#[test]
+fn reads_the_least_and_the_greatest(rt: HostRuntime) {
+    let least = TaggedId {
+        flags: 0,
+        server: [0; 16],
+        number: 1,
+        tag: b"",
+    };
+    assert_eq!(rt; tagged_id(&SHORTEST), Some(least));
+    let greatest = TaggedId {
+        flags: 255,
+        server: [255; 16],
+        number: 0x7FFF_FFFF_FFFF_FFFF,
+        tag: b"zzzzzzzzzzzzzzzzzzzzzzzzzzzzzzzz",
+    };
+    assert_eq!(rt; tagged_id(&GREATEST), Some(greatest));
+    let mut written = [0xFF; 25];
+    written[24] = 0x7F;
+    assert_eq!(rt; gtid_body(&GREATEST), written);
+    for (place, byte) in [(5, 0x04), (8, 0x04), (38, 0x04), (41, 0xFF), (50, 0x42)] {
+        check_unread(&rt, &changed(&rt, GREATEST, place, byte));
+    }
+}
+
+#[test]
+fn reads_no_longer_tag(rt: HostRuntime) {
+    let mut longer = [0x7A; 84];
+    longer[..83].copy_from_slice(&GREATEST);
+    longer[1] = 0xA8;
+    assert_eq!(rt;
+        gtid_body(&longer),
+        gtid_body(&GREATEST),
+        "a byte after the tag"
+    );
+    longer[50] = 0x42;
+    check_unread(&rt, &longer);
+}
+
+/// Places in what a server wrote, and bytes there with which it can't be read.
+static UNREAD: [(usize, u8); 14] = [
+    // version 0 and 2; size 56 and 58
+    (0, 0x00),
+    (0, 0x04),
+    (1, 0x70),
+    (1, 0x74),
+    // fields that are missing or out of order
+    (3, 0x02),
+    (5, 0x00),
+    (5, 0x04),
+    (29, 0x02),
+    (29, 0x06),
+    (31, 0x00),
+    (31, 0x04),
+    // numbers -1 and -2
+    (30, 0x02),
+    (30, 0x06),
+    // a tag one byte longer than the rest
+    (32, 0x32),
+];
+
+#[test]
+fn reads_nothing_else(rt: HostRuntime) {
+    for (place, byte) in UNREAD {
+        check_unread(&rt, &changed(&rt, WRITTEN, place, byte));
+    }
+}
+
+/// Places in what a server wrote, bytes there, and the flags, the number and the tag that are read with them.
+static READ: [(usize, u8, u8, u64, &[u8]); 6] = [
+    // another last field to know, other flags, other numbers
+    (2, 0x10, 0, 1, b"tag1"),
+    (4, 0x02, 1, 1, b"tag1"),
+    (30, 0x00, 0, 0, b"tag1"),
+    (30, 0xFC, 0, 63, b"tag1"),
+    // a later field in place of the tag, and an empty tag
+    (31, 0x08, 0, 1, b""),
+    (32, 0x00, 0, 1, b""),
+];
+
+#[test]
+fn reads_each_field(rt: HostRuntime) {
+    for (place, byte, flags, number, tag) in READ {
+        let id = TaggedId {
+            flags,
+            server: SERVER,
+            number,
+            tag,
+        };
+        let body = changed(&rt, WRITTEN, place, byte);
+        assert_eq!(rt; tagged_id(&body), Some(id), "{byte} at {place}");
+    }
+}
+
+/// Integers, the least and the greatest of each length first.
+static INTEGERS: [(&[u8], u64); 23] = [
+    (b"\x00", 0),
+    (b"\xFE", 0x7F),
+    (b"\x01\x02", 0x80),
+    (b"\xFD\xFF", 0x3FFF),
+    (b"\x03\x00\x02", 0x4000),
+    (b"\xFB\xFF\xFF", 0x1F_FFFF),
+    (b"\x07\x00\x00\x02", 0x20_0000),
+    (b"\xF7\xFF\xFF\xFF", 0xFFF_FFFF),
+    (b"\x0F\x00\x00\x00\x02", 0x1000_0000),
+    (b"\xEF\xFF\xFF\xFF\xFF", 0x7_FFFF_FFFF),
+    (b"\x1F\x00\x00\x00\x00\x02", 0x8_0000_0000),
+    (b"\xDF\xFF\xFF\xFF\xFF\xFF", 0x3FF_FFFF_FFFF),
+    (b"\x3F\x00\x00\x00\x00\x00\x02", 0x400_0000_0000),
+    (b"\xBF\xFF\xFF\xFF\xFF\xFF\xFF", 0x1_FFFF_FFFF_FFFF),
+    (b"\x7F\x00\x00\x00\x00\x00\x00\x02", 0x2_0000_0000_0000),
+    (b"\x7F\xFF\xFF\xFF\xFF\xFF\xFF\xFF", 0xFF_FFFF_FFFF_FFFF),
+    (
+        b"\xFF\x00\x00\x00\x00\x00\x00\x00\x01",
+        0x100_0000_0000_0000,
+    ),
+    (
+        b"\xFF\xFF\xFF\xFF\xFF\xFF\xFF\xFF\xFF",
+        0xFFFF_FFFF_FFFF_FFFF,
+    ),
+    // bytes of different values
+    (b"\x75\x02", 0x9D),
+    (b"\x7F\x16\xBD\xBF\x5A\x23\x61\x06", 0x06_6123_5ABF_BD16),
+    (
+        b"\xFF\x01\x02\x03\x04\x05\x06\x07\x08",
+        0x0807_0605_0403_0201,
+    ),
+    // longer than they have to be
+    (b"\x01\x00", 0),
+    (b"\xFF\x01\x00\x00\x00\x00\x00\x00\x00", 1),
+];
+
+#[test]
+fn reads_integers_of_each_length(rt: HostRuntime) {
+    for (bytes, value) in INTEGERS {
+        let mut longer = [0xAB; 10];
+        assert!(rt; bytes.len() <= 9);
+        longer[..bytes.len()].copy_from_slice(bytes);
+        let Some((read, rest)) = integer_front(&longer) else {
+            panic!(rt; "{value} isn't read");
+        };
+        assert_eq!(rt; read, value);
+        assert_eq!(rt; rest, &longer[bytes.len()..], "after {value}");
+        assert_eq!(rt;
+            integer_front(&bytes[..bytes.len() - 1]),
+            None,
+            "{value} without its last byte"
+        );
+    }
+}
