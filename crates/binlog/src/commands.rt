@@ -22,7 +22,7 @@ use std::fs::{File, Metadata};
 use std::io::{Read, Write};
 use std::os::unix::fs::MetadataExt;
 use std::process::ExitCode;
-use std::rt::Files;
+use std::rt::{Env, Files};
 use std::{fs, io};
 
 /// Why the program didn't do what its arguments ask for.
@@ -137,7 +137,7 @@ impl From<SplitFault> for NewLogFault {
 /// begins with the program's name. Where the status isn't 0 the reason is printed to `errors`.
 ///
 /// Memory is taken from `alloc`; the parser of the arguments takes it from the system.
-pub fn command<R: Files + AllocGlobal, A: Allocator + Copy, O: Write, E: Write>(
+pub fn command<R: Files + Env + AllocGlobal, A: Allocator + Copy, O: Write, E: Write>(
     rt: &R,
     alloc: A,
     arguments: io::Result<Vec<String>>,
@@ -184,7 +184,7 @@ fn report<A: Allocator, E: Write>(
     }
 }
 
-fn carry_out<'a, R: Files + AllocGlobal, A: Allocator + Copy, O: Write>(
+fn carry_out<'a, R: Files + Env + AllocGlobal, A: Allocator + Copy, O: Write>(
     rt: &R,
     alloc: A,
     arguments: &'a [String],
@@ -194,7 +194,7 @@ fn carry_out<'a, R: Files + AllocGlobal, A: Allocator + Copy, O: Write>(
     ensures refused { OnErr result (asks_for_list arguments.now ≡ false → has_failed output.new ≡ false → output.new ≡ output.old) }
     ensures begun { IfErr result (λ f. has_failed output.new ≡ false → (output.new ≡ output.old) ⊎ MayFollowList f) }
 {
-    match read_arguments(rt.alloc(), alloc, arguments)? {
+    match read_arguments(rt, alloc, arguments)? {
         Asked::Text(text) => put(output, text.as_bytes()).map_err(NewLogFault::Run)?,
         Asked::NewLog(task) => {
             let mut reader = open_log(rt, task.log)?;
@@ -386,6 +386,7 @@ fn run_list<'a, R: AllocGlobal, A: Allocator + Copy, D: Read, O: Write>(
         alloc,
         log.as_slice(),
         &task.wanted,
+        task.zone.time_zone(),
         task.form,
         output,
     ) {

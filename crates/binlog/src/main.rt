@@ -7,6 +7,7 @@ mod lines;
 mod options;
 #[cfg(test)]
 mod tests;
+mod zones;
 
 use blog_device::Watched;
 use commands::command;

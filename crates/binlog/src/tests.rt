@@ -6,6 +6,7 @@ mod lists;
 mod refused_memory;
 mod result_files;
 mod splits;
+mod zones;
 
 use crate::commands::command;
 use blog_device::Watched;
