@@ -12,6 +12,8 @@ cp "$1" "$work/bin/flashback"
 cp "$2" "$work/bin/binlog"
 version=$3
 PATH=$work/bin:$PATH
+# the examples run where the machine's time zone is UTC
+export TZ=UTC
 failed=0
 
 differs() {

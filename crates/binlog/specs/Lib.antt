@@ -1,3 +1,4 @@
 pub mod Request
 pub mod Status
 pub mod Runs
+pub mod Zones

@@ -11,6 +11,13 @@ use Rattle.console.specs.Positions.{IsPosition, IsPositionOf, IsWrongPosition}
 use Rattle.console.specs.Told.{AsksForText}
 use Rattle.blog_list.specs.declared.listing.Form.{Form}
 use Rattle.blog_list.specs.declared.listing.Form.TheVariants as form
+use Rattle.blog_list.specs.declared.times.Side.{Side}
+use Rattle.blog_list.specs.declared.times.Side.TheVariants.{Start, Stop}
+use Rattle.blog_list.specs.Times.{IsRead as IsReadTime}
+use Rattle.jiff.specs.Types.{TimeZone}
+use Rattle.binlog.specs.Zones.{HasName, IsZoneOf}
+use Rattle.binlog.specs.declared.zones.Zone.{Zone}
+use Rattle.binlog.specs.declared.zones.Zone.TheVariants.{Utc}
 use Rattle.binlog.specs.declared.arguments.Asked.{Asked}
 use Rattle.binlog.specs.declared.arguments.Asked.TheVariants.{Text, NewLog, List as OfList}
 use Rattle.binlog.specs.declared.arguments.ListTask.{ListTask}
@@ -51,10 +58,24 @@ IsSplitTask task found = IsNewLogTask found task × ((size : ℕ) × IsSizeOf (f
 abbrev pub IsNewLogOf : ArgMatches → NewLogTask → Type 0
 IsNewLogOf matches task = IsBehind (codes "plain") matches (IsPlainTask task) ⊎ IsBehind (codes "split") matches (IsSplitTask task)
 
--- the time that an option's value means, and none where it has no value
-abbrev pub IsTimeOf : Option (List ℕ) → Option ℕ → Type 0
-IsTimeOf None time = time ≡ None
-IsTimeOf (Some value) time = IsSome time
+-- the time that an option's value means in a zone, and none where it has no value
+abbrev pub IsTimeOf : TimeZone → Side → Option (List ℕ) → Option ℕ → Type 0
+IsTimeOf zone side None time = time ≡ None
+IsTimeOf zone side (Some value) time = (seconds : ℕ) × (time ≡ Some seconds) × IsReadTime zone side value (Ok seconds)
+
+-- UTC where `--utc` is given, and else the zone that has the name, where one is given
+abbrev pub IsZoneNamed : Bool → Option (List ℕ) → Zone → Type 0
+IsZoneNamed true name zone = zone ≡ Utc
+IsZoneNamed false (Some name) zone = HasName name zone
+IsZoneNamed false None zone = ⊤
+
+abbrev pub IsZoneAsked : Found → Zone → Type 0
+IsZoneAsked found zone = IsZoneNamed (is_given found (codes "utc")) (first_value found (codes "time-zone")) zone
+
+-- the range of times that is asked for, in a zone
+abbrev pub AreTimes : Found → Option ℕ → Option ℕ → TimeZone → Type 0
+AreTimes found from to zone = IsTimeOf zone Start (first_value found (codes "start-datetime")) from
+    × IsTimeOf zone Stop (first_value found (codes "stop-datetime")) to
 
 abbrev pub form_of : Bool → Form
 form_of true = form.Json
@@ -66,8 +87,8 @@ pub record IsListTask (found : Found) (task : ListTask) : Type 0 where
   pub form : task.form ≡ form_of (is_given found (codes "json"))
   pub start : IsPositionOf (first_value found (codes "start-position")) task.wanted.start
   pub stop : IsPositionOf (first_value found (codes "stop-position")) task.wanted.stop
-  pub from_time : IsTimeOf (first_value found (codes "start-datetime")) task.wanted.from_time
-  pub to_time : IsTimeOf (first_value found (codes "stop-datetime")) task.wanted.to_time
+  pub zone : IsZoneAsked found task.zone
+  pub times : (zone : TimeZone) × IsZoneOf task.zone zone × AreTimes found task.wanted.from_time task.wanted.to_time zone
   pub database : option_map (λ name. name.now) task.wanted.database ≡ first_value found (codes "database")
   pub table : option_map (λ name. name.now) task.wanted.table ≡ first_value found (codes "table")
 
@@ -77,16 +98,17 @@ RefusesPosition value (Wrong text) = IsWrongPosition value
 RefusesPosition value NotText = ⊥
 RefusesPosition value OutOfMemory = ⊤
 
--- the same of a time
+-- the same of a time, or of the name of a zone
 abbrev pub RefusesTime : {A : Type 0} → Option (List ℕ) → ArgumentsFault A → Type 0
 RefusesTime value (Wrong text) = IsSome value
 RefusesTime value NotText = ⊥
 RefusesTime value OutOfMemory = ⊤
 
--- a position is wrong, or a time may be
+-- a position is wrong, or a time or the name of a zone may be
 abbrev pub HasWrongValue : Found → Type 0
 HasWrongValue found = IsWrongPosition (first_value found (codes "start-position")) ⊎ IsWrongPosition (first_value found (codes "stop-position"))
     ⊎ IsSome (first_value found (codes "start-datetime")) ⊎ IsSome (first_value found (codes "stop-datetime"))
+    ⊎ IsSome (first_value found (codes "time-zone"))
 
 -- why no list is asked for: that, or memory was refused
 abbrev pub RefusesList : {A : Type 0} → Found → ArgumentsFault A → Type 0

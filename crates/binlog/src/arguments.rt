@@ -3,18 +3,22 @@
 ghost use Rattle.std.specs.Prelude.{◌≡◌, IfErr, IfOk, Ok, codes, true};
 ghost use Rattle.clap.specs.Words.{first_value, found_of};
 ghost use Rattle.console.specs.Positions.{IsPositionOf};
-ghost use Rattle.binlog.specs.Request.{IsNewLogTask, IsListTask, IsSizeOf, IsRead, IsTimeOf, RefusesList, RefusesPosition, RefusesTime, asks_for_list, form_of, is_given, is_list};
+ghost use Rattle.jiff.specs.Words.{plain_zone};
+ghost use Rattle.binlog.specs.Request.{IsNewLogTask, IsListTask, IsSizeOf, IsRead, IsTimeOf, IsZoneAsked, RefusesList, RefusesPosition, RefusesTime, asks_for_list, form_of, is_given, is_list};
 ghost use Rattle.binlog.specs.declared.arguments.ArgumentsFault.TheVariants.{OutOfMemory};
 
 use crate::options::{
     DATABASE, DEFAULT_SIZE, FORCE, JSON, LIST, LOG, PLAIN, RESULT_FILE, SIZE, SPLIT, START,
-    START_TIME, STOP, STOP_TIME, TABLE, all_arguments,
+    START_TIME, STOP, STOP_TIME, TABLE, TIME_ZONE, UTC, all_arguments,
 };
-use blog_list::{Form, Wanted, seconds_of};
+use crate::zones::{Zone, named_zone, system_zone};
+use blog_list::{Form, Side, TimeFault, Wanted, seconds_of};
 use clap::error::ErrorKind;
 use clap::{ArgMatches, Command, Error};
 use console::{POSITION, Told, position_of, read_error, wrong_value};
-use std::alloc::{AllocError, Allocator, Global};
+use jiff::tz::TimeZone;
+use std::alloc::{AllocError, Allocator};
+use std::rt::{Env, Files};
 
 /// What the arguments ask for.
 #[derive(Drop)]
@@ -50,7 +54,7 @@ pub struct NewLogTask<'a> {
 }
 
 /// The list of the units of a log.
-#[derive(Clone, Copy, Debug)]
+#[derive(Drop)]
 pub struct ListTask<'a> {
     /// The path of the log.
     pub log: &'a str,
@@ -58,6 +62,8 @@ pub struct ListTask<'a> {
     pub wanted: Wanted<'a>,
     /// In which form they are listed.
     pub form: Form,
+    /// The time zone of the clock that their times are told by.
+    pub zone: Zone,
 }
 
 /// Why the arguments ask for nothing.
@@ -80,18 +86,18 @@ impl<A: Allocator> From<AllocError> for ArgumentsFault<A> {
 }
 
 /// Answers what the arguments ask for, of which the first is the program's name. A list is asked for by the second one alone.
-/// The parser takes its memory from `global`.
-pub fn read_arguments<'a, A: Allocator + Copy>(
-    global: Global,
+/// The parser takes its memory from the system, and the time zone of a list is read from the system's files.
+pub fn read_arguments<'a, R: Files + Env + AllocGlobal, A: Allocator + Copy>(
+    rt: &R,
     alloc: A,
     arguments: &'a [String],
 ) -> Result<Asked<'a, A>, ArgumentsFault<A>>
     ensures list { IfOk result (λ asked. is_list asked ≡ true → asks_for_list arguments.now ≡ true) }
 {
     let lists = asks_for_list(arguments);
-    let mut command = all_arguments(global)?;
+    let mut command = all_arguments(rt.alloc())?;
     let parsed = command.try_get_matches_from_mut(arguments);
-    read_parsed(alloc, &mut command, parsed, lists)
+    read_parsed(rt, alloc, &mut command, parsed, lists)
 }
 
 /// Whether the argument behind the program's name is `list`.
@@ -105,7 +111,8 @@ fn asks_for_list(arguments: &[String]) -> bool
 }
 
 /// What the parser's answer asks for, which is a list only if one may be asked for.
-fn read_parsed<'a, A: Allocator + Copy>(
+fn read_parsed<'a, R: Files + Env + AllocGlobal, A: Allocator + Copy>(
+    rt: &R,
     alloc: A,
     command: &mut Command<'a>,
     parsed: Result<ArgMatches<'a>, Error>,
@@ -115,7 +122,7 @@ fn read_parsed<'a, A: Allocator + Copy>(
     ensures list { IfOk result (λ asked. is_list asked ≡ true → lists ≡ true) }
 {
     match parsed {
-        Ok(matches) => read_matches(alloc, command, &matches, lists),
+        Ok(matches) => read_matches(rt, alloc, command, &matches, lists),
         Err(error) => match read_error(alloc, &error)? {
             Told::Asked(text) => Ok(Asked::Text(text)),
             Told::Wrong(text) => Err(ArgumentsFault::Wrong(text)),
@@ -124,7 +131,8 @@ fn read_parsed<'a, A: Allocator + Copy>(
 }
 
 /// What is asked for by what the parser found: by the command that is among it, of which a list only if one may be asked for.
-fn read_matches<'a, A: Allocator + Copy>(
+fn read_matches<'a, R: Files + Env + AllocGlobal, A: Allocator + Copy>(
+    rt: &R,
     alloc: A,
     command: &mut Command<'a>,
     matches: &ArgMatches<'a>,
@@ -142,7 +150,7 @@ fn read_matches<'a, A: Allocator + Copy>(
             Ok(Asked::NewLog(read_task(found, Making::Split(size))))
         }
         Some((name, found)) if name == LIST && lists => {
-            Ok(Asked::List(read_list(alloc, command, found)?))
+            Ok(Asked::List(read_list(rt, alloc, command, found)?))
         }
         _ => Err(ArgumentsFault::Wrong(wrong_command(alloc, command)?)),
     }
@@ -185,7 +193,8 @@ fn read_task<'a>(found: &ArgMatches<'a>, making: Making) -> NewLogTask<'a>
     }
 }
 
-fn read_list<'a, A: Allocator + Copy>(
+fn read_list<'a, R: Files + Env + AllocGlobal, A: Allocator + Copy>(
+    rt: &R,
     alloc: A,
     command: &mut Command<'a>,
     found: &ArgMatches<'a>,
@@ -193,11 +202,13 @@ fn read_list<'a, A: Allocator + Copy>(
     ensures asked { IfOk result (IsListTask (found_of found.now)) }
     ensures refused { IfErr result (RefusesList (found_of found.now)) }
 {
+    let zone = read_zone(rt, alloc, command, found)?;
+    let clock = zone.time_zone();
     let wanted = Wanted {
         start: read_number(alloc, command, found, START, "POS", POSITION)?,
         stop: read_number(alloc, command, found, STOP, "POS", POSITION)?,
-        from_time: read_time(alloc, command, found, START_TIME)?,
-        to_time: read_time(alloc, command, found, STOP_TIME)?,
+        from_time: read_time(alloc, command, found, START_TIME, clock, Side::Start)?,
+        to_time: read_time(alloc, command, found, STOP_TIME, clock, Side::Stop)?,
         database: found.get_str(DATABASE).map(str::as_bytes),
         table: found.get_str(TABLE).map(str::as_bytes),
     };
@@ -206,6 +217,7 @@ fn read_list<'a, A: Allocator + Copy>(
         log: found.get_str(LOG).unwrap_or(""),
         wanted,
         form: read_form(found),
+        zone,
     })
 }
 
@@ -246,8 +258,41 @@ fn read_number<'a, A: Allocator + Copy>(
     Err(ArgumentsFault::Wrong(told))
 }
 
+/// What a time zone is, as it is told of a name that is none.
+const ZONE: &str =
+    "a time zone that this machine has a file of: give an IANA name such as Europe/Berlin, or install tzdata";
+
+/// The time zone that is asked for: UTC, that of a name, or else the machine's.
+fn read_zone<'a, R: Files + Env + AllocGlobal, A: Allocator + Copy>(
+    rt: &R,
+    alloc: A,
+    command: &mut Command<'a>,
+    found: &ArgMatches<'a>,
+) -> Result<Zone, ArgumentsFault<A>>
+    ensures zone { IfOk result (IsZoneAsked (found_of found.now)) }
+    ensures wrong { IfErr result (RefusesTime (first_value (found_of found.now) (codes "time-zone"))) }
+{
+    if found.get_one::<bool>(UTC).unwrap_or(false) {
+        return Ok(Zone::Utc);
+    }
+    let Some(name) = found.get_str(TIME_ZONE) else {
+        return Ok(system_zone(rt)?);
+    };
+    if let Some(zone) = named_zone(rt, name)? {
+        return Ok(zone);
+    }
+    let option = format!(in alloc; "{TIME_ZONE} <NAME>")?;
+    let told = wrong_value(alloc, command, option.as_str(), name, ZONE)?;
+    Err(ArgumentsFault::Wrong(told))
+}
+
 /// What a time is, as it is told of a value that is none.
-const TIME: &str = "a time: YYYY-MM-DD hh:mm:ss, 1970-01-01 00:00:00 to 2106-02-07 06:28:15";
+const TIME: &str =
+    "a time: YYYY-MM-DD hh:mm:ss, in UTC from 1970-01-01 00:00:00 to 2106-02-07 06:28:15";
+
+/// The same of a time that a clock never shows.
+const SHOWN_TIME: &str =
+    "a time in this time zone: its clock is put forward past it: give one before or after that";
 
 /// The time that this option has, where it is there, in seconds since 1970 in UTC.
 fn read_time<'a, A: Allocator + Copy>(
@@ -255,17 +300,21 @@ fn read_time<'a, A: Allocator + Copy>(
     command: &mut Command<'a>,
     found: &ArgMatches<'a>,
     name: &str,
+    zone: TimeZone<'_>,
+    side: Side,
 ) -> Result<Option<u32>, ArgumentsFault<A>>
-    ensures found { IfOk result (IsTimeOf (first_value (found_of found.now) name.now)) }
+    ensures found { IfOk result (IsTimeOf (plain_zone zone.entry) side (first_value (found_of found.now) name.now)) }
     ensures wrong { IfErr result (RefusesTime (first_value (found_of found.now) name.now)) }
 {
     let Some(text) = found.get_str(name) else {
         return Ok(None);
     };
-    if let Some(seconds) = seconds_of(text) {
-        return Ok(Some(seconds));
-    }
+    let has_to_be = match seconds_of(text, zone, side) {
+        Ok(seconds) => return Ok(Some(seconds)),
+        Err(TimeFault::NotATime) => TIME,
+        Err(TimeFault::Skipped) => SHOWN_TIME,
+    };
     let option = format!(in alloc; "{name} <TIME>")?;
-    let told = wrong_value(alloc, command, option.as_str(), text, TIME)?;
+    let told = wrong_value(alloc, command, option.as_str(), text, has_to_be)?;
     Err(ArgumentsFault::Wrong(told))
 }

@@ -23,7 +23,7 @@ use std::alloc::Allocator;
 use std::io;
 use std::io::{Read, Write};
 use std::process::ExitCode;
-use std::rt::Files;
+use std::rt::{Env, Files};
 
 /// What the program knows of its own process.
 #[derive(Clone, Copy, Debug)]
@@ -152,7 +152,7 @@ impl From<SplitFault> for NewLogFault {
 /// begins with the program's name. Where the status isn't 0 the reason is printed to `errors`.
 ///
 /// Memory is taken from `alloc`; the parser of the arguments takes it from the system.
-pub fn command<R: Files + AllocGlobal, A: Allocator + Copy, O: Write, E: Write>(
+pub fn command<R: Files + Env + AllocGlobal, A: Allocator + Copy, O: Write, E: Write>(
     rt: &R,
     alloc: A,
     process: Process,
@@ -200,7 +200,7 @@ fn report<A: Allocator, E: Write>(
     }
 }
 
-fn carry_out<'a, R: Files + AllocGlobal, A: Allocator + Copy, O: Write>(
+fn carry_out<'a, R: Files + Env + AllocGlobal, A: Allocator + Copy, O: Write>(
     rt: &R,
     alloc: A,
     process: Process,
@@ -211,7 +211,7 @@ fn carry_out<'a, R: Files + AllocGlobal, A: Allocator + Copy, O: Write>(
     ensures refused { OnErr result (asks_for_list arguments.now ≡ false → has_failed output.new ≡ false → output.new ≡ output.old) }
     ensures begun { IfErr result (λ f. has_failed output.new ≡ false → (output.new ≡ output.old) ⊎ MayFollowList f) }
 {
-    match read_arguments(rt.alloc(), alloc, arguments)? {
+    match read_arguments(rt, alloc, arguments)? {
         Asked::Text(text) => put(output, text.as_bytes()).map_err(NewLogFault::Run)?,
         Asked::NewLog(task) => {
             check_output(process, &task)?;
@@ -370,6 +370,7 @@ fn run_list<'a, R: AllocGlobal, A: Allocator + Copy, D: Read, O: Write>(
         alloc,
         log.as_slice(),
         &task.wanted,
+        task.zone.time_zone(),
         task.form,
         output,
     ) {

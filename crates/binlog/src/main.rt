@@ -8,6 +8,7 @@ mod log_file;
 mod options;
 #[cfg(test)]
 mod tests;
+mod zones;
 
 use blog_device::Watched;
 use commands::{Process, command};

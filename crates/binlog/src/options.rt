@@ -22,6 +22,10 @@ pub const STOP: &str = "stop-position";
 pub const START_TIME: &str = "start-datetime";
 /// The name of `--stop-datetime`.
 pub const STOP_TIME: &str = "stop-datetime";
+/// The name of `--utc`.
+pub const UTC: &str = "utc";
+/// The name of `--time-zone`.
+pub const TIME_ZONE: &str = "time-zone";
 /// The name of `--size`.
 pub const SIZE: &str = "size";
 /// The name of `--json`.
@@ -42,7 +46,8 @@ Prepares MySQL binary logs for flashback, lists what can be undone of them, and 
 const USAGE: &str = "\
 binlog plain [-r FILE [--force]] LOG
        binlog list [-d NAME] [-T NAME] [-j POS] [--stop-position POS]
-                   [--start-datetime TIME] [--stop-datetime TIME] [--json] LOG
+                   [--start-datetime TIME] [--stop-datetime TIME]
+                   [--utc | --time-zone NAME] [--json] LOG
        binlog split [--size BYTES] [-r FILE [--force]] LOG";
 
 const AFTER_HELP: &str = "\
@@ -85,18 +90,21 @@ Exit status: 0 done, 1 the log is refused or something failed, 2 the arguments a
 
 const LIST_ABOUT: &str = "\
 Lists the units of LOG: its transactions, and what stands between them and can't be undone.
-A line says where a unit starts and stops, its time in UTC, its GTID if it has one, and how many
-rows of each table it changes, or why it can't be undone. The last line counts units, those that
+A line says where a unit starts and stops, its local time, its GTID if it has one, and how many
+rows of each table it changes, or why it can't be undone. The heading names the time zone. The last line counts units, those that
 can't be undone, and the rows of the others.
 LOG has no checksums. flashback -B -j START --stop-position STOP undoes a unit, or more of them in a row.";
 
 const LIST_USAGE: &str = "\
 binlog list [-d NAME] [-T NAME] [-j POS] [--stop-position POS] [--start-datetime TIME]
-                   [--stop-datetime TIME] [--json] LOG";
+                   [--stop-datetime TIME] [--utc | --time-zone NAME] [--json] LOG";
 
 const LIST_AFTER_HELP: &str = "\
 Positions are bytes from the start of the file, decimal, 0 to 4294967295.
-Times are in UTC, whatever the time zone of the server or of this machine.
+Times, printed and given, are local: those of this machine's time zone, which is TZ or that of
+/etc/localtime; or of the one that you give by --utc or --time-zone. If this machine's zone isn't
+found, they are in UTC. When clocks are set back, they show an hour twice: a TIME in it is the
+earlier one for --start-datetime, and the later one for --stop-datetime.
 Names are compared byte by byte. With -d or -T units that can't be undone are listed too,
 since what they change isn't known.
 
@@ -114,6 +122,10 @@ Examples:
       those of this time or later
   binlog list --stop-datetime '2026-11-21 02:03:00' plain.000042
       those before this time
+  binlog list --utc plain.000042
+      times in UTC
+  binlog list --time-zone Europe/Berlin plain.000042
+      times in Berlin
   binlog list --json plain.000042
       an object of JSON for each, on a line of its own, and one for the totals
 
@@ -214,12 +226,18 @@ fn list_arguments<'a>(alloc: Global) -> Result<Command<'a>, AllocError> {
     let table = option(alloc, TABLE, "NAME").help(
         "Only the units that change a table of this name",
     );
+    let utc = flag(alloc, UTC).help("Read and print times in UTC");
+    let zone = option(alloc, TIME_ZONE, "NAME").help(
+        "Read and print times in this time zone, such as Europe/Berlin",
+    );
     let json = flag(alloc, JSON).help("Write JSON, an object a line");
     let log = Arg::new(alloc, LOG).help("The binary log, a file without checksums");
     range_arguments(
         alloc,
         command.arg(database.short('d'))?.arg(table.short('T'))?,
     )?
+    .arg(utc)?
+    .arg(zone.conflicts_with(UTC)?)?
     .arg(json)?
     .arg(log.required(true))
 }
@@ -229,10 +247,10 @@ fn range_arguments<'a>(alloc: Global, command: Command<'a>) -> Result<Command<'a
     let start = option(alloc, START, "POS").help("Only the units that start at POS or behind it");
     let stop = option(alloc, STOP, "POS").help("Only the units that start before POS");
     let from = option(alloc, START_TIME, "TIME").help(
-        "Only the units of TIME or later: YYYY-MM-DD hh:mm:ss, in UTC",
+        "Only the units of TIME or later: YYYY-MM-DD hh:mm:ss",
     );
     let to = option(alloc, STOP_TIME, "TIME").help(
-        "Only the units before TIME: YYYY-MM-DD hh:mm:ss, in UTC",
+        "Only the units before TIME: YYYY-MM-DD hh:mm:ss",
     );
     command.arg(start.short('j'))?.arg(stop)?.arg(from)?.arg(to)
 }

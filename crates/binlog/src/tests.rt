@@ -8,6 +8,7 @@ mod refused_memory;
 mod result_files;
 mod splits;
 mod terminals;
+mod zones;
 
 use crate::commands::{Process, command};
 use blog_device::Watched;

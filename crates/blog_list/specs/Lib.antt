@@ -1,2 +1,4 @@
+pub mod Columns
 pub mod Lists
+pub mod Times
 pub mod code

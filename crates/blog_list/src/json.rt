@@ -2,12 +2,13 @@
 
 use crate::beginning::{Beginning, statement_of};
 use crate::lines::Id;
-use crate::times::Seconds;
+use crate::times::rfc_3339_text;
 use crate::totals::Totals;
 use blog_event::Log;
 use blog_trans::TableCount;
 use blog_units::Unit;
 use bstr::ByteSlice;
+use jiff::tz::TimeZone;
 use serde::Serialize;
 use std::alloc::{AllocError, Allocator, Global};
 
@@ -33,6 +34,7 @@ struct UnitLine {
     start: u32,
     stop: u32,
     time: String,
+    timestamp: u32,
     gtid: Option<String>,
     #[serde(skip_serializing_if = "Option::is_none")]
     tables: Option<Vec<TableLine>>,
@@ -55,6 +57,7 @@ struct TotalsLine {
 pub(crate) fn put_unit<A: Allocator + Copy, B: Allocator>(
     global: Global,
     out: &mut Vec<u8, A>,
+    zone: TimeZone<'_>,
     log: &Log<'_>,
     unit: &Unit<'_, B>,
 ) -> Result<(), AllocError> {
@@ -65,7 +68,8 @@ pub(crate) fn put_unit<A: Allocator + Copy, B: Allocator>(
     let mut line = UnitLine {
         start: unit.start,
         stop: unit.stop,
-        time: format!(in global; "{}", Seconds(unit.time))?,
+        time: String::from_str(global, rfc_3339_text(zone, unit.time).as_str())?,
+        timestamp: unit.time,
         gtid,
         tables: None,
         fault: None,

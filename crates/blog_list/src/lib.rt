@@ -3,6 +3,7 @@
 #![tactic(auto)]
 
 mod beginning;
+mod column;
 mod json;
 mod lines;
 mod listing;
@@ -11,5 +12,5 @@ mod totals;
 mod wanted;
 
 pub use listing::{Form, list};
-pub use times::seconds_of;
+pub use times::{Side, TimeFault, rfc_3339_text, seconds_of, time_text};
 pub use wanted::Wanted;

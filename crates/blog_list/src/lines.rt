@@ -1,7 +1,7 @@
 //! Units as lines of text.
 
 use crate::beginning::{Beginning, statement_of};
-use crate::times::Seconds;
+use crate::column::TimeColumn;
 use crate::totals::Totals;
 use blog_event::{Fault, Log};
 use blog_flash::put_table;
@@ -13,8 +13,8 @@ use std::fmt;
 /// How many columns of a statement's text are printed.
 const TEXT_COLUMNS: usize = 60;
 
-/// The line above all others.
-const HEADER: &str = "     start       stop  time (UTC)           rows\n";
+/// The headings in front of the times.
+const POSITIONS: &str = "     start       stop  ";
 
 /// A global transaction id, as MySQL prints it.
 #[derive(Clone, Copy, Debug)]
@@ -35,24 +35,27 @@ impl<'i> fmt::Display for Id<'i> {
 }
 
 /// Appends the line above all others.
-pub(crate) fn put_header<A: Allocator>(out: &mut Vec<u8, A>) -> Result<(), AllocError> {
-    out.extend_from_slice(HEADER.as_bytes())
+pub(crate) fn put_header<A: Allocator + Copy>(
+    out: &mut Vec<u8, A>,
+    times: &TimeColumn<'_, A>,
+) -> Result<(), AllocError> {
+    out.extend_from_slice(POSITIONS.as_bytes())?;
+    times.put_heading(out)?;
+    out.extend_from_slice(b"  rows\n")
 }
 
 /// Appends the line of a unit.
 pub(crate) fn put_unit<A: Allocator + Copy>(
     out: &mut Vec<u8, A>,
+    times: &TimeColumn<'_, A>,
     log: &Log<'_>,
     unit: &Unit<'_, A>,
 ) -> Result<(), AllocError> {
     let alloc = *out.allocator();
-    let front = format!(in alloc;
-        "{:>10} {:>10}  {}  ",
-        unit.start,
-        unit.stop,
-        Seconds(unit.time)
-    )?;
+    let front = format!(in alloc; "{:>10} {:>10}  ", unit.start, unit.stop)?;
     out.extend_from_slice(front.as_bytes())?;
+    times.put_time(out, unit.time)?;
+    out.extend_from_slice(b"  ")?;
     if let Some(id) = unit.id {
         let id = format!(in alloc; "{}  ", Id(id))?;
         out.extend_from_slice(id.as_bytes())?;

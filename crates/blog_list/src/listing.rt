@@ -7,12 +7,14 @@ ghost use Rattle.blog_device.specs.Devices.{is_write_fault};
 ghost use Rattle.blog_device.specs.Watched.{has_failed};
 ghost use Rattle.blog_list.specs.Lists.{Lists};
 
+use crate::column::TimeColumn;
 use crate::totals::Totals;
 use crate::wanted::{Wanted, is_before};
 use crate::{json, lines};
 use blog_device::{RunFault, Watched, put, put_part};
 use blog_event::{Fault, Log};
 use blog_units::{Unit, Units};
+use jiff::tz::TimeZone;
 use std::alloc::{AllocError, Allocator, Global};
 use std::io::Write;
 
@@ -29,7 +31,7 @@ pub enum Form {
 const CHUNK_LEN: usize = 1 << 16;
 
 /// Lists the wanted units of a log: a line for each, and a last line that counts them. They are written while they are found,
-/// by some 64 KB at once.
+/// by some 64 KB at once. Times are those of a clock in `zone`.
 ///
 /// Answers why the log ends too early, where it does: `CutEvent` where it ends inside an event, `Unended` at its end where it
 /// ends inside a transaction. Where units stop being wanted at a position, what begins there or behind it is neither listed nor
@@ -42,6 +44,7 @@ pub fn list<A: Allocator + Copy, O: Write>(
     alloc: A,
     bytes: &[u8],
     wanted: &Wanted<'_>,
+    zone: TimeZone<'_>,
     form: Form,
     writer: &mut Watched<O>,
 ) -> Result<Option<Fault>, RunFault>
@@ -53,7 +56,7 @@ pub fn list<A: Allocator + Copy, O: Write>(
         Ok(log) => log,
         Err(fault) => return Err(RunFault::Log(fault)),
     };
-    list_units(global, alloc, &log, wanted, form, writer)
+    list_units(global, alloc, &log, wanted, zone, form, writer)
 }
 
 /// The same of a log that is opened.
@@ -62,6 +65,7 @@ fn list_units<A: Allocator + Copy, O: Write>(
     alloc: A,
     log: &Log<'_>,
     wanted: &Wanted<'_>,
+    zone: TimeZone<'_>,
     form: Form,
     writer: &mut Watched<O>,
 ) -> Result<Option<Fault>, RunFault>
@@ -70,7 +74,8 @@ fn list_units<A: Allocator + Copy, O: Write>(
 {
     let mut text = Vec::new(alloc);
     let mut totals = Totals::NONE;
-    put_header(&mut text, form)?;
+    let times = TimeColumn::new(alloc, zone)?;
+    put_header(&mut text, &times, form)?;
     let mut behind = log.first();
     let mut whole = true;
     for unit in Units::new(alloc, log) {
@@ -85,7 +90,7 @@ fn list_units<A: Allocator + Copy, O: Write>(
         whole = unit.whole;
         if wanted.has(&unit) {
             totals.add(&unit);
-            put_unit(global, &mut text, log, &unit, form)?;
+            put_unit(global, &mut text, &times, log, &unit, form)?;
             write_full(&mut text, writer)?;
         }
     }
@@ -94,9 +99,13 @@ fn list_units<A: Allocator + Copy, O: Write>(
 }
 
 /// Appends the line above all others, where the form has one.
-fn put_header<A: Allocator>(out: &mut Vec<u8, A>, form: Form) -> Result<(), AllocError> {
+fn put_header<A: Allocator + Copy>(
+    out: &mut Vec<u8, A>,
+    times: &TimeColumn<'_, A>,
+    form: Form,
+) -> Result<(), AllocError> {
     match form {
-        Form::Text => lines::put_header(out),
+        Form::Text => lines::put_header(out, times),
         Form::Json => Ok(()),
     }
 }
@@ -105,13 +114,14 @@ fn put_header<A: Allocator>(out: &mut Vec<u8, A>, form: Form) -> Result<(), Allo
 fn put_unit<A: Allocator + Copy>(
     global: Global,
     out: &mut Vec<u8, A>,
+    times: &TimeColumn<'_, A>,
     log: &Log<'_>,
     unit: &Unit<'_, A>,
     form: Form,
 ) -> Result<(), AllocError> {
     match form {
-        Form::Text => lines::put_unit(out, log, unit),
-        Form::Json => json::put_unit(global, out, log, unit),
+        Form::Text => lines::put_unit(out, times, log, unit),
+        Form::Json => json::put_unit(global, out, times.zone(), log, unit),
     }
 }
 

@@ -8,4 +8,8 @@ mod parts;
 #[cfg(test)]
 mod range_tests;
 #[cfg(test)]
+mod time_tests;
+#[cfg(test)]
 mod walk_tests;
+#[cfg(test)]
+mod zones;

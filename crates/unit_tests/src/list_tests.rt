@@ -3,7 +3,8 @@
 use crate::parts::{MAP, ONE, PAYLOAD, ROLLBACK};
 use blog_device::Watched;
 use blog_event::Fault;
-use blog_list::{Form, Wanted, list, seconds_of};
+use blog_list::{Form, Wanted, list};
+use jiff::tz::TimeZone;
 use sample_logs::builder::{
     BEGIN, DROP_TABLE, GTID, PREVIOUS_GTIDS, Part, ROTATE, XID, build, map_of,
 };
@@ -38,6 +39,7 @@ fn check(
         rt.alloc(),
         bytes,
         wanted,
+        TimeZone::UTC,
         Form::Text,
         &mut output,
     );
@@ -74,31 +76,12 @@ fn check_json(
         rt.alloc(),
         bytes,
         wanted,
+        TimeZone::UTC,
         Form::Json,
         &mut output,
     );
     assert_eq!(rt; answer, Ok(None));
     assert_eq!(rt; str::from_utf8(output.device().as_slice())?, lines);
-    Ok(())
-}
-
-#[test]
-fn times_are_read(rt: HostRuntime) -> Result<(), Fail> {
-    assert_eq!(rt; seconds_of("2026-11-23 10:53:06"), Some(1_795_431_186));
-    assert_eq!(rt; seconds_of("1970-01-01 00:00:00"), Some(0));
-    assert_eq!(rt; seconds_of("2106-02-07 06:28:15"), Some(u32::MAX));
-    for text in [
-        "2106-02-07 06:28:16",
-        "1969-12-31 23:59:59",
-        "2026-02-29 00:00:00",
-        "2026-11-23",
-        "2026-11-23T10:53:06",
-        "20261123 1053+02:00",
-        "yesterday",
-        "",
-    ] {
-        assert_eq!(rt; seconds_of(text), None, "{text}");
-    }
     Ok(())
 }
 
@@ -190,10 +173,10 @@ fn options_choose_units(rt: HostRuntime) -> Result<(), Fail> {
     let stop = Some(943);
     let last = "units 3, not undoable 1, rows 2\n";
     check_shop(&rt, &Wanted { stop, ..all }, &[0, 1, 2], last)?;
-    let from_time = seconds_of("2026-11-21 03:05:00");
+    let from_time = Some(1_795_230_300);
     let last = "units 2, not undoable 1, rows 2\n";
     check_shop(&rt, &Wanted { from_time, ..all }, &[5, 6], last)?;
-    let to_time = seconds_of("2026-11-21 03:01:00");
+    let to_time = Some(1_795_230_060);
     let last = "units 1, not undoable 0, rows 1\n";
     check_shop(&rt, &Wanted { to_time, ..all }, &[0], last)
 }
@@ -206,14 +189,14 @@ fn json_has_an_object_a_line(rt: HostRuntime) -> Result<(), Fail> {
         ..ALL
     };
     let lines =
-        "{\"start\":1294,\"stop\":1474,\"time\":\"2026-11-21 03:04:00\",\"gtid\":\"283c105d-e730-11f1-97ff-02fc00000001:12\",\"fault\":\"Statement\",\"position\":1367,\"statement\":\"create table t2 (a int)\"}
-{\"start\":1474,\"stop\":1760,\"time\":\"2026-11-21 03:05:00\",\"gtid\":\"283c105d-e730-11f1-97ff-02fc00000001:13\",\"tables\":[{\"schema\":\"shop\",\"table\":\"items\",\"inserts\":0,\"updates\":0,\"deletes\":2}]}
+        "{\"start\":1294,\"stop\":1474,\"time\":\"2026-11-21T03:04:00+00:00\",\"timestamp\":1795230240,\"gtid\":\"283c105d-e730-11f1-97ff-02fc00000001:12\",\"fault\":\"Statement\",\"position\":1367,\"statement\":\"create table t2 (a int)\"}
+{\"start\":1474,\"stop\":1760,\"time\":\"2026-11-21T03:05:00+00:00\",\"timestamp\":1795230300,\"gtid\":\"283c105d-e730-11f1-97ff-02fc00000001:13\",\"tables\":[{\"schema\":\"shop\",\"table\":\"items\",\"inserts\":0,\"updates\":0,\"deletes\":2}]}
 {\"units\":2,\"not_undoable\":1,\"rows\":2}
 ";
     check_json(&rt, &IN_USE_PLAIN, &wanted, lines)?;
     let bytes = build(&rt, &[BEGIN, map_of(1, b"\xff\""), ONE, XID])?;
     let lines =
-        "{\"start\":120,\"stop\":260,\"time\":\"1970-01-01 00:00:00\",\"gtid\":null,\"tables\":[{\"schema\":\"d\",\"table\":\"\u{FFFD}\\\"\",\"table_hex\":\"FF22\",\"inserts\":1,\"updates\":0,\"deletes\":0}]}
+        "{\"start\":120,\"stop\":260,\"time\":\"1970-01-01T00:00:00+00:00\",\"timestamp\":0,\"gtid\":null,\"tables\":[{\"schema\":\"d\",\"table\":\"\u{FFFD}\\\"\",\"table_hex\":\"FF22\",\"inserts\":1,\"updates\":0,\"deletes\":0}]}
 {\"units\":1,\"not_undoable\":0,\"rows\":1}
 ";
     check_json(&rt, &bytes, &ALL, lines)

@@ -11,7 +11,8 @@ const USAGE: &str = "
 
 Usage: binlog plain [-r FILE [--force]] LOG
        binlog list [-d NAME] [-T NAME] [-j POS] [--stop-position POS]
-                   [--start-datetime TIME] [--stop-datetime TIME] [--json] LOG
+                   [--start-datetime TIME] [--stop-datetime TIME]
+                   [--utc | --time-zone NAME] [--json] LOG
        binlog split [--size BYTES] [-r FILE [--force]] LOG
 
 For more information, try '--help'.

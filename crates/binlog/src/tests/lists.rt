@@ -32,32 +32,46 @@ fn units_are_listed(rt: HostRuntime) -> Result<(), Fail> {
     let all = [INSERT, DROP, "units 2, not undoable 1, rows 1\n"];
     let insert = [INSERT, "units 1, not undoable 0, rows 1\n"];
     let drop = [DROP, "units 1, not undoable 1, rows 0\n"];
-    lists(&rt, &["list"], &all)?;
-    lists(&rt, &["list", "-d", "d", "-T", "t"], &all)?;
-    lists(&rt, &["list", "--database", "d", "--table", "u"], &drop)?;
-    lists(&rt, &["list", "-j", "121"], &drop)?;
-    lists(&rt, &["list", "--start-position", "120"], &all)?;
-    lists(&rt, &["list", "--stop-position", "259"], &insert)?;
+    lists(&rt, &["list", "--utc"], &all)?;
+    lists(&rt, &["list", "--utc", "-d", "d", "-T", "t"], &all)?;
     lists(
         &rt,
-        &["list", "--start-datetime", "1970-01-01 00:00:00"],
+        &["list", "--utc", "--database", "d", "--table", "u"],
+        &drop,
+    )?;
+    lists(&rt, &["list", "--utc", "-j", "121"], &drop)?;
+    lists(&rt, &["list", "--utc", "--start-position", "120"], &all)?;
+    lists(&rt, &["list", "--utc", "--stop-position", "259"], &insert)?;
+    lists(
+        &rt,
+        &["list", "--utc", "--start-datetime", "1970-01-01 00:00:00"],
         &all,
     )?;
     let last = ["units 0, not undoable 0, rows 0\n"];
     lists(
         &rt,
-        &["list", "--stop-datetime", "1970-01-01 00:00:00"],
+        &["list", "--utc", "--stop-datetime", "1970-01-01 00:00:00"],
         &last,
     )
 }
 
 #[test]
+fn a_time_zone_is_asked_for(rt: HostRuntime) -> Result<(), Fail> {
+    let all = [INSERT, DROP, "units 2, not undoable 1, rows 1\n"];
+    lists(&rt, &["list", "--time-zone", "UTC"], &all)?;
+    let arguments = ["list", "--utc", "--time-zone", "UTC", "a"];
+    let line = "error: the argument '--utc' cannot be used with '--time-zone <NAME>'\n";
+    assert!(rt; run_arguments(&rt, &arguments)?.begins_refusal(2, line));
+    Ok(())
+}
+
+#[test]
 fn units_are_listed_as_json(rt: HostRuntime) -> Result<(), Fail> {
     let text =
-        b"{\"start\":259,\"stop\":305,\"time\":\"1970-01-01 00:00:00\",\"gtid\":null,\"fault\":\"Statement\",\"position\":259,\"statement\":\"DROP TABLE t\"}
+        b"{\"start\":259,\"stop\":305,\"time\":\"1970-01-01T00:00:00+00:00\",\"timestamp\":0,\"gtid\":null,\"fault\":\"Statement\",\"position\":259,\"statement\":\"DROP TABLE t\"}
 {\"units\":1,\"not_undoable\":1,\"rows\":0}
 ";
-    let arguments = ["list", "--json", "-j", "121"];
+    let arguments = ["list", "--utc", "--json", "-j", "121"];
     let log = insert_and_drop(&rt)?;
     let outcome = run_log(&rt, "json", log.as_slice(), arguments.as_slice())?;
     assert!(rt; outcome.is_done(text.as_slice()));
@@ -77,7 +91,7 @@ fn has_listed(outcome: &Outcome, line: &str) -> bool {
 fn a_log_that_ends_early_is_listed_and_told(rt: HostRuntime) -> Result<(), Fail> {
     let log = insert_and_drop(&rt)?;
     let cut = log.get(..304).ok_or("a short log")?;
-    let outcome = run_log(&rt, "cut", cut, &["list"])?;
+    let outcome = run_log(&rt, "cut", cut, &["list", "--utc"])?;
     assert!(rt;
         has_listed(
             &outcome,
@@ -132,6 +146,14 @@ fn wrong_values_end_in_two(rt: HostRuntime) -> Result<(), Fail> {
             "error: invalid value '4294967296' for '--stop-position <POS>': not a position: ",
         ),
         (["list", "--force", "-j", "4"], "error: "),
+        (
+            ["list", "--time-zone", "Nonsense/Zone", "a"],
+            "error: invalid value 'Nonsense/Zone' for '--time-zone <NAME>': not a time zone that this machine has a file of: ",
+        ),
+        (
+            ["list", "--time-zone", "../zoneinfo/UTC", "a"],
+            "error: invalid value '../zoneinfo/UTC' for '--time-zone <NAME>': not a time zone ",
+        ),
     ];
     for (arguments, line) in cases {
         let outcome = run_arguments(&rt, arguments.as_slice())?;

@@ -92,11 +92,11 @@ fn want_of_memory_leaves_nothing(rt: HostRuntime) -> Result<(), Fail> {
 fn want_of_memory_lists_nothing(rt: HostRuntime) -> Result<(), Fail> {
     let log = path_of(&rt, "unlisted-log")?;
     fs::write(&rt, log.as_path(), insert_and_drop(&rt)?.as_slice())?;
-    let arguments = ["list", log.as_str()];
+    let arguments = ["list", "--utc", log.as_str()];
     let (outcome, refused) = refuse_in_turn(&rt, arguments.as_slice(), "")?;
     assert!(rt; outcome.errors().is_empty());
     assert!(rt; refused >= 5, "{refused}");
-    let arguments = ["list", "--json", log.as_str()];
+    let arguments = ["list", "--utc", "--json", log.as_str()];
     let (outcome, refused) = refuse_in_turn(&rt, arguments.as_slice(), "")?;
     assert!(rt; outcome.errors().is_empty());
     assert!(rt; refused >= 5, "{refused}");
