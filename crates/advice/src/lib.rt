@@ -116,3 +116,12 @@ pub fn of_sums(fault: &SumFault) -> &'static str {
         SumFault::OutOfMemory => OUT_OF_MEMORY,
     }
 }
+
+/// Returns what to do about a log whose reading ended with this fault.
+pub fn of_reading(fault: &SumFault) -> &'static str {
+    match fault {
+        SumFault::Log(fault) => of_end(fault),
+        SumFault::UnknownAlgorithm { .. } | SumFault::WrongSum { .. } | SumFault::OutOfMemory =>
+            of_sums(fault),
+    }
+}

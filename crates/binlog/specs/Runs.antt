@@ -11,10 +11,13 @@ use Rattle.blog_sum.specs.declared.fault.SumFault.{SumFault}
 use Rattle.blog_sum.specs.declared.fault.SumFault.TheVariants.{OutOfMemory}
 use Rattle.blog_sum.specs.Sums.{sum_fault}
 use Rattle.blog_sum.specs.Plain.{plain_of}
+use Rattle.blog_source.specs.declared.reading.Reading.{Reading}
+use Rattle.blog_source.specs.Found.{source_refusal}
+use Rattle.blog_source.specs.Handed.{handed_log}
 use Rattle.blog_event.specs.Opening.{opening_fault}
 use Rattle.binlog.specs.Request.{asks_for_list}
 use Rattle.binlog.specs.declared.commands.Failure.{Failure}
-use Rattle.binlog.specs.declared.commands.Failure.TheVariants.{NewLog as NoNewLog, List as NoList, EndsEarly}
+use Rattle.binlog.specs.declared.commands.Failure.TheVariants.{NewLog as NoNewLog, List as NoList, EndsEarly, Unread}
 use Rattle.binlog.specs.declared.commands.NewLogFault.{NewLogFault}
 use Rattle.binlog.specs.declared.commands.NewLogFault.TheVariants.{Run, Sums, Split as Cut}
 use Rattle.binlog.specs.declared.arguments.Making.{Making}
@@ -97,13 +100,22 @@ abbrev pub may_list : {A B E : Type 0} → Result (Vec (String A) B) E → Bool
 may_list (Ok arguments) = asks_for_list arguments.items
 may_list (Err error) = false
 
--- what comes of reading a log for its list: it was read; or it can't be held or be opened, or a read or a write failed
+-- a log is read to its end
+abbrev pub whole : Reading
+whole = record { stop = None; skip_damaged = false }
+
+-- what comes of reading a log for its list: its front was read; or it can't be held, what is handed out for it can't be opened,
+-- or a read or a write failed
 abbrev pub WritesList : {X : Type 0} → Option (List ℕ) → Option (List ℕ) → Result X RunFault → Type 0
-WritesList old new (Ok end) = (log : List ℕ) × ReadsLog old new log × (opening_fault log ≡ None)
+WritesList old new (Ok end) = (log : List ℕ) × ReadsLog old new log × (source_refusal log ≡ None)
 WritesList old new (Err (Log fault)) = (fault ≡ NoMemory) ⊎ ((fault ≡ TooLong 0) × PassesLimit greatest_length old new)
-    ⊎ ((log : List ℕ) × ReadsLog old new log × (opening_fault log ≡ Some fault))
+    ⊎ ((log : List ℕ) × ReadsLog old new log × (source_refusal log ≡ None) × (opening_fault (handed_log whole log) ≡ Some fault))
 WritesList old new (Err Read) = ⊤
-WritesList old new (Err Write) = (log : List ℕ) × ReadsLog old new log × (opening_fault log ≡ None)
+WritesList old new (Err Write) = (log : List ℕ) × ReadsLog old new log × (source_refusal log ≡ None)
+
+-- this log was read, of which nothing can be read for a list
+abbrev pub LeavesUnread : Option (List ℕ) → Option (List ℕ) → SumFault → Type 0
+LeavesUnread old new fault = (log : List ℕ) × ReadsLog old new log × (source_refusal log ≡ Some fault)
 
 -- a part of the list may be written before this fault: memory was refused, or a write failed
 abbrev pub MayHaveListed : RunFault → Type 0
@@ -117,9 +129,11 @@ MayFollowList (NoList fault) = MayHaveListed fault
 MayFollowList (EndsEarly fault) = ⊤
 MayFollowList failure = ⊥
 
--- the outcome is that of a list, of which this holds: it was written, and why the log ends too early if it does; or why not
-abbrev pub OfList : {A : Type 0} → (Result (Option Fault) RunFault → Type 0) → Result Unit (Failure A) → Type 0
-OfList P (Ok done) = P (Ok None)
-OfList P (Err (EndsEarly fault)) = P (Ok (Some fault))
-OfList P (Err (NoList fault)) = P (Err fault)
-OfList P (Err failure) = ⊥
+-- the outcome is that of a list, of which this holds: it was written, and why the log ends too early if it does; or why not; or
+-- that nothing of the log can be read, of which this holds
+abbrev pub OfList : {A : Type 0} → (Result (Option SumFault) RunFault → Type 0) → (SumFault → Type 0) → Result Unit (Failure A) → Type 0
+OfList P Q (Ok done) = P (Ok None)
+OfList P Q (Err (EndsEarly fault)) = P (Ok (Some fault))
+OfList P Q (Err (NoList fault)) = P (Err fault)
+OfList P Q (Err (Unread fault)) = Q fault
+OfList P Q (Err failure) = ⊥

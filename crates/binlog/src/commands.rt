@@ -5,7 +5,7 @@ ghost use Rattle.std.specs.Process.{exit_status};
 ghost use Rattle.blog_device.specs.Watched.{device_of, has_failed};
 ghost use Rattle.binlog.specs.Request.{asks_for_list};
 ghost use Rattle.binlog.specs.Status.{status_of};
-ghost use Rattle.binlog.specs.Runs.{MakesNewLog, MayFollowList, OfNewLog, OfList, WritesNewLog, WritesList, new_log_fault, is_failed_read, is_failed_write, may_list};
+ghost use Rattle.binlog.specs.Runs.{MakesNewLog, LeavesUnread, MayFollowList, OfNewLog, OfList, WritesNewLog, WritesList, new_log_fault, is_failed_read, is_failed_write, may_list};
 ghost use Rattle.blog_device.specs.Devices.{is_read_fault, is_write_fault};
 ghost use Rattle.binlog.specs.declared.commands.Failure.TheVariants.{Arguments, NewLog, ResultFile};
 ghost use Rattle.binlog.specs.declared.commands.NewLogFault.TheVariants.{Run, Sums, Split};
@@ -16,6 +16,7 @@ use crate::log_file::{LogFault, open_log};
 use blog_device::{RunFault, Watched, put, read_log};
 use blog_event::Fault;
 use blog_list::list;
+use blog_source::{Reading, Source};
 use blog_split::{SplitFault, SplitRunFault, split, split_to};
 use blog_sum::{SumFault, plain};
 use result_file::{FileFault, ResultFile, Wanted};
@@ -49,8 +50,10 @@ pub enum Failure<'a, A: Allocator> {
     NewLog(NewLogFault),
     /// The list can't be made, or not be written.
     List(RunFault),
-    /// The list was written of a log that ends too early.
-    EndsEarly(Fault),
+    /// Nothing can be read of the log.
+    Unread(SumFault),
+    /// The list was written of a log that ends too early, or is damaged behind what was listed.
+    EndsEarly(SumFault),
 }
 
 /// Why a new log can't be made or written.
@@ -357,18 +360,25 @@ fn run_list<'a, R: AllocGlobal, A: Allocator + Copy, D: Read, O: Write>(
 ) -> Result<(), Failure<'a, A>>
     ensures status { IfErr result (λ f. status_of f ≡ 1) }
     ensures begun { IfErr result (λ f. (output.new ≡ output.old) ⊎ MayFollowList f) }
-    ensures writes { OfList (WritesList (D.remaining (device_of reader.old)) (D.remaining (device_of reader.new))) result }
-    ensures reader_mark { OfList (λ listed. has_failed reader.new ≡ (has_failed reader.old || is_read_fault listed)) result }
-    ensures writer_mark { OfList (λ listed. has_failed output.new ≡ (has_failed output.old || is_write_fault listed)) result }
+    ensures writes { OfList (WritesList (D.remaining (device_of reader.old)) (D.remaining (device_of reader.new)))
+        (LeavesUnread (D.remaining (device_of reader.old)) (D.remaining (device_of reader.new))) result }
+    ensures reader_mark { OfList (λ listed. has_failed reader.new ≡ (has_failed reader.old || is_read_fault listed))
+        (λ _. has_failed reader.new ≡ has_failed reader.old) result }
+    ensures writer_mark { OfList (λ listed. has_failed output.new ≡ (has_failed output.old || is_write_fault listed))
+        (λ _. has_failed output.new ≡ has_failed output.old) result }
 {
     let log = match read_log(alloc, reader) {
         Ok(log) => log,
         Err(fault) => return Err(Failure::List(fault)),
     };
+    let source = match Source::open(log, Reading::ALL) {
+        Ok(source) => source,
+        Err(fault) => return Err(Failure::Unread(fault)),
+    };
     match list(
         rt.alloc(),
         alloc,
-        log.as_slice(),
+        &source,
         &task.wanted,
         task.zone.time_zone(),
         task.form,

@@ -38,8 +38,8 @@ impl<A: Allocator> fmt::Display for Failure<'_, A> {
             Failure::NewLog(NewLogFault::Run(fault)) | Failure::List(fault) => print_run_fault(
                 f, fault,
             ),
-            Failure::EndsEarly(fault) => write!(f, "{fault}: {}", advice::of_end(fault)),
-            Failure::NewLog(NewLogFault::Sums(fault)) => write!(
+            Failure::EndsEarly(fault) => write!(f, "{fault}: {}", advice::of_reading(fault)),
+            Failure::Unread(fault) | Failure::NewLog(NewLogFault::Sums(fault)) => write!(
                 f,
                 "{fault}: {}",
                 advice::of_sums(fault)

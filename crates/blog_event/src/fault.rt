@@ -85,6 +85,7 @@ impl<T: Drop> From<AllocFailed<T>> for Fault {
 }
 
 impl Fault {
+    ghost use Rattle.std.specs.Prelude.{option_map};
     ghost use Rattle.blog_event.specs.Fault.{name_of, number_of, position_of};
 
     /// The fault's number, from 1 to 18.
@@ -162,6 +163,33 @@ impl Fault {
             | Fault::UnknownEvent { pos }
             | Fault::TooLong { pos } => Some(pos),
             Fault::OutOfMemory => None,
+        }
+    }
+
+    /// Returns the same fault at another byte position. `OutOfMemory` has none.
+    pub fn moved_to(&self, pos: u32) -> Fault
+        ensures name { name_of result ≡ name_of self.now }
+        ensures position { position_of result ≡ option_map (λ _. pos) (position_of self.now) }
+    {
+        match *self {
+            Fault::NotABinlog { .. } => Fault::NotABinlog { pos },
+            Fault::CutEvent { .. } => Fault::CutEvent { pos },
+            Fault::BadFormat { .. } => Fault::BadFormat { pos },
+            Fault::OldServer { .. } => Fault::OldServer { pos },
+            Fault::Checksums { .. } => Fault::Checksums { pos },
+            Fault::NoEventAt { .. } => Fault::NoEventAt { pos },
+            Fault::Statement { .. } => Fault::Statement { pos },
+            Fault::RolledBack { .. } => Fault::RolledBack { pos },
+            Fault::OutOfPlace { .. } => Fault::OutOfPlace { pos },
+            Fault::Unended { .. } => Fault::Unended { pos },
+            Fault::NoMap { .. } => Fault::NoMap { pos },
+            Fault::MapClash { .. } => Fault::MapClash { pos },
+            Fault::PartialImage { .. } => Fault::PartialImage { pos },
+            Fault::UnknownType { .. } => Fault::UnknownType { pos },
+            Fault::BadBody { .. } => Fault::BadBody { pos },
+            Fault::UnknownEvent { .. } => Fault::UnknownEvent { pos },
+            Fault::TooLong { .. } => Fault::TooLong { pos },
+            Fault::OutOfMemory => Fault::OutOfMemory,
         }
     }
 }

@@ -2,9 +2,11 @@
 
 use crate::beginning::{Beginning, statement_of};
 use crate::lines::Id;
+use crate::places::at_place;
 use crate::times::rfc_3339_text;
 use crate::totals::Totals;
 use blog_event::Log;
+use blog_source::Source;
 use blog_trans::TableCount;
 use blog_units::Unit;
 use bstr::ByteSlice;
@@ -53,11 +55,12 @@ struct TotalsLine {
     rows: u64,
 }
 
-/// Appends the line of a unit.
+/// Appends the line of a unit, with positions of the server's log.
 pub(crate) fn put_unit<A: Allocator + Copy, B: Allocator>(
     global: Global,
     out: &mut Vec<u8, A>,
     zone: TimeZone<'_>,
+    source: &Source<B>,
     log: &Log<'_>,
     unit: &Unit<'_, B>,
 ) -> Result<(), AllocError> {
@@ -66,8 +69,8 @@ pub(crate) fn put_unit<A: Allocator + Copy, B: Allocator>(
         None => None,
     };
     let mut line = UnitLine {
-        start: unit.start,
-        stop: unit.stop,
+        start: source.place(unit.start),
+        stop: source.place(unit.stop),
         time: String::from_str(global, rfc_3339_text(zone, unit.time).as_str())?,
         timestamp: unit.time,
         gtid,
@@ -86,7 +89,7 @@ pub(crate) fn put_unit<A: Allocator + Copy, B: Allocator>(
         }
         Err(fault) => {
             line.fault = Some(fault.name());
-            line.position = fault.at();
+            line.position = at_place(source, fault).at();
             line.statement = match statement_of(log, fault, unit.stop) {
                 Some(text) => {
                     let columns = TEXT_COLUMNS;

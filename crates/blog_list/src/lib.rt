@@ -7,6 +7,7 @@ mod column;
 mod json;
 mod lines;
 mod listing;
+mod places;
 mod times;
 mod totals;
 mod wanted;

@@ -2,9 +2,11 @@
 
 use crate::beginning::{Beginning, statement_of};
 use crate::column::TimeColumn;
+use crate::places::at_place;
 use crate::totals::Totals;
 use blog_event::{Fault, Log};
 use blog_flash::put_table;
+use blog_source::Source;
 use blog_trans::{Index, TableCount};
 use blog_units::{GlobalId, Unit};
 use std::alloc::{AllocError, Allocator};
@@ -44,15 +46,17 @@ pub(crate) fn put_header<A: Allocator + Copy>(
     out.extend_from_slice(b"  rows\n")
 }
 
-/// Appends the line of a unit.
+/// Appends the line of a unit, with positions of the server's log.
 pub(crate) fn put_unit<A: Allocator + Copy>(
     out: &mut Vec<u8, A>,
     times: &TimeColumn<'_, A>,
+    source: &Source<A>,
     log: &Log<'_>,
     unit: &Unit<'_, A>,
 ) -> Result<(), AllocError> {
     let alloc = *out.allocator();
-    let front = format!(in alloc; "{:>10} {:>10}  ", unit.start, unit.stop)?;
+    let (start, stop) = (source.place(unit.start), source.place(unit.stop));
+    let front = format!(in alloc; "{start:>10} {stop:>10}  ")?;
     out.extend_from_slice(front.as_bytes())?;
     times.put_time(out, unit.time)?;
     out.extend_from_slice(b"  ")?;
@@ -62,7 +66,7 @@ pub(crate) fn put_unit<A: Allocator + Copy>(
     }
     match &unit.groups {
         Ok(groups) => put_rows(out, groups)?,
-        Err(fault) => put_fault(out, log, fault, unit.stop)?,
+        Err(fault) => put_fault(out, source, log, fault, unit.stop)?,
     }
     out.extend_from_slice(b"\n")
 }
@@ -70,17 +74,19 @@ pub(crate) fn put_unit<A: Allocator + Copy>(
 /// Appends why a unit can't be undone that stops at a position.
 fn put_fault<A: Allocator + Copy>(
     out: &mut Vec<u8, A>,
+    source: &Source<A>,
     log: &Log<'_>,
     fault: &Fault,
     stop: u32,
 ) -> Result<(), AllocError> {
     let alloc = *out.allocator();
+    let shown = at_place(source, fault);
     let line = match statement_of(log, fault, stop) {
         Some(text) => {
             let columns = TEXT_COLUMNS;
-            format!(in alloc; "{fault}: {}", Beginning { text, columns })?
+            format!(in alloc; "{shown}: {}", Beginning { text, columns })?
         }
-        None => format!(in alloc; "{fault}")?,
+        None => format!(in alloc; "{shown}")?,
     };
     out.extend_from_slice(line.as_bytes())
 }

@@ -5,14 +5,18 @@ ghost use Rattle.blog_event.specs.Opening.{opening_fault};
 ghost use Rattle.blog_event.specs.declared.fault.Fault.TheVariants.{OutOfMemory};
 ghost use Rattle.blog_device.specs.Devices.{is_write_fault};
 ghost use Rattle.blog_device.specs.Watched.{has_failed};
-ghost use Rattle.blog_list.specs.Lists.{Lists};
+ghost use Rattle.blog_source.specs.code.SourceView.{end_of, fault_of, log_of};
+ghost use Rattle.blog_list.specs.Lists.{Lists, early_end};
 
 use crate::column::TimeColumn;
+use crate::places::wanted_inside;
 use crate::totals::Totals;
 use crate::wanted::{Wanted, is_before};
 use crate::{json, lines};
 use blog_device::{RunFault, Watched, put, put_part};
 use blog_event::{Fault, Log};
+use blog_source::Source;
+use blog_sum::SumFault;
 use blog_units::{Unit, Units};
 use jiff::tz::TimeZone;
 use std::alloc::{AllocError, Allocator, Global};
@@ -33,42 +37,50 @@ const CHUNK_LEN: usize = 1 << 16;
 /// Lists the wanted units of a log: a line for each, and a last line that counts them. They are written while they are found,
 /// by some 64 KB at once. Times are those of a clock in `zone`.
 ///
-/// Answers why the log ends too early, where it does: `CutEvent` where it ends inside an event, `Unended` at its end where it
-/// ends inside a transaction. Where units stop being wanted at a position, what begins there or behind it is neither listed nor
-/// looked at.
+/// The log is that of a source. Positions that are given and written are those of the server's log.
+///
+/// Returns why the list ends early, if it does: the fault with which the reading of the source ended, or `Unended` where the
+/// log ends inside a transaction. Where units stop being wanted at a position, what begins there or behind it is neither listed
+/// nor reported.
 ///
 /// Fails with `Log` of the fault of a log that can't be opened, of which nothing is written, with `Log(OutOfMemory)`, and with
 /// `Write` where a write failed. Memory is taken from `alloc`, and for lines of JSON from `global`.
 pub fn list<A: Allocator + Copy, O: Write>(
     global: Global,
     alloc: A,
-    bytes: &[u8],
+    source: &Source<A>,
     wanted: &Wanted<'_>,
     zone: TimeZone<'_>,
     form: Form,
     writer: &mut Watched<O>,
-) -> Result<Option<Fault>, RunFault>
-    ensures refused { IsSome (opening_fault bytes.now) → writer.new ≡ writer.old }
-    ensures lists { Lists bytes.now result }
+) -> Result<Option<SumFault>, RunFault>
+    ensures refused { IsSome (opening_fault (log_of source.now)) → writer.new ≡ writer.old }
+    ensures lists { Lists (log_of source.now) result }
     ensures mark { has_failed writer.new ≡ (has_failed writer.old || is_write_fault result) }
 {
-    let log = match Log::open(bytes) {
+    let log = match Log::open(source.bytes()) {
         Ok(log) => log,
         Err(fault) => return Err(RunFault::Log(fault)),
     };
-    list_units(global, alloc, &log, wanted, zone, form, writer)
+    let inside = wanted_inside(source, wanted);
+    match list_units(global, alloc, source, &log, &inside, zone, form, writer)? {
+        Some(whole) => Ok(early_end(source, whole, wanted.stop)),
+        None => Ok(None),
+    }
 }
 
-/// The same of a log that is opened.
+/// Lists the wanted units of the log of a source, which is opened, by positions of that log. Returns whether its last unit is
+/// whole, and None where units stopped being wanted before.
 fn list_units<A: Allocator + Copy, O: Write>(
     global: Global,
     alloc: A,
+    source: &Source<A>,
     log: &Log<'_>,
     wanted: &Wanted<'_>,
     zone: TimeZone<'_>,
     form: Form,
     writer: &mut Watched<O>,
-) -> Result<Option<Fault>, RunFault>
+) -> Result<Option<bool>, RunFault>
     ensures fault { IfErr result (λ e. (e ≡ RunFault.Log OutOfMemory) ⊎ (e ≡ RunFault.Write)) }
     ensures mark { has_failed writer.new ≡ (has_failed writer.old || is_write_fault result) }
 {
@@ -76,7 +88,6 @@ fn list_units<A: Allocator + Copy, O: Write>(
     let mut totals = Totals::NONE;
     let times = TimeColumn::new(alloc, zone)?;
     put_header(&mut text, &times, form)?;
-    let mut behind = log.first();
     let mut whole = true;
     for unit in Units::new(alloc, log) {
         if !is_before(unit.start, wanted.stop) {
@@ -86,16 +97,15 @@ fn list_units<A: Allocator + Copy, O: Write>(
         if let Err(Fault::OutOfMemory) = unit.groups {
             return Err(RunFault::Log(Fault::OutOfMemory));
         }
-        behind = unit.stop;
         whole = unit.whole;
         if wanted.has(&unit) {
             totals.add(&unit);
-            put_unit(global, &mut text, &times, log, &unit, form)?;
+            put_unit(global, &mut text, &times, source, log, &unit, form)?;
             write_full(&mut text, writer)?;
         }
     }
     write_end(global, &mut text, &totals, form, writer)?;
-    Ok(early_end(log, behind, whole, wanted.stop))
+    Ok(Some(whole))
 }
 
 /// Appends the line above all others, where the form has one.
@@ -115,13 +125,14 @@ fn put_unit<A: Allocator + Copy>(
     global: Global,
     out: &mut Vec<u8, A>,
     times: &TimeColumn<'_, A>,
+    source: &Source<A>,
     log: &Log<'_>,
     unit: &Unit<'_, A>,
     form: Form,
 ) -> Result<(), AllocError> {
     match form {
-        Form::Text => lines::put_unit(out, times, log, unit),
-        Form::Json => json::put_unit(global, out, times.zone(), log, unit),
+        Form::Text => lines::put_unit(out, times, source, log, unit),
+        Form::Json => json::put_unit(global, out, times.zone(), source, log, unit),
     }
 }
 
@@ -158,21 +169,17 @@ fn write_end<A: Allocator + Copy, O: Write>(
     put(writer, text)
 }
 
-/// Why a log ends too early: inside its last unit, where that isn't whole, or behind it and in front of the stop.
-fn early_end(log: &Log<'_>, behind: u32, whole: bool, stop: Option<u32>) -> Option<Fault> {
-    let mut at = behind;
-    for item in log.events(behind) {
-        if whole && !is_before(at, stop) {
-            return None;
-        }
-        match item {
-            Ok(event) => at = event.pos.saturating_add(event.header.size),
-            Err(fault) => return Some(fault),
-        }
+/// Why a list ends early, of which the last unit is whole or isn't: the fault with which the reading of the source ended, before
+/// the stop or inside that unit; or `Unended` at the end.
+fn early_end<A: Allocator>(source: &Source<A>, whole: bool, stop: Option<u32>) -> Option<SumFault>
+    ensures { result ≡ early_end (fault_of source.now) (end_of source.now) whole stop }
+{
+    if whole && !is_before(source.end(), stop) {
+        return None;
     }
-    if whole {
-        None
-    } else {
-        Some(Fault::Unended { pos: log.end() })
+    match source.fault() {
+        Some(fault) => Some(fault),
+        None if whole => None,
+        None => Some(SumFault::Log(Fault::Unended { pos: source.end() })),
     }
 }

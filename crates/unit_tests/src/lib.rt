@@ -8,6 +8,8 @@ mod parts;
 #[cfg(test)]
 mod range_tests;
 #[cfg(test)]
+mod sources;
+#[cfg(test)]
 mod time_tests;
 #[cfg(test)]
 mod walk_tests;

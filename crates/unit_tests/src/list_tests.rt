@@ -1,15 +1,17 @@
 //! Lists of the units of logs, as text and as JSON.
 
 use crate::parts::{MAP, ONE, PAYLOAD, ROLLBACK};
+use crate::sources::source_of;
 use blog_device::Watched;
 use blog_event::Fault;
 use blog_list::{Form, Wanted, list};
+use blog_sum::SumFault;
 use jiff::tz::TimeZone;
 use sample_logs::builder::{
     BEGIN, DROP_TABLE, GTID, PREVIOUS_GTIDS, Part, ROTATE, XID, build, map_of,
 };
 use sample_logs::samples::{ALTER_BETWEEN, INSERT, MULTI_TABLE, SAVEPOINT_KEPT, UPDATE};
-use sample_logs::summed::{CLOSED_PLAIN, IN_USE_PLAIN};
+use sample_logs::summed::{CLOSED, CLOSED_PLAIN, IN_USE, IN_USE_PLAIN};
 use std::process::Abort;
 use std::test::Fail;
 
@@ -37,13 +39,13 @@ fn check(
     let answer = list(
         rt.alloc(),
         rt.alloc(),
-        bytes,
+        &source_of(rt, bytes)?,
         wanted,
         TimeZone::UTC,
         Form::Text,
         &mut output,
     );
-    assert_eq!(rt; answer, Ok(end));
+    assert_eq!(rt; answer, Ok(end.map(SumFault::Log)));
     let text = str::from_utf8(output.device().as_slice())?;
     assert_eq!(rt; text.strip_prefix(HEADER), Some(lines));
     Ok(())
@@ -74,7 +76,7 @@ fn check_json(
     let answer = list(
         rt.alloc(),
         rt.alloc(),
-        bytes,
+        &source_of(rt, bytes)?,
         wanted,
         TimeZone::UTC,
         Form::Json,
@@ -117,6 +119,113 @@ units 3, not undoable 1, rows 2
 units 4, not undoable 0, rows 9
 ";
     check_all(&rt, &CLOSED_PLAIN, lines)
+}
+
+/// The lines of `CLOSED`, whose events have four bytes more than those of `CLOSED_PLAIN`, but for the format description.
+#[rattlefmt::skip]
+const CLOSED_LINES: [&str; 4] = [
+    "       198        512  2026-11-21 02:00:00  283c105d-e730-11f1-97ff-02fc00000001:4  `shop`.`orders` inserts 3\n",
+    "       512        811  2026-11-21 02:01:00  283c105d-e730-11f1-97ff-02fc00000001:5  `shop`.`items` inserts 2\n",
+    "       811       1215  2026-11-21 02:02:00  283c105d-e730-11f1-97ff-02fc00000001:6  `shop`.`orders` deletes 2; `shop`.`items` deletes 1\n",
+    "      1215       1528  2026-11-21 02:03:00  283c105d-e730-11f1-97ff-02fc00000001:7  `shop`.`orders` updates 1\n",
+];
+
+/// Checks which lines of `CLOSED` a list has that is wanted from a position on and up to another, and what it counts.
+fn check_closed(
+    rt: &(impl AllocGlobal + Abort),
+    start: Option<u32>,
+    stop: Option<u32>,
+    lines: &[&str],
+    totals: &str,
+) -> Result<(), Fail> {
+    let mut text = String::new(rt.alloc());
+    for line in lines {
+        text.push_str(line)?;
+    }
+    text.push_str(totals)?;
+    let wanted = Wanted { start, stop, ..ALL };
+    check(rt, &CLOSED, &wanted, text.as_str(), None)
+}
+
+#[test]
+fn a_log_with_checksums_has_its_own_positions(rt: HostRuntime) -> Result<(), Fail> {
+    let [first, second, third, fourth] = CLOSED_LINES;
+    let all = "units 4, not undoable 0, rows 9\n";
+    check_closed(&rt, None, None, &[first, second, third, fourth], all)?;
+    // a unit that begins at a position is from there on, and not before it
+    let two = "units 2, not undoable 0, rows 4\n";
+    check_closed(&rt, Some(811), None, &[third, fourth], two)?;
+    check_closed(&rt, Some(513), None, &[third, fourth], two)?;
+    let one = "units 1, not undoable 0, rows 1\n";
+    check_closed(&rt, Some(812), None, &[fourth], one)?;
+    let one = "units 1, not undoable 0, rows 3\n";
+    check_closed(&rt, None, Some(512), &[first], one)?;
+    let two = "units 2, not undoable 0, rows 5\n";
+    check_closed(&rt, None, Some(513), &[first, second], two)?;
+    let none = "units 0, not undoable 0, rows 0\n";
+    check_closed(&rt, Some(1569), None, &[], none)?;
+    check_closed(&rt, Some(4_294_967_295), None, &[], none)
+}
+
+#[test]
+fn faults_of_units_are_at_the_positions_of_the_log(rt: HostRuntime) -> Result<(), Fail> {
+    let lines =
+        "       490        702  2026-11-21 03:01:00  283c105d-e730-11f1-97ff-02fc00000001:9  Statement at 567: alter table items add column price decimal(8,2)
+units 1, not undoable 1, rows 0
+";
+    let wanted = Wanted {
+        start: Some(490),
+        stop: Some(702),
+        ..ALL
+    };
+    check(&rt, &IN_USE, &wanted, lines, None)?;
+    let line =
+        "{\"start\":490,\"stop\":702,\"time\":\"2026-11-21T03:01:00+00:00\",\"timestamp\":1795230060,\"gtid\":\"283c105d-e730-11f1-97ff-02fc00000001:9\",\"fault\":\"Statement\",\"position\":567,\"statement\":\"alter table items add column price decimal(8,2)\"}
+{\"units\":1,\"not_undoable\":1,\"rows\":0}
+";
+    check_json(&rt, &IN_USE, &wanted, line)
+}
+
+#[test]
+fn a_damaged_log_is_listed_as_far_as_it_is_right(rt: HostRuntime) -> Result<(), Fail> {
+    let mut damaged = CLOSED;
+    // a byte of the delete of two rows, at 1026
+    damaged[1060] ^= 1;
+    let [first, second, ..] = CLOSED_LINES;
+    let mut lines = String::new(rt.alloc());
+    lines.push_str(first)?;
+    lines.push_str(second)?;
+    let unended =
+        "       811       1026  2026-11-21 02:02:00  283c105d-e730-11f1-97ff-02fc00000001:6  Unended at 1026\n";
+    let before = "units 2, not undoable 0, rows 5\n";
+    let whole = format!(in rt.alloc(); "{lines}{before}")?;
+    let up_to = Wanted {
+        stop: Some(811),
+        ..ALL
+    };
+    check(&rt, &damaged, &up_to, whole.as_str(), None)?;
+    let early = format!(in rt.alloc(); "{lines}{unended}units 3, not undoable 1, rows 5\n")?;
+    check_damaged(&rt, &damaged, early.as_str())
+}
+
+/// Checks the list of a log whose event at 1026 is damaged.
+fn check_damaged(rt: &(impl AllocGlobal + Abort), bytes: &[u8], lines: &str) -> Result<(), Fail> {
+    let mut output = Watched::new(Vec::new(rt.alloc()));
+    let source = source_of(rt, bytes)?;
+    let zone = TimeZone::UTC;
+    let answer = list(
+        rt.alloc(),
+        rt.alloc(),
+        &source,
+        &ALL,
+        zone,
+        Form::Text,
+        &mut output,
+    );
+    assert_eq!(rt; answer, Ok(Some(SumFault::WrongSum { pos: 1026 })));
+    let text = str::from_utf8(output.device().as_slice())?;
+    assert_eq!(rt; text.strip_prefix(HEADER), Some(lines));
+    Ok(())
 }
 
 /// The lines of `IN_USE_PLAIN`.

@@ -1,5 +1,6 @@
 //! Times in time zones, printed and read. The texts are those of Python's `zoneinfo`.
 
+use crate::sources::source_of;
 use crate::zones::{BERLIN, KOLKATA, LORD_HOWE, NEW_YORK};
 use blog_device::Watched;
 use blog_list::{Form, Side, TimeFault, Wanted, list, rfc_3339_text, seconds_of, time_text};
@@ -212,7 +213,7 @@ fn check_lines(
     let answer = list(
         rt.alloc(),
         rt.alloc(),
-        &INSERT,
+        &source_of(rt, &INSERT)?,
         &wanted,
         zone,
         Form::Text,

@@ -3,6 +3,7 @@
 use super::{path_of, run_arguments, run_log};
 use sample_logs::logs::insert_and_drop;
 use sample_logs::small::{INSERT_ONE_ROW, PLAIN, SUMMED};
+use sample_logs::summed::CLOSED;
 use std::process::{Abort, ExitCode};
 use std::test::Fail;
 use testkit::runs::Outcome;
@@ -110,12 +111,56 @@ fn a_log_that_ends_early_is_listed_and_told(rt: HostRuntime) -> Result<(), Fail>
     Ok(())
 }
 
+const WRONG_SUM: &str =
+    "binlog: WrongSum at 4: the event isn't what the server wrote: copy the log from the server again\n";
+
+const UNKNOWN_ALGORITHM: &str =
+    "binlog: UnknownAlgorithm at 4: the log has checksums that aren't CRC32: use the server's own tools\n";
+
+#[test]
+fn a_log_with_checksums_is_listed(rt: HostRuntime) -> Result<(), Fail> {
+    let outcome = run_log(
+        &rt,
+        "sums",
+        CLOSED.as_slice(),
+        &["list", "--utc", "-j", "1215"],
+    )?;
+    let line =
+        "      1215       1528  2026-11-21 02:03:00  283c105d-e730-11f1-97ff-02fc00000001:7  `shop`.`orders` updates 1\n";
+    let text = format!(in rt.alloc(); "{HEADER}{line}units 1, not undoable 0, rows 1\n")?;
+    assert!(rt; outcome.is_done(text.as_bytes()));
+    let mut damaged = CLOSED;
+    // a byte of the last event but one
+    damaged[1510] ^= 1;
+    let outcome = run_log(
+        &rt,
+        "damaged",
+        damaged.as_slice(),
+        &["list", "--utc", "-j", "1215"],
+    )?;
+    let line =
+        "      1215       1497  2026-11-21 02:03:00  283c105d-e730-11f1-97ff-02fc00000001:7  Unended at 1497\n";
+    let text = format!(in rt.alloc(); "{HEADER}{line}units 1, not undoable 1, rows 0\n")?;
+    let told =
+        "binlog: WrongSum at 1497: the event isn't what the server wrote: copy the log from the server again\n";
+    assert_eq!(rt; outcome.status, ExitCode::FAILURE);
+    assert_eq!(rt; outcome.output(), text.as_bytes());
+    assert_eq!(rt; outcome.errors(), told.as_bytes());
+    Ok(())
+}
+
 #[test]
 fn logs_that_are_not_listed_are_told(rt: HostRuntime) -> Result<(), Fail> {
-    let outcome = run_log(&rt, "sums", SUMMED.as_slice(), &["list"])?;
-    let line =
-        "binlog: Checksums at 4: the log has checksums: make a plain copy, binlog plain LOG -r FILE, ";
-    assert!(rt; outcome.begins_refusal(1, line));
+    let mut changed = SUMMED;
+    // the time at which the log was made
+    changed[75] ^= 1;
+    let outcome = run_log(&rt, "wrong-sum", changed.as_slice(), &["list"])?;
+    assert!(rt; outcome.is_refusal(1, WRONG_SUM));
+    let mut unknown = SUMMED;
+    // the checksum algorithm
+    unknown[115] = 2;
+    let outcome = run_log(&rt, "algorithm", unknown.as_slice(), &["list"])?;
+    assert!(rt; outcome.is_refusal(1, UNKNOWN_ALGORITHM));
     let outcome = run_log(&rt, "no-log", b"no log", &["list"])?;
     assert!(rt; outcome.begins_refusal(1, "binlog: NotABinlog at 0: "));
     let absent = path_of(&rt, "unlisted")?;
