@@ -99,17 +99,17 @@ fn logs_that_are_not_cut_have_their_lines(rt: HostRuntime) -> Result<(), Fail> {
 fn logs_that_end_early_have_their_lines(rt: HostRuntime) -> Result<(), Fail> {
     check(
         &rt,
-        &Failure::EndsEarly(Fault::CutEvent { pos: 5 }),
+        &Failure::EndsEarly(SumFault::Log(Fault::CutEvent { pos: 5 })),
         "CutEvent at 5: the log ends inside an event: copy it from the server again, once it is closed",
     )?;
     check(
         &rt,
-        &Failure::EndsEarly(Fault::Unended { pos: 5 }),
+        &Failure::EndsEarly(SumFault::Log(Fault::Unended { pos: 5 })),
         "Unended at 5: the log ends inside a transaction: copy it from the server again, once it is closed",
     )?;
     for (fault, line) in &FAULTS {
         if !matches!(fault, Fault::CutEvent { .. } | Fault::Unended { .. }) {
-            check(&rt, &Failure::EndsEarly(*fault), line)?;
+            check(&rt, &Failure::EndsEarly(SumFault::Log(*fault)), line)?;
         }
     }
     Ok(())
