@@ -1,4 +1,5 @@
 pub mod Columns
+pub mod Escapes
 pub mod Lists
 pub mod Times
 pub mod code

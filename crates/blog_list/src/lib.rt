@@ -4,10 +4,13 @@
 
 mod beginning;
 mod column;
+mod escapes;
 mod json;
 mod lines;
 mod listing;
+mod marks;
 mod places;
+mod texts;
 mod times;
 mod totals;
 mod wanted;

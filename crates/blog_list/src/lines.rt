@@ -1,11 +1,11 @@
 //! Units as lines of text.
 
-use crate::beginning::{Beginning, statement_of};
+use crate::beginning::statement_of;
 use crate::column::TimeColumn;
+use crate::escapes::{put_beginning, put_table};
 use crate::places::at_place;
 use crate::totals::Totals;
 use blog_event::{Fault, Log};
-use blog_flash::put_table;
 use blog_source::Source;
 use blog_trans::{Index, TableCount};
 use blog_units::{GlobalId, Unit};
@@ -81,14 +81,15 @@ fn put_fault<A: Allocator + Copy>(
 ) -> Result<(), AllocError> {
     let alloc = *out.allocator();
     let shown = at_place(source, fault);
-    let line = match statement_of(log, fault, stop) {
+    let line = format!(in alloc; "{shown}")?;
+    out.extend_from_slice(line.as_bytes())?;
+    match statement_of(log, fault, stop) {
         Some(text) => {
-            let columns = TEXT_COLUMNS;
-            format!(in alloc; "{shown}: {}", Beginning { text, columns })?
+            out.extend_from_slice(b": ")?;
+            put_beginning(out, text, TEXT_COLUMNS)
         }
-        None => format!(in alloc; "{shown}")?,
-    };
-    out.extend_from_slice(line.as_bytes())
+        None => Ok(()),
+    }
 }
 
 /// Appends the numbers of rows by table.

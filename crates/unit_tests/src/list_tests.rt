@@ -339,7 +339,7 @@ fn the_beginning_of_a_statement_is_shown(rt: HostRuntime) -> Result<(), Fail> {
         text: b"INSERT\tINTO t\nVALUES ('\xe4\xb8\x96\xe7\x95\x8c\xe4\xb8\x96\xe7\x95\x8c\xff', 'and so on up to sixty columns')",
     };
     let lines =
-        "       120        225  1970-01-01 00:00:00  Statement at 120: INSERT INTO t VALUES ('\u{4E16}\u{754C}\u{4E16}\u{754C}\u{FFFD}', 'and so on up to sixty co..
+        "       120        225  1970-01-01 00:00:00  Statement at 120: INSERT\\tINTO t\\nVALUES ('\u{4E16}\u{754C}\u{4E16}\u{754C}\\xff', 'and so on up to six..
 units 1, not undoable 1, rows 0
 ";
     check_parts(&rt, &[query], lines, None)

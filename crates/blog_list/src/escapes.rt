@@ -1,0 +1,130 @@
+//! Bytes of a log for people: escaped, so that no control character reaches a terminal.
+
+ghost use Rattle.std.specs.Prelude.{◌≡◌, ◌++◌, ◌∷◌, [], OnOk, true, false, encode_utf8};
+ghost use Rattle.std.specs.List.{flat_map};
+ghost use Rattle.blog_list.specs.Escapes.{beginning, byte_escape, char_columns, char_shown, columns_of, marks, quoted, quoted_mark, quoted_table, shown};
+
+use crate::marks::{Mark, Marks};
+use crate::texts::{put_byte, put_text};
+use unicode_width::UnicodeWidthChar;
+use std::alloc::{AllocError, Allocator};
+
+/// Appends a byte as `\x1b`.
+fn put_escape<A: Allocator>(out: &mut Vec<u8, A>, byte: u8) -> Result<(), AllocError>
+    ensures { OnOk result (out.new.items ≡ out.old.items ++ byte_escape byte) }
+{
+    put_text(out, b"\\x")?;
+    put_byte(out, byte)
+}
+
+/// Appends each byte as `\x1b`.
+fn put_escapes<A: Allocator>(out: &mut Vec<u8, A>, bytes: &[u8]) -> Result<(), AllocError>
+    ensures { OnOk result (out.new.items ≡ out.old.items ++ flat_map byte_escape bytes.now) }
+{
+    for byte in bytes {
+        put_escape(out, *byte)?;
+    }
+    Ok(())
+}
+
+/// Appends a character, escaped.
+fn put_char<A: Allocator>(out: &mut Vec<u8, A>, c: char) -> Result<(), AllocError>
+    ensures { OnOk result (out.new.items ≡ out.old.items ++ char_shown c) }
+{
+    match c {
+        '\\' => put_text(out, b"\\\\"),
+        '\n' => put_text(out, b"\\n"),
+        '\t' => put_text(out, b"\\t"),
+        '\r' => put_text(out, b"\\r"),
+        _ if c.is_control() => put_escapes(out, c.encode_utf8(&mut [0; 4]).as_bytes()),
+        _ => put_text(out, c.encode_utf8(&mut [0; 4]).as_bytes()),
+    }
+}
+
+/// Appends a mark, escaped.
+fn put_mark<A: Allocator>(out: &mut Vec<u8, A>, mark: Mark) -> Result<(), AllocError>
+    ensures { OnOk result (out.new.items ≡ out.old.items ++ shown mark) }
+{
+    match mark {
+        Mark::Character(c) => put_char(out, c),
+        Mark::Byte(byte) => put_escape(out, byte),
+    }
+}
+
+/// Appends a name, escaped, between backticks, with those in it doubled.
+fn put_quoted<A: Allocator>(out: &mut Vec<u8, A>, name: &[u8]) -> Result<(), AllocError>
+    ensures { OnOk result (out.new.items ≡ out.old.items ++ quoted name.now) }
+{
+    put_text(out, b"`")?;
+    for mark in Marks::new(name) {
+        put_quoted_mark(out, mark)?;
+    }
+    put_text(out, b"`")
+}
+
+/// Appends a mark of a name, escaped, or a backtick doubled.
+fn put_quoted_mark<A: Allocator>(out: &mut Vec<u8, A>, mark: Mark) -> Result<(), AllocError>
+    ensures { OnOk result (out.new.items ≡ out.old.items ++ quoted_mark mark) }
+{
+    match mark {
+        Mark::Character('`') => put_text(out, b"``"),
+        _ => put_mark(out, mark),
+    }
+}
+
+/// Appends the names of a schema and of a table in it, with a point between them.
+pub(crate) fn put_table<A: Allocator>(
+    out: &mut Vec<u8, A>,
+    schema: &[u8],
+    table: &[u8],
+) -> Result<(), AllocError>
+    ensures { OnOk result (out.new.items ≡ out.old.items ++ quoted_table schema.now table.now) }
+{
+    put_quoted(out, schema)?;
+    put_text(out, b".")?;
+    put_quoted(out, table)
+}
+
+/// How many columns of a terminal a character takes, escaped.
+fn char_columns(c: char) -> usize
+    ensures { result ≡ char_columns c }
+{
+    match c {
+        '\\' => 2,
+        '\n' => 2,
+        '\t' => 2,
+        '\r' => 2,
+        _ if c.is_control() => 4 * c.len_utf8(),
+        _ => c.width().unwrap_or(0),
+    }
+}
+
+/// How many columns of a terminal a mark takes, escaped.
+fn columns_of(mark: Mark) -> usize
+    ensures { result ≡ columns_of mark }
+{
+    match mark {
+        Mark::Character(c) => char_columns(c),
+        Mark::Byte(_) => 4,
+    }
+}
+
+/// Appends the beginning of a text, escaped, in at most so many columns of a terminal. Two points follow where that isn't all.
+pub(crate) fn put_beginning<A: Allocator>(
+    out: &mut Vec<u8, A>,
+    text: &[u8],
+    columns: usize,
+) -> Result<(), AllocError>
+    ensures { OnOk result (out.new.items ≡ out.old.items ++ beginning columns (marks text.now)) }
+{
+    let mut left = columns;
+    for mark in Marks::new(text) {
+        let width = columns_of(mark);
+        if width > left {
+            return put_text(out, b"..");
+        }
+        left -= width;
+        put_mark(out, mark)?;
+    }
+    Ok(())
+}
