@@ -4,3 +4,5 @@ pub mod Handing
 pub mod Tails
 pub mod Opened
 pub mod Placing
+mod Accepted
+mod HandedLog

@@ -3,9 +3,11 @@
 #![tactic(auto)]
 
 mod front;
+mod laws;
 mod reading;
 mod source;
 mod walk;
 
+pub use laws::handed_logs_open;
 pub use reading::Reading;
 pub use source::Source;
