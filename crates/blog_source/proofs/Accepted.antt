@@ -57,7 +57,7 @@ is-accepted bytes fine =
 -- ---- the events that are read of it
 
 -- those behind the format description
-pub later_of : (bytes : List ℕ) (stop : Option ℕ) → IsAccepted bytes → List Event
+abbrev pub later_of : (bytes : List ℕ) (stop : Option ℕ) → IsAccepted bytes → List Event
 later_of bytes stop log = events_from (length bytes) stop (4 + event_size log.format) (drop (4 + event_size log.format) bytes)
 
 pub record IsRead (bytes : List ℕ) (stop : Option ℕ) (log : IsAccepted bytes) : Type 0 where
@@ -74,7 +74,6 @@ ends-within bytes es begins =
     omega arith
 
 pub is-read : (bytes : List ℕ) (stop : Option ℕ) (log : IsAccepted bytes) → AreBytes bytes → IsRead bytes stop log
-unfolding later_of
 is-read bytes stop log are =
     let es : List Event = log.format ∷ later_of bytes stop log in
     let is : read bytes stop ≡ es = read-is bytes stop log.format log.mark log.stands in

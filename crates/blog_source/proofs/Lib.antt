@@ -6,3 +6,4 @@ pub mod Opened
 pub mod Placing
 mod Accepted
 mod HandedLog
+mod WholeReading

@@ -1,12 +1,14 @@
 //! Laws of a log that is handed out.
 
-ghost use Rattle.std.specs.Prelude.{◌≡◌, ◌≤◌, List, ℕ, length, None};
+ghost use Rattle.std.specs.Prelude.{◌≡◌, ◌≤◌, List, ℕ, length, Some, None};
 ghost use Rattle.blog_event.specs.File.{AreBytes, read};
 ghost use Rattle.blog_event.specs.Opening.{opening_fault};
-ghost use Rattle.blog_sum.specs.Sums.{has_sums};
+ghost use Rattle.blog_sum.specs.declared.fault.SumFault.{SumFault};
+ghost use Rattle.blog_sum.specs.Sums.{has_sums, sum_fault};
 ghost use Rattle.blog_source.specs.declared.reading.Reading.{Reading};
-ghost use Rattle.blog_source.specs.Found.{source_refusal};
+ghost use Rattle.blog_source.specs.Found.{found_of, source_refusal};
 ghost use Rattle.blog_source.specs.Handed.{handed_events, handed_log};
+ghost use Rattle.blog_source.specs.Laws.{whole_reading};
 
 /// The log that is handed out opens as a log, and is no longer than the server's log. The call does nothing.
 #[tactic(auto, using(crate::proofs::HandedLog::handed_opens, crate::proofs::HandedLog::handed_no_longer))]
@@ -20,4 +22,12 @@ pub fn handed_logs_open()
 pub fn handed_log_has_the_events()
     ensures events { (how : Reading) (bytes : List ℕ) → AreBytes bytes → source_refusal bytes ≡ None
         → read (handed_log how bytes) None ≡ handed_events how (has_sums bytes) (length bytes) (read bytes how.stop) }
+{}
+
+/// A log that is read to its end, or to its first fault, has the fault that its sums have: so it is opened, and without a fault,
+/// exactly where each event ends in its sum. The call does nothing.
+#[tactic(auto, using(crate::proofs::WholeReading::whole_fault, crate::proofs::WholeReading::whole_refused))]
+pub fn whole_reading_finds_the_sums_faults()
+    ensures fault { (bytes : List ℕ) → source_refusal bytes ≡ None → (found_of whole_reading bytes).fault ≡ sum_fault bytes }
+    ensures refusal { (bytes : List ℕ) (fault : SumFault) → source_refusal bytes ≡ Some fault → sum_fault bytes ≡ Some fault }
 {}
