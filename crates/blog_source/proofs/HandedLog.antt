@@ -27,7 +27,7 @@ use Rattle.blog_source.proofs.Moving.{has-room}
 -- ---- the events behind the format description
 
 -- they end behind where they begin
-end-past : (pos : ℕ) (es : List Event) → pos ≤ end_of pos es
+pub end-past : (pos : ℕ) (es : List Event) → pos ≤ end_of pos es
 end-past pos [] = omega arith
 end-past pos (e ∷ es) = let later = end-past (pos + event_size e) es in omega arith
 
@@ -155,7 +155,7 @@ pub handed-stands : (how : Reading) (bytes : List ℕ) (is : IsHanded how bytes)
 handed-stands how bytes is =
     ap (λ (text : List ℕ). event_at (drop 4 text)) (handed-text how bytes is) ∙ event-again (handed_format (has_sums bytes) is.log.format) (flat_map event_text is.later) is.events.0
 
-handed-marked : (how : Reading) (bytes : List ℕ) (is : IsHanded how bytes) → bytes_eq (take 4 (handed_log how bytes)) magic ≡ true
+pub handed-marked : (how : Reading) (bytes : List ℕ) (is : IsHanded how bytes) → bytes_eq (take 4 (handed_log how bytes)) magic ≡ true
 handed-marked how bytes is = ap (λ (text : List ℕ). bytes_eq (take 4 text) magic) (handed-text how bytes is)
 
 -- ---- the laws

@@ -7,3 +7,5 @@ pub mod Placing
 mod Accepted
 mod HandedLog
 mod WholeReading
+mod Standing
+mod HandedPlaces

@@ -1,14 +1,16 @@
 //! Laws of a log that is handed out.
 
-ghost use Rattle.std.specs.Prelude.{◌≡◌, ◌≤◌, List, ℕ, length, Some, None};
-ghost use Rattle.blog_event.specs.File.{AreBytes, read};
+ghost use Rattle.std.specs.Prelude.{◌≡◌, ◌≤◌, List, ℕ, drop, length, map, Some, None};
+ghost use Rattle.std.specs.List.{AllByRecursion};
+ghost use Rattle.blog_event.specs.File.{AreBytes, placed_from, read};
 ghost use Rattle.blog_event.specs.Opening.{opening_fault};
 ghost use Rattle.blog_sum.specs.declared.fault.SumFault.{SumFault};
 ghost use Rattle.blog_sum.specs.Sums.{has_sums, sum_fault};
 ghost use Rattle.blog_source.specs.declared.reading.Reading.{Reading};
 ghost use Rattle.blog_source.specs.Found.{found_of, source_refusal};
 ghost use Rattle.blog_source.specs.Handed.{handed_events, handed_log};
-ghost use Rattle.blog_source.specs.Laws.{whole_reading};
+ghost use Rattle.blog_source.specs.Laws.{handed_out, placed_of, whole_reading};
+ghost use Rattle.blog_source.specs.Places.{place_of, position_of};
 
 /// The log that is handed out opens as a log, and is no longer than the server's log. The call does nothing.
 #[tactic(auto, using(crate::proofs::HandedLog::handed_opens, crate::proofs::HandedLog::handed_no_longer))]
@@ -30,4 +32,17 @@ pub fn handed_log_has_the_events()
 pub fn whole_reading_finds_the_sums_faults()
     ensures fault { (bytes : List ℕ) → source_refusal bytes ≡ None → (found_of whole_reading bytes).fault ≡ sum_fault bytes }
     ensures refusal { (bytes : List ℕ) (fault : SumFault) → source_refusal bytes ≡ Some fault → sum_fault bytes ≡ Some fault }
+{}
+
+/// The place of the position at which an event begins that is handed out is where the event of the server's log begins for which
+/// it stands. The position of that place is where the first event begins that is handed out for that. The call does nothing.
+#[tactic(auto, using(crate::proofs::HandedPlaces::handed_are, crate::proofs::HandedPlaces::handed_places, crate::proofs::HandedPlaces::handed_positions, crate::proofs::HandedPlaces::handed_firsts))]
+pub fn places_are_of_the_source()
+    ensures are { (how : Reading) (bytes : List ℕ) → AreBytes bytes → source_refusal bytes ≡ None
+        → map placed_of (handed_out how bytes) ≡ drop 1 (placed_from 4 (read (handed_log how bytes) None)) }
+    ensures place { (how : Reading) (bytes : List ℕ) → AreBytes bytes → source_refusal bytes ≡ None
+        → AllByRecursion (λ h. place_of (handed_log how bytes) (found_of how bytes).end h.at ≡ h.source.pos) (handed_out how bytes) }
+    ensures position { (how : Reading) (bytes : List ℕ) → AreBytes bytes → source_refusal bytes ≡ None
+        → AllByRecursion (λ h. position_of (handed_log how bytes) h.source.pos ≡ h.first) (handed_out how bytes) }
+    ensures first { (how : Reading) (bytes : List ℕ) → AreBytes bytes → source_refusal bytes ≡ None → AllByRecursion (λ h. h.first ≤ h.at) (handed_out how bytes) }
 {}

@@ -8,6 +8,9 @@ mod reading;
 mod source;
 mod walk;
 
-pub use laws::{handed_log_has_the_events, handed_logs_open, whole_reading_finds_the_sums_faults};
+pub use laws::{
+    handed_log_has_the_events, handed_logs_open, places_are_of_the_source,
+    whole_reading_finds_the_sums_faults,
+};
 pub use reading::Reading;
 pub use source::Source;
