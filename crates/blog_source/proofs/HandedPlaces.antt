@@ -23,7 +23,7 @@ use Rattle.blog_source.proofs.WholeReading.{found-is}
 -- ---- where the event behind the format description begins, in both logs
 
 -- what is kept of the server's log
-kept_of : (how : Reading) (bytes : List ℕ) → IsAccepted bytes → List Placed
+unfoldable pub kept_of : (how : Reading) (bytes : List ℕ) → IsAccepted bytes → List Placed
 kept_of how bytes log = (found how (has_sums bytes) (length bytes) (4 + event_size log.format) (placed_from (4 + event_size log.format) (later_of bytes how.stop log))).kept
 
 first-is : (bytes : List ℕ) (format : Event) → event_at (drop 4 bytes) ≡ Some format → first_of bytes ≡ 4 + event_size format
@@ -34,7 +34,7 @@ first-same how bytes is =
     first-is (handed_log how bytes) (handed_format (has_sums bytes) is.log.format) (handed-stands how bytes is) ∙ ap (λ (size : ℕ). 4 + size) is.format.size
 
 -- the events that are handed out, by what is known of both
-out-is : (how : Reading) (bytes : List ℕ) (log : IsAccepted bytes)
+pub out-is : (how : Reading) (bytes : List ℕ) (log : IsAccepted bytes)
     → handed_out how bytes ≡ handed_from (has_sums bytes) (4 + event_size log.format) (kept_of how bytes log)
 unfolding kept_of
 out-is how bytes log =

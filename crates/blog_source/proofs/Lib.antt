@@ -9,3 +9,4 @@ mod HandedLog
 mod WholeReading
 mod Standing
 mod HandedPlaces
+mod Unmoved

@@ -1,7 +1,8 @@
 //! Laws of a log that is handed out.
 
-ghost use Rattle.std.specs.Prelude.{◌≡◌, ◌≤◌, List, ℕ, drop, length, map, Some, None};
+ghost use Rattle.std.specs.Prelude.{◌≡◌, ◌≤◌, List, ℕ, drop, false, length, map, Some, None};
 ghost use Rattle.std.specs.List.{AllByRecursion};
+ghost use Rattle.blog_event.specs.Event.{unplaced};
 ghost use Rattle.blog_event.specs.File.{AreBytes, placed_from, read};
 ghost use Rattle.blog_event.specs.Opening.{opening_fault};
 ghost use Rattle.blog_sum.specs.declared.fault.SumFault.{SumFault};
@@ -9,7 +10,7 @@ ghost use Rattle.blog_sum.specs.Sums.{has_sums, sum_fault};
 ghost use Rattle.blog_source.specs.declared.reading.Reading.{Reading};
 ghost use Rattle.blog_source.specs.Found.{found_of, source_refusal};
 ghost use Rattle.blog_source.specs.Handed.{handed_events, handed_log};
-ghost use Rattle.blog_source.specs.Laws.{handed_out, placed_of, whole_reading};
+ghost use Rattle.blog_source.specs.Laws.{IsUnmoved, handed_out, placed_of, whole_reading};
 ghost use Rattle.blog_source.specs.Places.{place_of, position_of};
 
 /// The log that is handed out opens as a log, and is no longer than the server's log. The call does nothing.
@@ -19,23 +20,23 @@ pub fn handed_logs_open()
     ensures length { (how : Reading) (bytes : List ℕ) → AreBytes bytes → source_refusal bytes ≡ None → length (handed_log how bytes) ≤ length bytes }
 {}
 
-/// What is read of the log that is handed out are the events that are handed out. The call does nothing.
+/// Reading the log that is handed out gives the events that are handed out. The call does nothing.
 #[tactic(auto, using(crate::proofs::HandedLog::handed_read_again))]
 pub fn handed_log_has_the_events()
     ensures events { (how : Reading) (bytes : List ℕ) → AreBytes bytes → source_refusal bytes ≡ None
         → read (handed_log how bytes) None ≡ handed_events how (has_sums bytes) (length bytes) (read bytes how.stop) }
 {}
 
-/// A log that is read to its end, or to its first fault, has the fault that its sums have: so it is opened, and without a fault,
-/// exactly where each event ends in its sum. The call does nothing.
+/// Reading a log to its end, or to its first fault, finds the fault that a check of its sums finds. So the log opens, and without a
+/// fault, exactly where that check finds none. The call does nothing.
 #[tactic(auto, using(crate::proofs::WholeReading::whole_fault, crate::proofs::WholeReading::whole_refused))]
 pub fn whole_reading_finds_the_sums_faults()
     ensures fault { (bytes : List ℕ) → source_refusal bytes ≡ None → (found_of whole_reading bytes).fault ≡ sum_fault bytes }
     ensures refusal { (bytes : List ℕ) (fault : SumFault) → source_refusal bytes ≡ Some fault → sum_fault bytes ≡ Some fault }
 {}
 
-/// The place of the position at which an event begins that is handed out is where the event of the server's log begins for which
-/// it stands. The position of that place is where the first event begins that is handed out for that. The call does nothing.
+/// An event that is handed out begins at a position. The place of that position is where its event begins in the server's log. The
+/// position of that place is where the first event begins that is handed out for the same event. The call does nothing.
 #[tactic(auto, using(crate::proofs::HandedPlaces::handed_are, crate::proofs::HandedPlaces::handed_places, crate::proofs::HandedPlaces::handed_positions, crate::proofs::HandedPlaces::handed_firsts))]
 pub fn places_are_of_the_source()
     ensures are { (how : Reading) (bytes : List ℕ) → AreBytes bytes → source_refusal bytes ≡ None
@@ -45,4 +46,13 @@ pub fn places_are_of_the_source()
     ensures position { (how : Reading) (bytes : List ℕ) → AreBytes bytes → source_refusal bytes ≡ None
         → AllByRecursion (λ h. position_of (handed_log how bytes) h.source.pos ≡ h.first) (handed_out how bytes) }
     ensures first { (how : Reading) (bytes : List ℕ) → AreBytes bytes → source_refusal bytes ≡ None → AllByRecursion (λ h. h.first ≤ h.at) (handed_out how bytes) }
+{}
+
+/// Each event that is read of a log without sums is handed out. Only its log_pos changes, and it begins at the same position. The
+/// call does nothing.
+#[tactic(auto, using(crate::proofs::Unmoved::unsummed_events, crate::proofs::Unmoved::unsummed_unmoved))]
+pub fn unsummed_logs_keep_their_places()
+    ensures events { (how : Reading) (bytes : List ℕ) → AreBytes bytes → source_refusal bytes ≡ None → has_sums bytes ≡ false
+        → map unplaced (read (handed_log how bytes) None) ≡ map unplaced (read bytes how.stop) }
+    ensures places { (how : Reading) (bytes : List ℕ) → source_refusal bytes ≡ None → has_sums bytes ≡ false → AllByRecursion IsUnmoved (handed_out how bytes) }
 {}
