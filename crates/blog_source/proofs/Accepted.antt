@@ -1,9 +1,9 @@
 -- What is known of a server's log that is read: its front, and the events that are read of it.
-use Rattle.std.proofs.Common.{◌≡◌, ℕ, ◌+◌, ◌^◌, ◌≤◌, ◌<◌, Bool, true, false, List, [], ◌∷◌, ◌++◌, length, take, drop, Option, Some, None, refl, sym, subst, ap, ◌∙◌, arith, length-append}
-use Rattle.std.specs.Prelude.{◌==◌, if◌then◌else◌, nat_le, option_map}
-use Rattle.std.specs.List.{flat_map, AllByRecursion}
+use Rattle.std.proofs.Common.{◌≡◌, ℕ, ◌+◌, ◌^◌, ◌≤◌, ◌<◌, true, List, [], ◌∷◌, ◌++◌, length, take, drop, Option, Some, None, refl, sym, subst, ap, ◌∙◌, arith, length-append}
+use Rattle.std.specs.Prelude.{if◌then◌else◌, nat_le, option_map}
+use Rattle.std.specs.List.{AllByRecursion}
 use Rattle.std.proofs.lemmas.Bool.{leb-true}
-use Rattle.blog_event.specs.Event.{Event, event_size, event_text, event_at, IsEvent}
+use Rattle.blog_event.specs.Event.{Event, event_size, event_at, IsEvent}
 use Rattle.blog_event.specs.File.{AreBytes, BeginsWith, magic, file_text, end_of, events_from, read}
 use Rattle.blog_event.specs.Format.{description_fault}
 use Rattle.blog_event.specs.Opening.{front_fault}
@@ -63,6 +63,7 @@ later_of bytes stop log = events_from (length bytes) stop (4 + event_size log.fo
 pub record IsRead (bytes : List ℕ) (stop : Option ℕ) (log : IsAccepted bytes) : Type 0 where
   pub is : read bytes stop ≡ log.format ∷ later_of bytes stop log
   pub events : AllByRecursion IsEvent (log.format ∷ later_of bytes stop log)
+  pub begins : BeginsWith bytes (file_text (log.format ∷ later_of bytes stop log))
   pub ends : end_of (4 + event_size log.format) (later_of bytes stop log) ≤ length bytes
 
 -- events with which a log begins end where it does, or before
@@ -82,5 +83,6 @@ is-read bytes stop log are =
     record {
       is = is;
       events = subst (λ (es : List Event). AllByRecursion IsEvent es) is front.events;
+      begins = begins;
       ends = ends-within bytes es begins;
     }

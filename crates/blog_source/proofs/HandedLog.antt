@@ -1,6 +1,6 @@
 -- The log that is handed out: its events, its length, and that it is a log.
-use Rattle.std.proofs.Common.{◌≡◌, ℕ, ◌+◌, ◌-◌, ◌^◌, ◌≤◌, ◌<◌, Bool, true, false, List, [], ◌∷◌, ◌++◌, length, take, drop, Option, Some, None, refl, sym, subst, ap, ◌∙◌, arith}
-use Rattle.std.specs.Prelude.{◌==◌, ◌&&◌, bytes_eq}
+use Rattle.std.proofs.Common.{◌≡◌, ℕ, ◌+◌, ◌-◌, ◌^◌, ◌≤◌, ◌<◌, Bool, true, false, List, [], ◌∷◌, length, take, drop, Option, Some, None, refl, sym, subst, ap, ◌∙◌, arith}
+use Rattle.std.specs.Prelude.{◌&&◌, bytes_eq}
 use Rattle.std.specs.List.{flat_map, AllByRecursion}
 use Rattle.std.proofs.lemmas.Bool.Decides.{nat_tests}
 use Rattle.std.proofs.lemmas.List.{length-take-le}
@@ -8,7 +8,7 @@ use borrow.Author.Tests.{eqb-true}
 use Rattle.blog_event.specs.Event.{Event, event_size, event_text, event_at, IsEvent}
 use Rattle.blog_event.specs.Fault.{fault_at}
 use Rattle.blog_event.specs.File.{AreBytes, Placed, magic, file_text, placed_from, end_of, read}
-use Rattle.blog_event.specs.Format.{algorithm, description_fault, format_fault}
+use Rattle.blog_event.specs.Format.{algorithm, format_fault}
 use Rattle.blog_event.specs.Opening.{opening_fault}
 use Rattle.blog_event.proofs.Framing.{event-again, read-again, texts-length}
 use Rattle.blog_event.proofs.Openings.{opening-format}
@@ -21,7 +21,7 @@ use Rattle.blog_sum.proofs.Texts.{format-size}
 use Rattle.blog_source.specs.declared.reading.Reading.{Reading}
 use Rattle.blog_source.specs.Found.{begins_right, check_of, found, found_with, is_wrong_sum, source_refusal}
 use Rattle.blog_source.specs.Handed.{bare, handed, handed_events, handed_format, handed_log}
-use Rattle.blog_source.proofs.Accepted.{IsAccepted, is-accepted, IsRead, is-read, later_of}
+use Rattle.blog_source.proofs.Accepted.{IsAccepted, is-accepted, is-read, later_of}
 use Rattle.blog_source.proofs.Moving.{has-room}
 
 -- ---- the events behind the format description

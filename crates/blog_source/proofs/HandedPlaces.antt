@@ -1,8 +1,9 @@
 -- The places of the events that are handed out, and the positions of these places.
-use Rattle.std.proofs.Common.{◌≡◌, ℕ, ◌+◌, ◌≤◌, Bool, true, false, List, [], ◌∷◌, ◌++◌, length, take, drop, Option, Some, None, refl, sym, subst, ap, ◌∙◌, arith, append_assoc, length-append}
+use Rattle.std.proofs.Common.{◌≡◌, ℕ, ◌+◌, ◌≤◌, false, List, [], ◌∷◌, ◌++◌, length, take, drop, Some, None, refl, sym, subst, ap, ◌∙◌, arith, append_assoc, length-append}
 use Rattle.std.specs.Prelude.{map, nat_lt}
 use Rattle.std.specs.List.{flat_map, AllByRecursion}
 use Rattle.std.proofs.lemmas.Bool.Decides.{nat_tests}
+use Rattle.std.proofs.lemmas.List.{append-nil}
 use Rattle.std.proofs.lemmas.Slice.Eq.{bytes_eq-Decides}
 use Rattle.blog_event.specs.Event.{Event, event_at, event_size, event_text}
 use Rattle.blog_event.specs.File.{AreBytes, Placed, magic, placed_from, events_from, read}
@@ -13,11 +14,11 @@ use Rattle.blog_source.specs.Found.{Found, found, found_of, source_refusal}
 use Rattle.blog_source.specs.Handed.{handed, handed_format, handed_log}
 use Rattle.blog_source.specs.Places.{first_of, place_of, position_of}
 use Rattle.blog_source.specs.Laws.{HandedOut, handed_from, handed_out, placed_of}
-use Rattle.blog_source.proofs.Accepted.{IsAccepted, later_of}
+use Rattle.blog_source.proofs.Accepted.{IsAccepted, is-accepted, is-read, later_of}
 use Rattle.blog_source.proofs.HandedLog.{IsHanded, is-handed, handed-marked, handed-stands, handed-text}
 use Rattle.blog_source.proofs.Opened.{read-is}
 use Rattle.blog_source.proofs.Placing.{position-first}
-use Rattle.blog_source.proofs.Standing.{IsAtPlace, all-both, all-more, all-unmapped, events-stand, first_at, from-are, from-at-place, from-first, kept-rise}
+use Rattle.blog_source.proofs.Standing.{IsAtPlace, all-both, all-more, all-unmapped, events-stand, first_at, from-are, from-at-place, from-each, from-first, kept-all, kept-rise}
 use Rattle.blog_source.proofs.WholeReading.{found-is}
 
 -- ---- where the event behind the format description begins, in both logs
@@ -73,6 +74,21 @@ handed_are how bytes are fine =
     ∙ ap (λ (es : List Event). drop 1 (placed_from 4 es)) (sym (read-again format is.later is.events))
     ∙ ap (λ (text : List ℕ). drop 1 (placed_from 4 (read text None))) (sym (handed-text how bytes is))
 
+-- ---- the events of the server's log for which they stand
+
+pub handed_sources : (how : Reading) (bytes : List ℕ) → AreBytes bytes → source_refusal bytes ≡ None
+    → AllByRecursion (λ h. event_at (drop h.source.pos bytes) ≡ Some h.source.event) (handed_out how bytes)
+unfolding kept_of
+handed_sources how bytes are fine =
+    let log : IsAccepted bytes = is-accepted bytes fine in
+    let reads = is-read bytes how.stop log are in
+    let at : ℕ = 4 + event_size log.format in
+    let es : List Event = later_of bytes how.stop log in
+    let P : Placed → Type 0 = λ p. event_at (drop p.pos bytes) ≡ Some p.event in
+    let stand : AllByRecursion P (placed_from 4 (log.format ∷ es)) = events-stand bytes magic reads.begins.0 4 (log.format ∷ es) reads.begins.1 refl reads.events in
+    subst (λ (hs : List HandedOut). AllByRecursion (λ h. P h.source) hs) (sym (out-is how bytes log))
+    (from-each P (has_sums bytes) at (kept_of how bytes log) (kept-all P how (has_sums bytes) (length bytes) at (placed_from at es) stand.1))
+
 -- ---- the place of an event
 
 place-is : (log : List ℕ) (end at : ℕ) (e : Event) → first_of log ≤ at → event_at (drop at log) ≡ Some e → place_of log end at ≡ e.log_pos
@@ -92,9 +108,11 @@ handed_places how bytes are fine =
     let own = text-length format in
     let size = is.format.size in
     let parts = length-append magic (event_text format) in
-    let whole : log ≡ (magic ++ event_text format) ++ flat_map event_text is.later = handed-text how bytes is ∙ sym (append_assoc magic (event_text format) (flat_map event_text is.later)) in
+    let whole : log ≡ (magic ++ event_text format) ++ (flat_map event_text is.later ++ []) =
+    handed-text how bytes is ∙ sym (append_assoc magic (event_text format) (flat_map event_text is.later))
+    ∙ ap (λ (texts : List ℕ). (magic ++ event_text format) ++ texts) (sym (append-nil (flat_map event_text is.later))) in
     let stand : AllByRecursion (λ p. event_at (drop p.pos log) ≡ Some p.event) (placed_from at is.later) =
-    events-stand log (magic ++ event_text format) at is.later whole (omega arith) is.events.1 in
+    events-stand log (magic ++ event_text format) [] at is.later whole (omega arith) is.events.1 in
     let same : placed_from at is.later ≡ map placed_of hs = ap (placed_from at) (later-is how bytes is) ∙ sym (from-are (has_sums bytes) at ps) in
     let stands : AllByRecursion (λ h. event_at (drop h.at log) ≡ Some h.event) hs =
     all-unmapped (λ p. event_at (drop p.pos log) ≡ Some p.event) placed_of hs (subst (λ (qs : List Placed). AllByRecursion (λ p. event_at (drop p.pos log) ≡ Some p.event) qs) same stand) in

@@ -1,5 +1,5 @@
 -- Where the events stand that are handed out, and which one is found first of those at a place or behind it.
-use Rattle.std.proofs.Common.{◌≡◌, ℕ, ◌+◌, ◌≤◌, ◌<◌, Bool, true, false, List, [], ◌∷◌, ◌++◌, length, take, drop, Option, Some, None, refl, sym, ap, ◌∙◌, arith, append_assoc, length-append}
+use Rattle.std.proofs.Common.{◌≡◌, ℕ, ◌+◌, ◌≤◌, ◌<◌, Bool, true, false, List, [], ◌∷◌, ◌++◌, length, drop, Option, Some, None, refl, sym, ap, ◌∙◌, arith, append_assoc, length-append}
 use Rattle.std.specs.Prelude.{⊤, ◌&&◌, find, map, nat_le}
 use Rattle.std.specs.List.{flat_map, AllByRecursion}
 use Rattle.std.specs.Option.{option_map_or}
@@ -42,17 +42,18 @@ placed-append at [] more = refl
 placed-append at (e ∷ es) more = ap (λ (ps : List Placed). record { pos = at; event = e } ∷ ps) (placed-append (at + event_size e) es more)
 
 -- each stands where the others end
-pub events-stand : (log front : List ℕ) (at : ℕ) (es : List Event) → log ≡ front ++ flat_map event_text es → length front ≡ at → AllByRecursion IsEvent es
+pub events-stand : (log front rest : List ℕ) (at : ℕ) (es : List Event) → log ≡ front ++ (flat_map event_text es ++ rest) → length front ≡ at → AllByRecursion IsEvent es
     → AllByRecursion (λ p. event_at (drop p.pos log) ≡ Some p.event) (placed_from at es)
-events-stand log front at [] is long events = tt
-events-stand log front at (e ∷ es) is long events =
-    let rest : List ℕ = flat_map event_text es in
-    let behind : drop at log ≡ event_text e ++ rest = ap (drop at) is ∙ drop_at front (event_text e ++ rest) at long in
-    let here : event_at (drop at log) ≡ Some e = ap event_at behind ∙ event-again e rest events.0 in
-    let whole : log ≡ (front ++ event_text e) ++ rest = is ∙ sym (append_assoc front (event_text e) rest) in
+events-stand log front rest at [] is long events = tt
+events-stand log front rest at (e ∷ es) is long events =
+    let later : List ℕ = flat_map event_text es ++ rest in
+    let joined : log ≡ front ++ (event_text e ++ later) = is ∙ ap (λ (text : List ℕ). front ++ text) (append_assoc (event_text e) (flat_map event_text es) rest) in
+    let behind : drop at log ≡ event_text e ++ later = ap (drop at) joined ∙ drop_at front (event_text e ++ later) at long in
+    let here : event_at (drop at log) ≡ Some e = ap event_at behind ∙ event-again e later events.0 in
+    let whole : log ≡ (front ++ event_text e) ++ later = joined ∙ sym (append_assoc front (event_text e) later) in
     let own = text-length e in
     let both = length-append front (event_text e) in
-    (here, events-stand log (front ++ event_text e) (at + event_size e) es whole (omega arith) events.1)
+    (here, events-stand log (front ++ event_text e) rest (at + event_size e) es whole (omega arith) events.1)
 
 -- ---- the events that are handed out
 
@@ -69,6 +70,19 @@ from-are sums at (p ∷ ps) =
     for-are p at (placed_from at (handed sums p)) (handed_from sums next ps)
     ∙ ap (λ (qs : List Placed). placed_from at (handed sums p) ++ qs) (from-are sums next ps)
     ∙ sym (placed-append at (handed sums p) (flat_map (handed sums) ps))
+
+-- what holds of an event holds of all that are handed out for it
+for-each : (P : Placed → ℕ → Type 0) (p : Placed) (first : ℕ) (qs : List Placed) → P p first
+    → AllByRecursion (λ h. P h.source h.first) (map {A = Placed} {B = HandedOut} (λ q. record { event = q.event; at = q.pos; source = p; first = first }) qs)
+for-each P p first [] holds = tt
+for-each P p first (q ∷ qs) holds = (holds, for-each P p first qs holds)
+
+pub from-each : (P : Placed → Type 0) (sums : Bool) (at : ℕ) (ps : List Placed) → AllByRecursion P ps → AllByRecursion (λ h. P h.source) (handed_from sums at ps)
+from-each P sums at [] all = tt
+from-each P sums at (p ∷ ps) all =
+    let next : ℕ = end_of at (handed sums p) in
+    all-append (λ h. P h.source) (handed_for p at (handed sums p)) (handed_from sums next ps) (for-each (λ p first. P p) p at (placed_from at (handed sums p)) all.0)
+    (from-each P sums next ps all.1)
 
 -- events at one place
 abbrev at_place : ℕ → List Event → List Event
@@ -114,17 +128,11 @@ first-here end place at e es more =
     let test : nat_le place place ≡ true = grind (arith, nat_tests) in
     rw test refl
 
--- what holds of their common place and first position holds of all that are handed out for an event
-for-each : (P : ℕ → ℕ → Type 0) (p : Placed) (first : ℕ) (qs : List Placed) → P p.pos first
-    → AllByRecursion (λ h. P h.source.pos h.first) (map {A = Placed} {B = HandedOut} (λ q. record { event = q.event; at = q.pos; source = p; first = first }) qs)
-for-each P p first [] holds = tt
-for-each P p first (q ∷ qs) holds = (holds, for-each P p first qs holds)
-
 for-first : (position : ℕ → ℕ) (end at : ℕ) (p : Placed) (es more : List Event) → position p.pos ≡ first_at end p.pos at (at_place p.pos es ++ more)
     → AllByRecursion (λ h. position h.source.pos ≡ h.first) (handed_for p at (at_place p.pos es))
 for-first position end at p [] more is = tt
 for-first position end at p (e ∷ es) more is =
-    for-each (λ place first. position place ≡ first) p at (placed_from at (at_place p.pos (e ∷ es))) (is ∙ first-here end p.pos at e es more)
+    for-each (λ p first. position p.pos ≡ first) p at (placed_from at (at_place p.pos (e ∷ es))) (is ∙ first-here end p.pos at e es more)
 
 -- events of a log, each behind the one before
 pub Rise : ℕ → List Placed → Type 0
@@ -166,4 +174,18 @@ kept-rise how sums len low at (e ∷ es) past = by_check (check_of sums p) passe
         → Rise low (found_with check passed p (found how sums len (at + event_size e) (placed_from (at + event_size e) es))).kept
     by_check None passed later = (past, later)
     by_check (Some fault) true later = rise-lower low (1 + at) (found how sums len (at + event_size e) (placed_from (at + event_size e) es)).kept (omega arith) later
+    by_check (Some fault) false later = tt
+
+-- and what holds of the events that are read holds of them
+pub kept-all : (P : Placed → Type 0) (how : Reading) (sums : Bool) (len at : ℕ) (ps : List Placed) → AllByRecursion P ps → AllByRecursion P (found how sums len at ps).kept
+kept-all P how sums len at [] all = tt
+kept-all P how sums len at (p ∷ ps) all = by_check (check_of sums p) passed (kept-all P how sums len (p.pos + event_size p.event) ps all.1)
+  where
+    passed : Bool
+    passed = how.skip_damaged && (is_wrong_sum (check_of sums p) && begins_right ps)
+
+    by_check : (check : Option SumFault) (passed : Bool) → AllByRecursion P (found how sums len (p.pos + event_size p.event) ps).kept
+        → AllByRecursion P (found_with check passed p (found how sums len (p.pos + event_size p.event) ps)).kept
+    by_check None passed later = (all.0, later)
+    by_check (Some fault) true later = later
     by_check (Some fault) false later = tt

@@ -1,5 +1,5 @@
 -- A log without sums is handed out with its events as they are, each where it was.
-use Rattle.std.proofs.Common.{◌≡◌, ℕ, ◌+◌, Bool, false, List, [], ◌∷◌, length, drop, Some, refl, sym, subst, ap, ◌∙◌}
+use Rattle.std.proofs.Common.{◌≡◌, ℕ, ◌+◌, Bool, false, List, [], ◌∷◌, length, refl, sym, subst, ap, ◌∙◌}
 use Rattle.std.specs.Prelude.{map, None}
 use Rattle.std.specs.List.{flat_map, AllByRecursion}
 use Rattle.blog_event.specs.Event.{Event, event_size, unplaced}

@@ -2,7 +2,7 @@
 
 ghost use Rattle.std.specs.Prelude.{◌≡◌, ◌≤◌, List, ℕ, drop, false, length, map, Some, None};
 ghost use Rattle.std.specs.List.{AllByRecursion};
-ghost use Rattle.blog_event.specs.Event.{unplaced};
+ghost use Rattle.blog_event.specs.Event.{event_at, unplaced};
 ghost use Rattle.blog_event.specs.File.{AreBytes, placed_from, read};
 ghost use Rattle.blog_event.specs.Opening.{opening_fault};
 ghost use Rattle.blog_sum.specs.declared.fault.SumFault.{SumFault};
@@ -37,10 +37,12 @@ pub fn whole_reading_finds_the_sums_faults()
 
 /// An event that is handed out begins at a position. The place of that position is where its event begins in the server's log. The
 /// position of that place is where the first event begins that is handed out for the same event. The call does nothing.
-#[tactic(auto, using(crate::proofs::HandedPlaces::handed_are, crate::proofs::HandedPlaces::handed_places, crate::proofs::HandedPlaces::handed_positions, crate::proofs::HandedPlaces::handed_firsts))]
+#[tactic(auto, using(crate::proofs::HandedPlaces::handed_are, crate::proofs::HandedPlaces::handed_sources, crate::proofs::HandedPlaces::handed_places, crate::proofs::HandedPlaces::handed_positions, crate::proofs::HandedPlaces::handed_firsts))]
 pub fn places_are_of_the_source()
     ensures are { (how : Reading) (bytes : List ℕ) → AreBytes bytes → source_refusal bytes ≡ None
         → map placed_of (handed_out how bytes) ≡ drop 1 (placed_from 4 (read (handed_log how bytes) None)) }
+    ensures source { (how : Reading) (bytes : List ℕ) → AreBytes bytes → source_refusal bytes ≡ None
+        → AllByRecursion (λ h. event_at (drop h.source.pos bytes) ≡ Some h.source.event) (handed_out how bytes) }
     ensures place { (how : Reading) (bytes : List ℕ) → AreBytes bytes → source_refusal bytes ≡ None
         → AllByRecursion (λ h. place_of (handed_log how bytes) (found_of how bytes).end h.at ≡ h.source.pos) (handed_out how bytes) }
     ensures position { (how : Reading) (bytes : List ℕ) → AreBytes bytes → source_refusal bytes ≡ None
