@@ -5,10 +5,10 @@ use Rattle.std.specs.Result.{is_ok, result_err}
 use Rattle.std.specs.Option.{option_map_or}
 use Rattle.std.proofs.lemmas.Bool.Decides.{nat_tests}
 use Rattle.std.proofs.lemmas.List.{length-drop}
-use Rattle.std.proofs.lemmas.Option.{none-some, same_Some}
+use Rattle.std.proofs.lemmas.Option.{same_Some}
 use Rattle.blog_event.specs.declared.fault.Fault.TheVariants.{CutEvent}
 use Rattle.blog_event.specs.Event.{Event, event_at, event_size}
-use Rattle.blog_event.specs.File.{Placed, placed_from, events_from, is_below}
+use Rattle.blog_event.specs.File.{placed_from, events_from, is_below}
 use Rattle.blog_event.proofs.Headers.{event-at-short}
 use Rattle.blog_event.specs.code.Going.{AreRead}
 use Rattle.blog_event.proofs.Going.{are-read, are-read-only, left-more, left-none}

@@ -1,10 +1,10 @@
 -- What is found of a log, and what is handed out for it, behind its front.
-use Rattle.std.proofs.Common.{◌≡◌, ℕ, ◌+◌, false, List, [], ◌∷◌, ◌++◌, length, take, drop, Some, refl, sym, ap, ◌∙◌, append_assoc, arith}
+use Rattle.std.proofs.Common.{◌≡◌, ℕ, ◌+◌, false, List, [], ◌∷◌, ◌++◌, length, take, drop, Some, sym, ap, ◌∙◌, append_assoc, arith}
 use Rattle.std.specs.Prelude.{Option}
 use Rattle.std.specs.List.{flat_map}
 use Rattle.std.proofs.lemmas.List.{append-nil, drop_all, drop-drop, take_all}
 use Rattle.blog_event.specs.Event.{Event, event_at, event_size, event_text}
-use Rattle.blog_event.specs.File.{Placed, magic, file_text, events_from, placed_from, read}
+use Rattle.blog_event.specs.File.{magic, file_text, events_from, placed_from, read}
 use Rattle.blog_event.proofs.Framing.{read-first}
 use Rattle.blog_sum.specs.Sums.{has_sums}
 use Rattle.blog_source.specs.declared.front.Front.{Front}

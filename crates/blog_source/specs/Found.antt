@@ -1,6 +1,5 @@
 -- Which events of a server's log are read, and why its reading ends (MySQL Internals manual, "Event checksum").
 use Rattle.std.specs.Prelude.{ℕ, ◌+◌, ◌==◌, ◌&&◌, ◌||◌, not, is_none, nat_le, Bool, true, false, if◌then◌else◌, List, [], ◌∷◌, length, drop, Option, Some, None, option_map}
-use Rattle.std.specs.Option.{option_map_or}
 use Rattle.blog_event.specs.declared.fault.Fault.TheVariants.{CutEvent}
 use Rattle.blog_event.specs.Event.{Event, event_size, event_at}
 use Rattle.blog_event.specs.Fault.{first_failing}

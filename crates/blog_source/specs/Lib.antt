@@ -1,4 +1,5 @@
 pub mod Found
 pub mod Handed
 pub mod Places
+pub mod Laws
 pub mod code

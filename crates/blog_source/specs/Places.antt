@@ -1,10 +1,10 @@
 -- Places: where in a server's log an event of the log that is handed out for it stands, and the way back. Both logs have the
 -- same bytes before the format description ends, but for those that say that there are no sums. So positions up to there are
 -- the same in both.
-use Rattle.std.specs.Prelude.{ℕ, ◌+◌, nat_lt, nat_le, if◌then◌else◌, List, length, drop, find, Option, Some, None}
+use Rattle.std.specs.Prelude.{ℕ, ◌+◌, nat_lt, nat_le, if◌then◌else◌, List, length, drop, find, None}
 use Rattle.std.specs.Option.{option_map_or}
 use Rattle.blog_event.specs.Event.{event_size, event_at}
-use Rattle.blog_event.specs.File.{Placed, placed_from, events_from}
+use Rattle.blog_event.specs.File.{placed_from, events_from}
 
 -- where the event behind the format description begins
 abbrev pub first_of : List ℕ → ℕ

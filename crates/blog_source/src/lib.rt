@@ -3,9 +3,14 @@
 #![tactic(auto)]
 
 mod front;
+mod laws;
 mod reading;
 mod source;
 mod walk;
 
+pub use laws::{
+    handed_log_has_the_events, handed_logs_open, places_are_of_the_source,
+    unsummed_logs_keep_their_places, whole_reading_finds_the_sums_faults,
+};
 pub use reading::Reading;
 pub use source::Source;

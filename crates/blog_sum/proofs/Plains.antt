@@ -38,11 +38,11 @@ none-last : {A : Type 0} (checks : List (Option A)) (last : Option A) → first_
 none-last [] last none = (none-first last [] none).0
 none-last (check ∷ checks) last none = none-last checks last (none-first check (checks ++ last ∷ []) none).1
 
-none-unless : (test : Bool) (fault : SumFault) → unless test fault ≡ None → test ≡ true
+pub none-unless : (test : Bool) (fault : SumFault) → unless test fault ≡ None → test ≡ true
 none-unless true fault none = refl
 none-unless false fault none = absurd (none-some fault (sym none))
 
-none-front : (front : Option Fault) → option_map Log front ≡ None → front ≡ None
+pub none-front : (front : Option Fault) → option_map Log front ≡ None → front ≡ None
 none-front None none = refl
 none-front (Some fault) none = absurd (none-some (Log fault) (sym none))
 
@@ -158,7 +158,7 @@ pub record HasPlain (bytes : List ℕ) : Type 0 where
   pub short : length bytes < 2 ^ 32
 
 -- the plain format description is an event
-format-event : (format : Event) → 5 ≤ length format.body → IsEvent format → IsEvent (plain_format format)
+pub format-event : (format : Event) → 5 ≤ length format.body → IsEvent format → IsEvent (plain_format format)
 format-event format room event =
     let size = format-size (crc32_of (take (event_size format - 4) (event_text (not_in_use (format_with 0 format))))) format room in
     let fits = event.size in
@@ -274,7 +274,7 @@ plain_no_longer bytes are fine =
     (λ none. omega (arith, ap length (unsummed-same bytes none)))
 
 -- a format description without sums is accepted
-format-accepted : (format : Event) → description_fault format ≡ None → algorithm format.body ≡ 0 → format_fault format ≡ None
+pub format-accepted : (format : Event) → description_fault format ≡ None → algorithm format.body ≡ 0 → format_fault format ≡ None
 format-accepted format accepted none = format-by-algorithm format (ap (fault_at 4) accepted) ∙ (rw none refl)
 
 pub plain_opens : (bytes : List ℕ) → AreBytes bytes → sum_fault bytes ≡ None → opening_fault (plain_of bytes) ≡ None

@@ -1,8 +1,6 @@
 -- Each event that is kept is handed out; the reading ends where none is left.
-use Rattle.std.proofs.Common.{◌≡◌, ◌+◌, ◌≤◌, ◌∙◌, sym, ap, arith, inl, inr, length, drop}
-use Rattle.std.proofs.lemmas.Bool.Decides.{nat_tests}
+use Rattle.std.proofs.Common.{◌+◌, ◌∙◌, sym, ap, arith, inl, inr}
 use Rattle.blog_source.specs.Found.{Found}
-use Rattle.blog_source.specs.code.Walk.{found_left}
 use Rattle.blog_source.proofs.Left.{found-whole}
 use Rattle.blog_source.proofs.Handing.{ended-text, kept-found, kept-put}
 use Rattle.blog_source.proofs.Moving.{moved-less}

@@ -1,5 +1,5 @@
 -- The body is moved first, then the header is put in front of it.
-use Rattle.std.proofs.Common.{◌+◌, ◌-◌, ◌++◌, ◌∙◌, ap, arith, take, drop, List, ℕ}
+use Rattle.std.proofs.Common.{◌+◌, ◌++◌, ◌∙◌, ap, arith, take, drop, List, ℕ}
 use Rattle.blog_source.proofs.Moving.{moved-front, moved-behind, part-long}
 use Rattle.blog_source.proofs.walk.move_event.Goals as goal
 

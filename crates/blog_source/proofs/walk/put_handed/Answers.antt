@@ -1,5 +1,5 @@
 -- The size and log_pos are by what is asked for.
-use Rattle.std.proofs.Common.{◌≡◌, ◌+◌, ◌-◌, ◌≤◌, ℕ, ap, arith, length, ◌∙◌}
+use Rattle.std.proofs.Common.{◌≡◌, ◌+◌, ◌≤◌, ℕ, ap, arith, length, ◌∙◌}
 use Rattle.std.specs.Prelude.{if◌then◌else◌}
 use Rattle.blog_source.specs.code.Walk.{moved_size}
 use Rattle.blog_source.proofs.Moving.{drops-more, put-front, size-bounds}

@@ -1,7 +1,7 @@
 -- An event is passed over where three tests hold, else the reading ends there.
 use Rattle.std.proofs.Common.{◌≡◌, ℕ, ◌+◌, ◌∙◌, Some, sym, ap, drop, length}
 use Rattle.std.proofs.lemmas.Option.{same_Some}
-use Rattle.blog_event.specs.Event.{Event, event_of, event_size}
+use Rattle.blog_event.specs.Event.{event_of, event_size}
 use Rattle.blog_source.specs.Found.{begins_right, is_wrong_sum}
 use Rattle.blog_source.specs.code.Walk.{left}
 use Rattle.blog_source.proofs.Left.{first-fails, found-passed, found-refused, second-fails, third-fails}

@@ -1,0 +1,177 @@
+-- The log that is handed out: its events, its length, and that it is a log.
+use Rattle.std.proofs.Common.{◌≡◌, ℕ, ◌+◌, ◌-◌, ◌^◌, ◌≤◌, ◌<◌, Bool, true, false, List, [], ◌∷◌, length, take, drop, Option, Some, None, refl, sym, subst, ap, ◌∙◌, arith}
+use Rattle.std.specs.Prelude.{◌&&◌, bytes_eq}
+use Rattle.std.specs.List.{flat_map, AllByRecursion}
+use Rattle.std.proofs.lemmas.Bool.Decides.{nat_tests}
+use Rattle.std.proofs.lemmas.List.{length-take-le}
+use borrow.Author.Tests.{eqb-true}
+use Rattle.blog_event.specs.Event.{Event, event_size, event_text, event_at, IsEvent}
+use Rattle.blog_event.specs.Fault.{fault_at}
+use Rattle.blog_event.specs.File.{AreBytes, Placed, magic, file_text, placed_from, end_of, read}
+use Rattle.blog_event.specs.Format.{algorithm, format_fault}
+use Rattle.blog_event.specs.Opening.{opening_fault}
+use Rattle.blog_event.proofs.Framing.{event-again, read-again, texts-length}
+use Rattle.blog_event.proofs.Openings.{opening-format}
+use Rattle.blog_sum.specs.declared.fault.SumFault.{SumFault}
+use Rattle.blog_sum.specs.Sums.{algorithm_of, has_sums}
+use Rattle.blog_sum.specs.Plain.{plain_format}
+use Rattle.blog_sum.proofs.Formats.{described-long, plain-described, plain-none}
+use Rattle.blog_sum.proofs.Plains.{format-accepted, format-event, summed-algorithm}
+use Rattle.blog_sum.proofs.Texts.{format-size}
+use Rattle.blog_source.specs.declared.reading.Reading.{Reading}
+use Rattle.blog_source.specs.Found.{begins_right, check_of, found, found_with, is_wrong_sum, source_refusal}
+use Rattle.blog_source.specs.Handed.{bare, handed, handed_events, handed_format, handed_log}
+use Rattle.blog_source.proofs.Accepted.{IsAccepted, is-accepted, is-read, later_of}
+use Rattle.blog_source.proofs.Moving.{has-room}
+
+-- ---- the events behind the format description
+
+-- they end behind where they begin
+pub end-past : (pos : ℕ) (es : List Event) → pos ≤ end_of pos es
+end-past pos [] = omega arith
+end-past pos (e ∷ es) = let later = end-past (pos + event_size e) es in omega arith
+
+-- an event without its sum, where it has one, with another place
+bare-event : (sums : Bool) (pos : ℕ) (e : Event) → pos < 2 ^ 32 → IsEvent e → (sums ≡ true → 23 ≤ event_size e)
+    → IsEvent (record (bare sums e) { log_pos = pos }) × (event_size (bare sums e) ≤ event_size e)
+bare-event false pos e short event room = (
+  record { timestamp = event.timestamp; kind = event.kind; server_id = event.server_id; size = event.size; log_pos = short; flags = event.flags },
+  omega arith,
+)
+bare-event true pos e short event room =
+    let enough = room refl in
+    let body = length-take-le (length e.body - 4) e.body (omega arith) in
+    let size = event.size in (
+      record { timestamp = event.timestamp; kind = event.kind; server_id = event.server_id; size = omega arith; log_pos = short; flags = event.flags },
+      omega arith,
+    )
+
+-- events are handed out from a position on, and end no later than another
+abbrev Fit : ℕ → ℕ → List Event → Type 0
+Fit pos end es = AllByRecursion IsEvent es × (end_of pos es ≤ end)
+
+-- what is handed out for events fits where they are, and before it
+handed-fit : (how : Reading) (sums : Bool) (len pos at : ℕ) (es : List Event) → pos ≤ at → AllByRecursion IsEvent es → end_of at es < 2 ^ 32
+    → Fit pos (end_of at es) (flat_map (handed sums) (found how sums len at (placed_from at es)).kept)
+handed-fit how sums len pos at [] before events short = (tt, before)
+handed-fit how sums len pos at (e ∷ es) before events short =
+    by_check (check_of sums p) passed refl (handed-fit how sums len (pos + event_size (bare sums e)) (at + event_size e) es) (handed-fit how sums len pos (at + event_size e) es (omega arith) events.1 short)
+  where
+    p : Placed
+    p = record { pos = at; event = e }
+
+    passed : Bool
+    passed = how.skip_damaged && (is_wrong_sum (check_of sums p) && begins_right (placed_from (at + event_size e) es))
+
+    by_check : (check : Option SumFault) (passed : Bool) → check_of sums p ≡ check
+        → (pos + event_size (bare sums e) ≤ at + event_size e → AllByRecursion IsEvent es → end_of (at + event_size e) es < 2 ^ 32
+        → Fit (pos + event_size (bare sums e)) (end_of (at + event_size e) es) (flat_map (handed sums) (found how sums len (at + event_size e) (placed_from (at + event_size e) es)).kept))
+        → Fit pos (end_of (at + event_size e) es) (flat_map (handed sums) (found how sums len (at + event_size e) (placed_from (at + event_size e) es)).kept)
+        → Fit pos (end_of (at + event_size e) es)
+        (flat_map (handed sums) (found_with check passed p (found how sums len (at + event_size e) (placed_from (at + event_size e) es))).kept)
+    by_check None passed fine kept skipped =
+        let past = end-past (at + event_size e) es in
+        let own = bare-event sums at e (omega arith) events.0 (has-room sums p fine) in
+        let size = own.1 in
+        let later = kept (omega arith) events.1 short in
+        ((own.0, later.0), later.1)
+    by_check (Some fault) true fails kept skipped = skipped
+    by_check (Some fault) false fails kept skipped = let past = end-past (at + event_size e) es in (tt, omega arith)
+
+-- ---- the format description
+
+pub record HasFormat (sums : Bool) (format : Event) : Type 0 where
+  pub event : IsEvent (handed_format sums format)
+  pub size : event_size (handed_format sums format) ≡ event_size format
+  pub accepted : format_fault (handed_format sums format) ≡ None
+
+has-format : (bytes : List ℕ) (log : IsAccepted bytes) (sums : Bool) → has_sums bytes ≡ sums → IsEvent log.format → HasFormat sums log.format
+has-format bytes log true is event =
+    let long = described-long log.format log.accepted in
+    let one : algorithm log.format.body ≡ 1 = sym (summed-algorithm bytes log.format log.stands) ∙ eqb-true (algorithm_of bytes) 1 is in
+    record {
+      event = format-event log.format (omega arith) event;
+      size = format-size _ log.format (omega arith);
+      accepted = format-accepted (plain_format log.format) (plain-described log.format log.accepted one) (plain-none log.format (omega arith));
+    }
+has-format bytes log false is event =
+    let known = log.known in
+    let none : algorithm_of bytes ≡ 0 = grind (arith, nat_tests) in
+    record {
+      event = event;
+      size = refl;
+      accepted = format-accepted log.format log.accepted (sym (summed-algorithm bytes log.format log.stands) ∙ none);
+    }
+
+-- ---- the whole log
+
+-- what is known of it
+pub record IsHanded (how : Reading) (bytes : List ℕ) : Type 0 where
+  pub log : IsAccepted bytes
+  pub format : HasFormat (has_sums bytes) log.format
+  pub later : List Event
+  pub later_is : later ≡ flat_map (handed (has_sums bytes)) (found how (has_sums bytes) (length bytes) (4 + event_size log.format) (placed_from (4 + event_size log.format) (later_of bytes how.stop log))).kept
+  pub are : handed_events how (has_sums bytes) (length bytes) (read bytes how.stop) ≡ handed_format (has_sums bytes) log.format ∷ later
+  pub events : AllByRecursion IsEvent (handed_format (has_sums bytes) log.format ∷ later)
+  pub ends : end_of 4 (handed_format (has_sums bytes) log.format ∷ later) ≤ length bytes
+
+pub is-handed : (how : Reading) (bytes : List ℕ) → AreBytes bytes → source_refusal bytes ≡ None → IsHanded how bytes
+is-handed how bytes are fine =
+    let log = is-accepted bytes fine in
+    let reads = is-read bytes how.stop log are in
+    let short = log.short in
+    let within = reads.ends in
+    let at : ℕ = 4 + event_size log.format in
+    let es : List Event = later_of bytes how.stop log in
+    let format = has-format bytes log (has_sums bytes) refl reads.events.0 in
+    let fit = handed-fit how (has_sums bytes) (length bytes) at at es (omega arith) reads.events.1 (omega arith) in
+    let last : List Event = flat_map (handed (has_sums bytes)) (found how (has_sums bytes) (length bytes) at (placed_from at es)).kept in
+    let ends : end_of at last ≤ length bytes = omega (arith, fit.1) in
+    record {
+      log = log;
+      format = format;
+      later = last;
+      later_is = refl;
+      are = ap (handed_events how (has_sums bytes) (length bytes)) reads.is;
+      events = (format.event, fit.0);
+      ends = subst (λ (size : ℕ). end_of (4 + size) last ≤ length bytes) (sym format.size) ends;
+    }
+
+-- its text
+pub handed-text : (how : Reading) (bytes : List ℕ) (is : IsHanded how bytes) → handed_log how bytes ≡ file_text (handed_format (has_sums bytes) is.log.format ∷ is.later)
+unfolding handed_log
+handed-text how bytes is = ap file_text is.are
+
+-- it is as long as its events
+handed-length : (how : Reading) (bytes : List ℕ) (is : IsHanded how bytes) → length (handed_log how bytes) ≡ end_of 4 (handed_format (has_sums bytes) is.log.format ∷ is.later)
+handed-length how bytes is =
+    let es : List Event = handed_format (has_sums bytes) is.log.format ∷ is.later in
+    let texts = texts-length 4 es in
+    let long : length (file_text es) ≡ end_of 4 es = omega arith in
+    ap length (handed-text how bytes is) ∙ long
+
+-- its first event
+pub handed-stands : (how : Reading) (bytes : List ℕ) (is : IsHanded how bytes) → event_at (drop 4 (handed_log how bytes)) ≡ Some (handed_format (has_sums bytes) is.log.format)
+handed-stands how bytes is =
+    ap (λ (text : List ℕ). event_at (drop 4 text)) (handed-text how bytes is) ∙ event-again (handed_format (has_sums bytes) is.log.format) (flat_map event_text is.later) is.events.0
+
+pub handed-marked : (how : Reading) (bytes : List ℕ) (is : IsHanded how bytes) → bytes_eq (take 4 (handed_log how bytes)) magic ≡ true
+handed-marked how bytes is = ap (λ (text : List ℕ). bytes_eq (take 4 text) magic) (handed-text how bytes is)
+
+-- ---- the laws
+
+pub handed_no_longer : (how : Reading) (bytes : List ℕ) → AreBytes bytes → source_refusal bytes ≡ None → length (handed_log how bytes) ≤ length bytes
+handed_no_longer how bytes are fine = let is = is-handed how bytes are fine in let ends = is.ends in omega (arith, handed-length how bytes is)
+
+pub handed_opens : (how : Reading) (bytes : List ℕ) → AreBytes bytes → source_refusal bytes ≡ None → opening_fault (handed_log how bytes) ≡ None
+handed_opens how bytes are fine =
+    let is = is-handed how bytes are fine in
+    let short = is.log.short in
+    opening-format (handed_log how bytes) (handed_format (has_sums bytes) is.log.format) (omega (arith, handed_no_longer how bytes are fine)) (handed-marked how bytes is) (handed-stands how bytes is)
+    ∙ ap (fault_at 4) is.format.accepted
+
+pub handed_read_again : (how : Reading) (bytes : List ℕ) → AreBytes bytes → source_refusal bytes ≡ None
+    → read (handed_log how bytes) None ≡ handed_events how (has_sums bytes) (length bytes) (read bytes how.stop)
+handed_read_again how bytes are fine =
+    let is = is-handed how bytes are fine in
+    ap (λ (text : List ℕ). read text None) (handed-text how bytes is) ∙ read-again (handed_format (has_sums bytes) is.log.format) is.later is.events ∙ sym is.are

@@ -1,0 +1,49 @@
+-- A log without sums is handed out with its events as they are, each where it was.
+use Rattle.std.proofs.Common.{◌≡◌, ℕ, ◌+◌, Bool, false, List, [], ◌∷◌, length, refl, sym, subst, ap, ◌∙◌}
+use Rattle.std.specs.Prelude.{map, None}
+use Rattle.std.specs.List.{flat_map, AllByRecursion}
+use Rattle.blog_event.specs.Event.{Event, event_size, unplaced}
+use Rattle.blog_event.specs.File.{AreBytes, Placed, placed_from, read}
+use Rattle.blog_sum.specs.Sums.{has_sums}
+use Rattle.blog_source.specs.declared.reading.Reading.{Reading}
+use Rattle.blog_source.specs.Found.{found, source_refusal}
+use Rattle.blog_source.specs.Handed.{handed, handed_events, handed_log}
+use Rattle.blog_source.specs.Laws.{HandedOut, IsUnmoved, handed_from, handed_out}
+use Rattle.blog_source.proofs.Accepted.{IsAccepted, is-accepted, later_of}
+use Rattle.blog_source.proofs.HandedLog.{handed_read_again}
+use Rattle.blog_source.proofs.HandedPlaces.{kept_of, out-is}
+use Rattle.blog_source.proofs.Opened.{read-is}
+
+-- ---- the events behind the format description
+
+from-unmoved : (how : Reading) (len at : ℕ) (es : List Event) → AllByRecursion IsUnmoved (handed_from false at (found how false len at (placed_from at es)).kept)
+from-unmoved how len at [] = tt
+from-unmoved how len at (e ∷ es) = ((refl, refl), from-unmoved how len (at + event_size e) es)
+
+handed-unmoved : (how : Reading) (len at : ℕ) (es : List Event) → map unplaced (flat_map (handed false) (found how false len at (placed_from at es)).kept) ≡ map unplaced es
+handed-unmoved how len at [] = refl
+handed-unmoved how len at (e ∷ es) = ap (λ (es : List Event). unplaced e ∷ es) (handed-unmoved how len (at + event_size e) es)
+
+-- ---- the laws
+
+pub unsummed_unmoved : (how : Reading) (bytes : List ℕ) → source_refusal bytes ≡ None → has_sums bytes ≡ false → AllByRecursion IsUnmoved (handed_out how bytes)
+unfolding kept_of
+unsummed_unmoved how bytes fine none =
+    let log : IsAccepted bytes = is-accepted bytes fine in
+    let at : ℕ = 4 + event_size log.format in
+    let ps : Bool → List Placed = λ sums. (found how sums (length bytes) at (placed_from at (later_of bytes how.stop log))).kept in
+    let is : handed_out how bytes ≡ handed_from false at (ps false) = out-is how bytes log ∙ ap (λ (sums : Bool). handed_from sums at (ps sums)) none in
+    subst (λ (hs : List HandedOut). AllByRecursion IsUnmoved hs) (sym is) (from-unmoved how (length bytes) at (later_of bytes how.stop log))
+
+pub unsummed_events : (how : Reading) (bytes : List ℕ) → AreBytes bytes → source_refusal bytes ≡ None → has_sums bytes ≡ false
+    → map unplaced (read (handed_log how bytes) None) ≡ map unplaced (read bytes how.stop)
+unsummed_events how bytes are fine none =
+    let log : IsAccepted bytes = is-accepted bytes fine in
+    let at : ℕ = 4 + event_size log.format in
+    let es : List Event = later_of bytes how.stop log in
+    let reads : read bytes how.stop ≡ log.format ∷ es = read-is bytes how.stop log.format log.mark log.stands in
+    ap (map unplaced) (handed_read_again how bytes are fine)
+    ∙ ap (λ (sums : Bool). map unplaced (handed_events how sums (length bytes) (read bytes how.stop))) none
+    ∙ ap (λ (es : List Event). map unplaced (handed_events how false (length bytes) es)) reads
+    ∙ ap (λ (es : List Event). unplaced log.format ∷ es) (handed-unmoved how (length bytes) at es)
+    ∙ ap (map unplaced) (sym reads)
