@@ -24,6 +24,12 @@ mod rows_event_tests;
 #[cfg(test)]
 mod rows_tests;
 #[cfg(test)]
+mod source_fault_tests;
+#[cfg(test)]
+mod source_logs;
+#[cfg(test)]
+mod source_tests;
+#[cfg(test)]
 mod sum_tests;
 #[cfg(test)]
 mod table_map_tests;
