@@ -108,6 +108,15 @@ pub static SMALL: [(u32, u32, usize); 5] = [
     (244, 275, 232),
 ];
 
+/// Where the events of `INSERT_ONE_ROW` begin and end, which is the small log with neither checksums nor places.
+pub static ONE_ROW_EVENTS: [(u32, u32); 5] = [
+    (4, 120),
+    (120, 159),
+    (159, 196),
+    (196, 232),
+    (232, 259),
+];
+
 /// Where the events of `IN_USE` begin and end.
 pub static IN_USE_EVENTS: [(u32, u32); 29] = [
     (4, 127),

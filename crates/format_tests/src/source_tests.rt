@@ -1,55 +1,20 @@
 //! Logs of a server as sources: what is handed out for them, and the places of its events.
 
-use crate::bytes::{joined, part_of};
+use crate::bytes::part_of;
 use crate::plain_tests::EVENTS;
+use crate::source_calls::{check_read, opened, reached};
 use crate::source_logs::{
-    HANDED_INSERT, Handed, IN_USE_EVENTS, SUMMED_INSERT, handed_events, with_places,
+    HANDED_INSERT, Handed, IN_USE_EVENTS, ONE_ROW_EVENTS, SUMMED_INSERT, handed_events, with_places,
 };
-use blog_source::{Reading, Source};
-use blog_sum::SumFault;
+use blog_source::Reading;
 use sample_logs::small::{INSERT_ONE_ROW, OLD_SERVER, PLAIN, SUMMED};
 use sample_logs::summed::{CLOSED, CLOSED_PLAIN, IN_USE, IN_USE_PLAIN};
 use std::process::Abort;
 
-/// The source of a log.
-pub fn opened<R: AllocGlobal + Abort>(rt: &R, log: &[u8], how: Reading) -> Source {
-    Source::open(joined(rt, &[log]), how).expect(rt, "a source")
-}
-
-/// What a reading is to find: where it ends, why, and how many events it passes over.
-#[derive(Clone, Copy)]
-pub struct Found {
-    pub end: u32,
-    pub fault: Option<SumFault>,
-    pub damaged: u32,
-}
-
-/// A log is read so, and these bytes are handed out.
-pub fn check_read<R: AllocGlobal + Abort>(
-    rt: &R,
-    log: &[u8],
-    how: Reading,
-    handed: &[u8],
-    found: Found,
-) {
-    let source = opened(rt, log, how);
-    let fault = source.fault();
-    assert!(rt; fault == found.fault, "{fault:?} with {how:?}");
-    let end = source.end();
-    assert!(rt; end == found.end, "{end} with {how:?}");
-    let damaged = source.damaged();
-    assert!(rt; damaged == found.damaged, "{damaged} with {how:?}");
-    assert!(rt; source.bytes() == handed, "{fault:?} at {end} with {how:?}");
-}
-
 /// A log is read to its end, and these bytes are handed out.
 fn check_whole<R: AllocGlobal + Abort>(rt: &R, log: &[u8], handed: &[u8]) {
-    let found = Found {
-        end: log.len().min(u32::MAX as usize) as u32,
-        fault: None,
-        damaged: 0,
-    };
-    check_read(rt, log, Reading::ALL, handed, found);
+    let end = log.len().min(u32::MAX as usize) as u32;
+    check_read(rt, log, Reading::ALL, handed, reached(end));
 }
 
 /// Of this log, whose events lose so many bytes, these are handed out: as in the log without checksums, each with its place.
@@ -60,7 +25,11 @@ fn check_events<R: AllocGlobal + Abort>(rt: &R, log: &[u8], plain: &[u8], events
     for event in events {
         let end = event.end as usize;
         let found = part_of(rt, source.bytes(), before, end);
-        assert!(rt; found == part_of(rt, &wanted, before, end), "at {}", event.at);
+        assert!(rt;
+            found == part_of(rt, &wanted, before, end),
+            "at {}",
+            event.at
+        );
         before = end;
     }
     check_whole(rt, log, &wanted);
@@ -69,15 +38,22 @@ fn check_events<R: AllocGlobal + Abort>(rt: &R, log: &[u8], plain: &[u8], events
 #[test]
 fn samples_are_handed_out(rt: HostRuntime) {
     check_events(&rt, &CLOSED, &CLOSED_PLAIN, &handed_events(&rt, &EVENTS, 4));
-    check_events(&rt, &IN_USE, &IN_USE_PLAIN, &handed_events(&rt, &IN_USE_EVENTS, 4));
-    check_events(&rt, &SUMMED, &PLAIN, &handed_events(&rt, &[(4, 120), (120, 143)], 4));
+    check_events(
+        &rt,
+        &IN_USE,
+        &IN_USE_PLAIN,
+        &handed_events(&rt, &IN_USE_EVENTS, 4),
+    );
+    check_events(
+        &rt,
+        &SUMMED,
+        &PLAIN,
+        &handed_events(&rt, &[(4, 120), (120, 143)], 4),
+    );
     check_whole(&rt, &SUMMED_INSERT, &HANDED_INSERT);
 }
 
-/// Where the events of `INSERT_ONE_ROW` and of `OLD_SERVER` begin and end.
-static ONE_ROW_EVENTS: [(u32, u32); 5] =
-    [(4, 120), (120, 159), (159, 196), (196, 232), (232, 259)];
-
+/// Where the events of `OLD_SERVER` begin and end.
 static OLD_EVENTS: [(u32, u32); 5] = [(4, 107), (107, 146), (146, 183), (183, 217), (217, 244)];
 
 /// What is handed out for a log without checksums has its events, each where it was.
@@ -87,8 +63,20 @@ fn check_unsummed<R: AllocGlobal + Abort>(rt: &R, log: &[u8], events: &[(u32, u3
     check_places(rt, log, &events);
 }
 
+/// The same of a sample's copy without checksums, where the events of the sample begin and end here.
+fn check_copy<R: AllocGlobal + Abort>(rt: &R, plain: &[u8], events: &[(u32, u32)]) {
+    let mut copied = handed_events(rt, events, 4);
+    for event in &mut copied {
+        event.place = event.at;
+    }
+    check_events(rt, plain, plain, &copied);
+    check_places(rt, plain, &copied);
+}
+
 #[test]
 fn logs_without_sums_are_handed_out(rt: HostRuntime) {
+    check_copy(&rt, &CLOSED_PLAIN, &EVENTS);
+    check_copy(&rt, &IN_USE_PLAIN, &IN_USE_EVENTS);
     check_unsummed(&rt, &INSERT_ONE_ROW, &ONE_ROW_EVENTS);
     check_unsummed(&rt, &OLD_SERVER, &OLD_EVENTS);
     check_unsummed(&rt, &PLAIN, &[(4, 120), (120, 139)]);
@@ -119,7 +107,10 @@ fn check_between<R: AllocGlobal + Abort>(rt: &R, log: &[u8], events: &[(u32, u32
     for (start, end) in events.iter().skip(1) {
         let at = start.saturating_sub(before);
         before = before.saturating_add(4);
-        assert!(rt; source.place(at.saturating_add(1)) == source.end(), "at {at}");
+        assert!(rt;
+            source.place(at.saturating_add(1)) == source.end(),
+            "at {at}"
+        );
         for place in start.saturating_add(1)..end.saturating_add(1) {
             let found = source.position(place);
             assert!(rt; found == end.saturating_sub(before), "{found} of {place}");
