@@ -24,6 +24,16 @@ mod rows_event_tests;
 #[cfg(test)]
 mod rows_tests;
 #[cfg(test)]
+mod source_calls;
+#[cfg(test)]
+mod source_fault_tests;
+#[cfg(test)]
+mod source_logs;
+#[cfg(test)]
+mod source_reading_tests;
+#[cfg(test)]
+mod source_tests;
+#[cfg(test)]
 mod sum_tests;
 #[cfg(test)]
 mod table_map_tests;

@@ -10,7 +10,7 @@ use std::process::Abort;
 use std::test::Fail;
 
 /// Where the events of `CLOSED` begin and end.
-static EVENTS: [(u32, u32); 25] = [
+pub static EVENTS: [(u32, u32); 25] = [
     (4, 127),
     (127, 198),
     (198, 277),
