@@ -62,7 +62,7 @@ pub struct ListTask<'a> {
     pub wanted: Wanted<'a>,
     /// In which form they are listed.
     pub form: Form,
-    /// The time zone of the clock that their times are told by.
+    /// The time zone that their times are printed in.
     pub zone: Zone,
 }
 

@@ -91,8 +91,8 @@ Exit status: 0 done, 1 the log is refused or something failed, 2 the arguments a
 const LIST_ABOUT: &str = "\
 Lists the units of LOG: its transactions, and what stands between them and can't be undone.
 A line says where a unit starts and stops, its local time, its GTID if it has one, and how many
-rows of each table it changes, or why it can't be undone. The heading names the time zone. The last line counts units, those that
-can't be undone, and the rows of the others.
+rows of each table it changes, or why it can't be undone. The heading names the time zone.
+The last line counts units, those that can't be undone, and the rows of the others.
 LOG has no checksums. flashback -B -j START --stop-position STOP undoes a unit, or more of them in a row.";
 
 const LIST_USAGE: &str = "\
@@ -124,8 +124,6 @@ Examples:
       those before this time
   binlog list --utc plain.000042
       times in UTC
-  binlog list --time-zone Europe/Berlin plain.000042
-      times in Berlin
   binlog list --json plain.000042
       an object of JSON for each, on a line of its own, and one for the totals
 
