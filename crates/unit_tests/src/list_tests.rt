@@ -346,6 +346,20 @@ units 1, not undoable 1, rows 0
 }
 
 #[test]
+fn names_that_would_reach_the_terminal_are_escaped(rt: HostRuntime) -> Result<(), Fail> {
+    // an escape sequence, a line feed, a backslash, a backtick, a byte that is no character, and a character of the C1 set
+    let bytes = build(
+        &rt,
+        &[BEGIN, map_of(1, b"a\x1b[2J\nb\\c`d\xff\xc2\x9b"), ONE, XID],
+    )?;
+    let lines =
+        "       120        272  1970-01-01 00:00:00  `d`.`a\\x1b[2J\\nb\\\\c``d\\xff\\xc2\\x9b` inserts 1
+units 1, not undoable 0, rows 1
+";
+    check_all(&rt, &bytes, lines)
+}
+
+#[test]
 fn a_log_that_ends_early_has_its_units(rt: HostRuntime) -> Result<(), Fail> {
     let bytes = build(&rt, &[BEGIN, MAP, ONE, XID, BEGIN, MAP, ONE, XID])?;
     let cut = bytes.get(..397).expect(&rt, "a log");
