@@ -93,7 +93,9 @@ Lists the units of LOG: its transactions, and what stands between them and can't
 A line says where a unit starts and stops, its local time, its GTID if it has one, and how many
 rows of each table it changes, or why it can't be undone. The heading names the time zone.
 The last line counts units, those that can't be undone, and the rows of the others.
-LOG has no checksums. flashback -B -j START --stop-position STOP undoes a unit, or more of them in a row.";
+Each checksum of LOG is checked, if it has checksums. Positions are those of LOG, as mysqlbinlog shows them.
+flashback -B -j START --stop-position STOP undoes a unit, or more of them in a row. It takes no log with
+checksums: list the plain log of binlog plain for it, whose positions are its own.";
 
 const LIST_USAGE: &str = "\
 binlog list [-d NAME] [-T NAME] [-j POS] [--stop-position POS] [--start-datetime TIME]
