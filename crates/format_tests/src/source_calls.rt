@@ -18,7 +18,7 @@ pub fn opened<R: AllocGlobal + Abort>(rt: &R, log: &[u8], how: Reading) -> Sourc
     Source::open(joined(rt, &[log]), how).expect(rt, "a source")
 }
 
-/// What a reading is to find: where it ends, why, and how many events it passes over.
+/// What a reading has to find: where it ends, why, and how many events it passes over.
 #[derive(Clone, Copy)]
 pub struct Found {
     pub end: u32,
@@ -26,7 +26,7 @@ pub struct Found {
     pub damaged: u32,
 }
 
-/// A log is read so, and these bytes are handed out.
+/// Reads a log, and checks what is found and the bytes that are handed out.
 pub fn check_read<R: AllocGlobal + Abort>(
     rt: &R,
     log: &[u8],
@@ -52,7 +52,7 @@ pub fn wrong_at(pos: u32) -> SumFault {
     SumFault::WrongSum { pos }
 }
 
-/// The reading ends at an event, for a fault of it.
+/// The reading ends at an event that has a fault.
 pub fn ended(end: u32, fault: SumFault) -> Found {
     Found {
         end,
@@ -75,7 +75,7 @@ pub fn handed_to(rt: &impl Abort, at: usize) -> &'static [u8] {
     part_of(rt, &HANDED_INSERT, 0, at)
 }
 
-/// A log isn't opened, for this fault.
+/// Opening a log fails with this fault.
 pub fn check_refused<R: AllocGlobal + Abort>(rt: &R, log: &[u8], how: Reading, wanted: SumFault) {
     let fault = Source::open(joined(rt, &[log]), how).err();
     assert!(rt;
@@ -85,7 +85,7 @@ pub fn check_refused<R: AllocGlobal + Abort>(rt: &R, log: &[u8], how: Reading, w
     );
 }
 
-/// The small log with some bits of one byte turned.
+/// The small log with some bits of one byte flipped.
 pub fn turned<R: AllocGlobal + Abort>(rt: &R, at: usize, mask: u8) -> Vec<u8> {
     let byte = SUMMED_INSERT.get(at).expect(rt, "a byte");
     with_bytes(rt, &SUMMED_INSERT, at, &[*byte ^ mask])

@@ -6,9 +6,13 @@ use crate::source_calls::{
 };
 use crate::source_logs::{HANDED_INSERT, SMALL, SUMMED_INSERT, handed_events, with_places};
 use blog_event::Fault;
-use blog_source::Reading;
+use blog_source::{Reading, Source};
 use blog_sum::SumFault;
+use linked_list_allocator::LocalHeap;
+use refusing::Refusing;
+use sample_logs::summed::CLOSED;
 use std::process::Abort;
+use std::test::Fail;
 
 const UNMARKED: SumFault = SumFault::Log(Fault::NotABinlog { pos: 0 });
 
@@ -20,9 +24,8 @@ const UNKNOWN: SumFault = SumFault::UnknownAlgorithm { pos: 4 };
 
 // ---- changed bytes
 
-/// What the small log is refused for when these bits of a byte are turned that stands before the second event. The first
-/// event ends in the checksum algorithm, at 115, and a sum, which begins with 0x7C: so much is the algorithm of one that is
-/// longer by a byte.
+/// Why the small log is rejected when these bits of a byte before the second event are flipped. The checksum algorithm is at
+/// 115, and a sum follows that begins with 0x7C: with a size that is larger by 1, this byte is the algorithm.
 fn front_fault(at: usize, mask: u8) -> SumFault {
     match (at, mask) {
         (0..=3, _) => UNMARKED,
@@ -36,8 +39,8 @@ fn front_fault(at: usize, mask: u8) -> SumFault {
     }
 }
 
-/// Whether a change is seen by no check of the front: the flag for a log in use; an algorithm that becomes 0; the version
-/// `4.6.51`, which has no algorithm; a size of 139, by which the algorithm is the last byte of the second event's header.
+/// Whether the front is still accepted after a change: of the flag for a log in use; of the algorithm to 0; of the version to
+/// `4.6.51`, which has no algorithm; of the size to 139, with which the last byte of the second event's header is the algorithm.
 fn is_unseen(at: usize, mask: u8) -> bool {
     matches!((at, mask), (21 | 25 | 115, 0x01) | (13, 0xFF))
 }
@@ -67,7 +70,15 @@ fn the_flag_for_a_log_in_use_is_no_fault(rt: HostRuntime) {
     );
 }
 
-/// The small log with some bits of a byte turned is read as one without checksums.
+#[test]
+fn a_sum_with_the_flag_for_a_log_in_use_is_wrong(rt: HostRuntime) {
+    let marked = turned(&rt, 21, 1);
+    // zlib's crc32 of the format description with the flag set
+    let log = with_bytes(&rt, &marked, 116, &[0xD0, 0x33, 0x45, 0x75]);
+    check_refused(&rt, &log, Reading::ALL, wrong_at(4));
+}
+
+/// Checks that the small log is read as one without checksums after some bits of a byte are flipped.
 fn check_unsummed<R: AllocGlobal + Abort>(rt: &R, at: usize, mask: u8) {
     let log = turned(rt, at, mask);
     let places = [(4, 120), (120, 163), (163, 204), (204, 244), (244, 275)];
@@ -79,7 +90,7 @@ fn check_unsummed<R: AllocGlobal + Abort>(rt: &R, at: usize, mask: u8) {
 fn fronts_that_say_no_sums_are_believed(rt: HostRuntime) {
     check_unsummed(&rt, 115, 0x01);
     check_unsummed(&rt, 25, 0x01);
-    // the second event would begin inside of the first Query
+    // the second event would begin inside the Query
     let longer = turned(&rt, 13, 0xFF);
     let handed = part_of(&rt, &longer, 0, 143);
     check_read(&rt, &longer, Reading::ALL, handed, ended(143, cut_at(143)));
@@ -94,7 +105,7 @@ fn size_at(rt: &impl Abort, log: &[u8], start: u32) -> u64 {
     })
 }
 
-/// What a changed event is refused for: its size leaves no room for a sum or leads past the log's end, or its sum is wrong.
+/// The fault of a changed event: its size leaves no room for a sum or leads past the log's end, or its sum is wrong.
 fn event_fault(rt: &impl Abort, log: &[u8], start: u32) -> SumFault {
     let size = size_at(rt, log, start);
     if size < 23 || u64::from(start).saturating_add(size) > 275 {
@@ -104,7 +115,7 @@ fn event_fault(rt: &impl Abort, log: &[u8], start: u32) -> SumFault {
     }
 }
 
-/// Each byte of an event is changed, in its lowest bit and in all: the events before it are handed out.
+/// Changes each byte of an event, in its lowest bit and in all, and checks that the events before it are handed out.
 fn check_bytes<R: AllocGlobal + Abort>(rt: &R, start: u32, end: u32, at: usize) {
     for byte in start as usize..end as usize {
         for mask in [0x01, 0xFF] {
@@ -163,7 +174,7 @@ fn each_cut_of_an_event_ends_the_reading(rt: HostRuntime) {
 
 // ---- logs that are not opened
 
-/// A position, the bytes from there on, and what the log is refused for.
+/// A position, the bytes from there on, and why the log is rejected.
 static REFUSED: [(usize, &[u8], SumFault); 12] = [
     (0, b"\xFEbix", UNMARKED),
     (0, b"\xFEdin", UNMARKED),
@@ -195,4 +206,19 @@ fn what_is_no_log_is_refused(rt: HostRuntime) {
         PASSING,
         cut_at(4),
     );
+}
+
+/// A heap with room for a log, in bytes.
+const ROOM: usize = 1 << 16;
+
+#[test]
+fn opening_takes_no_memory(rt: HostRuntime) -> Result<(), Fail> {
+    let heap = LocalHeap::new(rt.alloc(), ROOM)?;
+    // the log is the first request
+    let alloc = Refusing::new(&heap, 2);
+    let log = CLOSED.to_vec(&alloc)?;
+    let source = Source::open(log, Reading::ALL).ok().ok_or("a source")?;
+    assert!(rt; source.bytes().len() == 1473);
+    assert!(rt; !alloc.has_refused());
+    Ok(())
 }

@@ -55,7 +55,8 @@ pub static SUMMED_INSERT: [u8; 275] = [
     0x64, 0x81, 0x7C, 0x19,
 ];
 
-/// What is handed out for it: no checksums, and the log_pos of each event behind the first is where it begins above.
+/// What is handed out for it: the same log without checksums. The log_pos of each event after the first is where that event
+/// begins above.
 #[rattlefmt::skip]
 pub static HANDED_INSERT: [u8; 259] = [
     // 0: the magic
@@ -150,7 +151,7 @@ pub static IN_USE_EVENTS: [(u32, u32); 29] = [
     (1941, 2037),
 ];
 
-/// An event that is handed out: where the event of the server's log begins for which it stands, and where it begins and ends.
+/// An event that is handed out: where the event begins in the server's log, and where it begins and ends without checksums.
 #[derive(Clone, Copy)]
 pub struct Handed {
     pub place: u32,
@@ -158,7 +159,7 @@ pub struct Handed {
     pub end: u32,
 }
 
-/// What is handed out for the events behind the first, which begin and end here: each loses so many bytes.
+/// What is handed out for the events after the first. They begin and end at these positions, and each loses that many bytes.
 pub fn handed_events<R: AllocGlobal + Abort>(
     rt: &R,
     events: &[(u32, u32)],

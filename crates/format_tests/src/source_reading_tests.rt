@@ -13,7 +13,7 @@ use std::process::Abort;
 
 // ---- the stop
 
-/// Stops, where the reading ends, and how long the log is that is handed out.
+/// A stop position, where the reading ends, and the length of the log that is handed out.
 static STOPS: [(u32, u32, usize); 14] = [
     (0, 120, 120),
     (4, 120, 120),
@@ -31,7 +31,7 @@ static STOPS: [(u32, u32, usize); 14] = [
     (u32::MAX, 275, 259),
 ];
 
-/// A reading of the whole events below a stop.
+/// A reading of the events that begin before a stop position.
 fn up_to(stop: u32) -> Reading {
     Reading {
         stop: Some(stop),
@@ -86,7 +86,7 @@ fn places_end_at_the_stop(rt: HostRuntime) {
 
 // ---- damaged events passed over
 
-/// The small log with the lowest bit turned in each of these bytes.
+/// The small log with the lowest bit of each of these bytes flipped.
 fn damaged<R: AllocGlobal + Abort>(rt: &R, bytes: &[usize]) -> Vec<u8> {
     let mut log = joined(rt, &[&SUMMED_INSERT]);
     for at in bytes {
@@ -106,8 +106,8 @@ fn handed_parts<R: AllocGlobal + Abort>(rt: &R, parts: &[(usize, usize)]) -> Vec
     log
 }
 
-/// The small log with the lowest bit turned in each of these bytes is read to its end: so many events are passed over, and
-/// these parts are handed out.
+/// Reads the small log with these bytes damaged to its end, and checks how many events are passed over and which parts are
+/// handed out.
 fn check_passed<R: AllocGlobal + Abort>(
     rt: &R,
     bytes: &[usize],
@@ -230,7 +230,8 @@ fn a_damaged_last_event_is_a_fault(rt: HostRuntime) {
     check_read(&rt, &log, passing_to(205), &handed, found);
 }
 
-/// Sizes in place of 41 at 163 that lead to no event, past the log's end, or leave no room for a sum, and the fault.
+/// Sizes for the event at 163 in place of 41, and whether they lead past the log's end or leave no room for a sum. The others
+/// lead to no event with a right sum.
 static SIZES: [(u8, bool); 9] = [
     (40, false),
     (42, false),

@@ -11,13 +11,13 @@ use sample_logs::small::{INSERT_ONE_ROW, OLD_SERVER, PLAIN, SUMMED};
 use sample_logs::summed::{CLOSED, CLOSED_PLAIN, IN_USE, IN_USE_PLAIN};
 use std::process::Abort;
 
-/// A log is read to its end, and these bytes are handed out.
+/// Reads a log to its end, and checks the bytes that are handed out.
 fn check_whole<R: AllocGlobal + Abort>(rt: &R, log: &[u8], handed: &[u8]) {
     let end = log.len().min(u32::MAX as usize) as u32;
     check_read(rt, log, Reading::ALL, handed, reached(end));
 }
 
-/// Of this log, whose events lose so many bytes, these are handed out: as in the log without checksums, each with its place.
+/// Checks event by event that the log without checksums is handed out, with the place of each event as its log_pos.
 fn check_events<R: AllocGlobal + Abort>(rt: &R, log: &[u8], plain: &[u8], events: &[Handed]) {
     let source = opened(rt, log, Reading::ALL);
     let wanted = with_places(rt, plain, events);
@@ -56,14 +56,14 @@ fn samples_are_handed_out(rt: HostRuntime) {
 /// Where the events of `OLD_SERVER` begin and end.
 static OLD_EVENTS: [(u32, u32); 5] = [(4, 107), (107, 146), (146, 183), (183, 217), (217, 244)];
 
-/// What is handed out for a log without checksums has its events, each where it was.
+/// Checks that a log without checksums is handed out with its own events, and that places are positions.
 fn check_unsummed<R: AllocGlobal + Abort>(rt: &R, log: &[u8], events: &[(u32, u32)]) {
     let events = handed_events(rt, events, 0);
     check_events(rt, log, log, &events);
     check_places(rt, log, &events);
 }
 
-/// The same of a sample's copy without checksums, where the events of the sample begin and end here.
+/// The same for the plain copy of a sample, whose events begin and end at these positions.
 fn check_copy<R: AllocGlobal + Abort>(rt: &R, plain: &[u8], events: &[(u32, u32)]) {
     let mut copied = handed_events(rt, events, 4);
     for event in &mut copied {
@@ -83,7 +83,7 @@ fn logs_without_sums_are_handed_out(rt: HostRuntime) {
     check_unsummed(&rt, part_of(&rt, &INSERT_ONE_ROW, 0, 120), &[(4, 120)]);
 }
 
-/// The place of each of these events and its position lead to each other.
+/// Checks the place of the position of each event, and the position of its place.
 fn check_places<R: AllocGlobal + Abort>(rt: &R, log: &[u8], events: &[Handed]) {
     let source = opened(rt, log, Reading::ALL);
     for event in events {
@@ -100,7 +100,7 @@ fn places_and_positions_of_events(rt: HostRuntime) {
     check_places(&rt, &IN_USE, &handed_events(&rt, &IN_USE_EVENTS, 4));
 }
 
-/// Each place behind one event's beginning leads to where that event ends, and no event begins right behind its beginning.
+/// Checks that each place inside an event leads to where that event ends, and that no event begins one byte after another.
 fn check_between<R: AllocGlobal + Abort>(rt: &R, log: &[u8], events: &[(u32, u32)]) {
     let source = opened(rt, log, Reading::ALL);
     let mut before = 0u32;
