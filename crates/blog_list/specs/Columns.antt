@@ -1,5 +1,5 @@
 -- The column of times in a list.
-use Rattle.std.specs.Prelude.{◌≡◌, ◌++◌, ◌-◌, ◌∷◌, ℕ, List, Option, Some, None, codes, if◌then◌else◌, length, replicate, string_bytes}
+use Rattle.std.specs.Prelude.{◌≡◌, ◌++◌, ◌-◌, ℕ, List, Option, Some, None, codes, if◌then◌else◌, length, replicate, string_bytes}
 use Rattle.std.specs.Str.{bytes_eq}
 use Rattle.std.specs.String.{string_len}
 use Rattle.jiff.specs.Types.{TimeZone}
