@@ -1,3 +1,2 @@
 mod Asking
-mod Growing
 mod Marking
