@@ -10,8 +10,8 @@ use Rattle.blog_event.specs.File.{placed_from, events_from}
 abbrev pub first_of : List ℕ → ℕ
 first_of log = option_map_or (λ format. 4 + event_size format) (event_at (drop 4 log)) 4
 
--- the place of a position in the log that is handed out: that of the event that begins there, and where the reading of the
--- server's log ended if none does
+-- the place of a position in the log that is handed out, at which an event begins or the log ends: that of the event, or where
+-- the reading of the server's log ended
 abbrev pub place_of : List ℕ → ℕ → ℕ → ℕ
 place_of log end at =
     if nat_lt at (first_of log) then at else option_map_or (λ e. e.log_pos) (event_at (drop at log)) end

@@ -94,9 +94,9 @@ impl<A: Allocator> Source<A> {
         self.damaged
     }
 
-    /// Where in the server's log the event stands that begins at a position of the log without checksums, in bytes from that
-    /// file's start. Where none begins, that is where the reading ended; a position before the end of the format description is
-    /// the same in both logs.
+    /// Returns where in the server's log the event is that begins at `at` in the log without checksums, in bytes from that
+    /// file's start. For the end of the log it returns where the reading ended. A position before the end of the format
+    /// description is the same in both logs. Inside an event the answer means nothing.
     pub fn place(&self, at: u32) -> u32
         ensures { result ≡ place_of (log_of self.now) (end_of self.now) at }
     {
@@ -109,8 +109,8 @@ impl<A: Allocator> Source<A> {
         }
     }
 
-    /// Where the first event begins in the log without checksums that stands in the server's log at a place or behind it; the
-    /// end of that log if none does. A place before the end of the format description is the same in both logs.
+    /// Returns where the first event begins in the log without checksums that is in the server's log at `place` or after it; the
+    /// end of that log if none is. A place before the end of the format description is the same in both logs.
     pub fn position(&self, place: u32) -> u32
         ensures { result ≡ position_of (log_of self.now) place }
     {
