@@ -45,4 +45,4 @@ byte-first (first ∷ bs) b is char =
 
 -- a mark is taken, and fewer bytes are left
 pub goes : {I : Type 0} (item : I) (s t : Marks) → length t.rest.now < length s.rest.now → MakesProgress (λ _. ⊤) (λ left. at_most (bytes_left left)) s (Some item) t
-goes item s t less = record { on = λ _. (tt, tt, less); keeps = tt; rests = λ _. tt; }
+goes item s t less = record { on = λ _. (tt, tt, less); keeps = tt; rests = λ _. tt }

@@ -6,8 +6,8 @@ ghost use Rattle.blog_list.specs.Escapes.{beginning, byte_escape, char_columns, 
 
 use crate::marks::{Mark, Marks};
 use crate::texts::{put_byte, put_text};
-use unicode_width::UnicodeWidthChar;
 use std::alloc::{AllocError, Allocator};
+use unicode_width::UnicodeWidthChar;
 
 /// Appends a byte as `\x1b`.
 fn put_escape<A: Allocator>(out: &mut Vec<u8, A>, byte: u8) -> Result<(), AllocError>
