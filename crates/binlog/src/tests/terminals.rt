@@ -19,21 +19,47 @@ fn run_on_terminal(rt: &HostRuntime, arguments: &[&str]) -> Result<Outcome, Fail
     Ok(run_in(rt, process, Ok(arguments_of(rt, arguments)?)))
 }
 
+/// Checks that the run writes nothing, and prints why.
+fn check_refused(rt: &HostRuntime, arguments: &[&str]) -> Result<(), Fail> {
+    if run_on_terminal(rt, arguments)?.is_refusal(1, LINE) {
+        Ok(())
+    } else {
+        Err(Fail::new(format_args!("{arguments:?}")))
+    }
+}
+
+/// Checks that the run writes the log to this file, which is removed again.
+fn check_written(rt: &HostRuntime, arguments: &[&str], result: &str) -> Result<(), Fail> {
+    let outcome = run_on_terminal(rt, arguments)?;
+    let written = fs::read(rt, result)?;
+    fs::remove_file(rt, result)?;
+    if outcome.is_done(b"") && written.as_slice() == INSERT_ONE_ROW.as_slice() {
+        Ok(())
+    } else {
+        Err(Fail::new(format_args!("{arguments:?}")))
+    }
+}
+
 #[test]
 fn a_new_log_is_not_written_to_a_terminal(rt: HostRuntime) -> Result<(), Fail> {
     let log = path_of(&rt, "on-terminal")?;
-    let result = path_of(&rt, "from-terminal")?;
     fs::write(&rt, log.as_path(), INSERT_ONE_ROW.as_slice())?;
-    for command in ["plain", "split"] {
-        let outcome = run_on_terminal(&rt, &[command, log.as_str()])?;
-        assert!(rt; outcome.is_refusal(1, LINE));
-        // LOG isn't looked at
-        assert!(rt; run_on_terminal(&rt, &[command, "absent"])?.is_refusal(1, LINE));
-        let arguments = [command, "-r", result.as_str(), log.as_str()];
-        assert!(rt; run_on_terminal(&rt, arguments.as_slice())?.is_done(b""));
-        assert!(rt; fs::read(&rt, result.as_path())?.as_slice() == INSERT_ONE_ROW.as_slice());
-        fs::remove_file(&rt, result.as_path())?;
-    }
+    check_refused(&rt, &["plain", log.as_str()])?;
+    check_refused(&rt, &["split", log.as_str()])?;
+    // LOG isn't looked at
+    check_refused(&rt, &["plain", "absent"])?;
+    check_refused(&rt, &["split", "absent"])?;
+    let result = path_of(&rt, "from-terminal")?;
+    let file = result.as_str();
+    check_written(&rt, &["plain", "-r", file, log.as_str()], file)?;
+    check_written(&rt, &["split", "-r", file, log.as_str()], file)?;
+    fs::remove_file(&rt, log.as_path())?;
+    Ok(())
+}
+
+#[test]
+fn texts_are_written_to_a_terminal(rt: HostRuntime) -> Result<(), Fail> {
+    let log = path_of(&rt, "list-on-terminal")?;
     fs::write(&rt, log.as_path(), PLAIN.as_slice())?;
     let list = run_on_terminal(&rt, &["list", log.as_str()])?;
     fs::remove_file(&rt, log.as_path())?;
