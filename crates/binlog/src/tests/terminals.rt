@@ -29,10 +29,10 @@ fn check_refused(rt: &HostRuntime, arguments: &[&str]) -> Result<(), Fail> {
 }
 
 /// Checks that the run writes the log to this file, which is removed again.
-fn check_written(rt: &HostRuntime, arguments: &[&str], result: &str) -> Result<(), Fail> {
+fn check_written(rt: &HostRuntime, arguments: &[&str], path: &str) -> Result<(), Fail> {
     let outcome = run_on_terminal(rt, arguments)?;
-    let written = fs::read(rt, result)?;
-    fs::remove_file(rt, result)?;
+    let written = fs::read(rt, path)?;
+    fs::remove_file(rt, path)?;
     if outcome.is_done(b"") && written.as_slice() == INSERT_ONE_ROW.as_slice() {
         Ok(())
     } else {
