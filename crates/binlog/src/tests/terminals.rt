@@ -28,15 +28,23 @@ fn check_refused(rt: &HostRuntime, arguments: &[&str]) -> Result<(), Fail> {
     }
 }
 
-/// Checks that the run writes the log to this file, which is removed again.
-fn check_written(rt: &HostRuntime, arguments: &[&str], path: &str) -> Result<(), Fail> {
-    let outcome = run_on_terminal(rt, arguments)?;
-    let written = fs::read(rt, path)?;
-    fs::remove_file(rt, path)?;
-    if outcome.is_done(b"") && written.as_slice() == INSERT_ONE_ROW.as_slice() {
+/// Checks that the run is done, and prints nothing.
+fn check_done(rt: &HostRuntime, arguments: &[&str]) -> Result<(), Fail> {
+    if run_on_terminal(rt, arguments)?.is_done(b"") {
         Ok(())
     } else {
         Err(Fail::new(format_args!("{arguments:?}")))
+    }
+}
+
+/// Checks that this file is the log, and removes it.
+fn check_file(rt: &HostRuntime, path: &str) -> Result<(), Fail> {
+    let written = fs::read(rt, path)?;
+    fs::remove_file(rt, path)?;
+    if written.as_slice() == INSERT_ONE_ROW.as_slice() {
+        Ok(())
+    } else {
+        Err(Fail::new(format_args!("{path}")))
     }
 }
 
@@ -50,9 +58,10 @@ fn a_new_log_is_not_written_to_a_terminal(rt: HostRuntime) -> Result<(), Fail> {
     check_refused(&rt, &["plain", "absent"])?;
     check_refused(&rt, &["split", "absent"])?;
     let result = path_of(&rt, "from-terminal")?;
-    let file = result.as_str();
-    check_written(&rt, &["plain", "-r", file, log.as_str()], file)?;
-    check_written(&rt, &["split", "-r", file, log.as_str()], file)?;
+    check_done(&rt, &["plain", "-r", result.as_str(), log.as_str()])?;
+    check_file(&rt, result.as_str())?;
+    check_done(&rt, &["split", "-r", result.as_str(), log.as_str()])?;
+    check_file(&rt, result.as_str())?;
     fs::remove_file(&rt, log.as_path())?;
     Ok(())
 }
