@@ -1,4 +1,4 @@
--- How bytes of a log are printed for people: no control character reaches a terminal, and the bytes can be told back.
+-- How bytes of a log are printed for people: control characters, and bytes that aren't UTF-8, are written as escapes.
 use Rattle.std.specs.Prelude.{ℕ, zero, suc, ◌+◌, ◌-◌, ◌==◌, nat_le, false, if◌then◌else◌, List, [], ◌∷◌, ◌++◌, length, Option, Some, None, unwrap_or, codes, ◌*◌, encode_utf8}
 use Rattle.std.specs.Char.{is_control}
 use Rattle.std.specs.List.{flat_map}
