@@ -1,6 +1,7 @@
 -- The log that is handed out: its events, its length, and that it is a log.
 use Rattle.std.proofs.Common.{◌≡◌, ℕ, ◌+◌, ◌-◌, ◌^◌, ◌≤◌, ◌<◌, Bool, true, false, List, [], ◌∷◌, length, take, drop, Option, Some, None, refl, sym, subst, ap, ◌∙◌, arith}
-use Rattle.std.specs.Prelude.{◌&&◌, bytes_eq}
+use Rattle.std.specs.Prelude.{◌&&◌, ◌==◌, bytes_eq, nat_le}
+use Rattle.std.proofs.lemmas.Bool.{and_parts, leb-true}
 use Rattle.std.specs.List.{flat_map, AllByRecursion}
 use Rattle.std.proofs.lemmas.Bool.Decides.{nat_tests}
 use Rattle.std.proofs.lemmas.List.{length-take-le}
@@ -20,8 +21,9 @@ use Rattle.blog_sum.proofs.Plains.{format-accepted, format-event, summed-algorit
 use Rattle.blog_sum.proofs.Texts.{format-size}
 use Rattle.blog_source.specs.declared.reading.Reading.{Reading}
 use Rattle.blog_source.specs.Found.{begins_right, check_of, found, found_with, is_wrong_sum, source_refusal}
-use Rattle.blog_source.specs.Handed.{bare, handed, handed_events, handed_format, handed_log}
+use Rattle.blog_source.specs.Handed.{bare, handed, handed_events, handed_format, handed_log, is_tagged, known}
 use Rattle.blog_source.proofs.Accepted.{IsAccepted, is-accepted, is-read, later_of}
+use Rattle.blog_gtid.proofs.Bodies.{gtid-long}
 use Rattle.blog_source.proofs.Moving.{has-room}
 
 -- ---- the events behind the format description
@@ -46,6 +48,25 @@ bare-event true pos e short event room =
       omega arith,
     )
 
+-- what it becomes
+known-event : (sums : Bool) (pos : ℕ) (e : Event) → pos < 2 ^ 32 → IsEvent e → (sums ≡ true → 23 ≤ event_size e)
+    → IsEvent (record (known (bare sums e)) { log_pos = pos }) × (event_size (known (bare sums e)) ≤ event_size e)
+known-event sums pos e short event room = by_case (is_tagged (bare sums e)) refl
+  where
+    by_case : (tagged : Bool) → is_tagged (bare sums e) ≡ tagged
+        → IsEvent (record (known (bare sums e)) { log_pos = pos }) × (event_size (known (bare sums e)) ≤ event_size e)
+    by_case true is =
+        let own = bare-event sums pos e short event room in
+        let enough = leb-true 25 (length (bare sums e).body) (and_parts ((bare sums e).kind == 42) (nat_le 25 (length (bare sums e).body)) is).1 in
+        let long = gtid-long (bare sums e).body in
+        let size = own.0.size in
+        let less = own.1 in
+        rw is (
+          record { timestamp = own.0.timestamp; kind = omega arith; server_id = own.0.server_id; size = omega arith; log_pos = short; flags = own.0.flags },
+          omega arith,
+        )
+    by_case false is = rw is (bare-event sums pos e short event room)
+
 -- events are handed out from a position on, and end no later than another
 abbrev Fit : ℕ → ℕ → List Event → Type 0
 Fit pos end es = AllByRecursion IsEvent es × (end_of pos es ≤ end)
@@ -55,7 +76,7 @@ handed-fit : (how : Reading) (sums : Bool) (len pos at : ℕ) (es : List Event) 
     → Fit pos (end_of at es) (flat_map (handed sums) (found how sums len at (placed_from at es)).kept)
 handed-fit how sums len pos at [] before events short = (tt, before)
 handed-fit how sums len pos at (e ∷ es) before events short =
-    by_check (check_of sums p) passed refl (handed-fit how sums len (pos + event_size (bare sums e)) (at + event_size e) es) (handed-fit how sums len pos (at + event_size e) es (omega arith) events.1 short)
+    by_check (check_of sums p) passed refl (handed-fit how sums len (pos + event_size (known (bare sums e))) (at + event_size e) es) (handed-fit how sums len pos (at + event_size e) es (omega arith) events.1 short)
   where
     p : Placed
     p = record { pos = at; event = e }
@@ -64,14 +85,14 @@ handed-fit how sums len pos at (e ∷ es) before events short =
     passed = how.skip_damaged && (is_wrong_sum (check_of sums p) && begins_right (placed_from (at + event_size e) es))
 
     by_check : (check : Option SumFault) (passed : Bool) → check_of sums p ≡ check
-        → (pos + event_size (bare sums e) ≤ at + event_size e → AllByRecursion IsEvent es → end_of (at + event_size e) es < 2 ^ 32
-        → Fit (pos + event_size (bare sums e)) (end_of (at + event_size e) es) (flat_map (handed sums) (found how sums len (at + event_size e) (placed_from (at + event_size e) es)).kept))
+        → (pos + event_size (known (bare sums e)) ≤ at + event_size e → AllByRecursion IsEvent es → end_of (at + event_size e) es < 2 ^ 32
+        → Fit (pos + event_size (known (bare sums e))) (end_of (at + event_size e) es) (flat_map (handed sums) (found how sums len (at + event_size e) (placed_from (at + event_size e) es)).kept))
         → Fit pos (end_of (at + event_size e) es) (flat_map (handed sums) (found how sums len (at + event_size e) (placed_from (at + event_size e) es)).kept)
         → Fit pos (end_of (at + event_size e) es)
         (flat_map (handed sums) (found_with check passed p (found how sums len (at + event_size e) (placed_from (at + event_size e) es))).kept)
     by_check None passed fine kept skipped =
         let past = end-past (at + event_size e) es in
-        let own = bare-event sums at e (omega arith) events.0 (has-room sums p fine) in
+        let own = known-event sums at e (omega arith) events.0 (has-room sums p fine) in
         let size = own.1 in
         let later = kept (omega arith) events.1 short in
         ((own.0, later.0), later.1)

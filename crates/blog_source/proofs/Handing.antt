@@ -2,11 +2,11 @@
 use Rattle.std.proofs.Common.{◌≡◌, ℕ, ◌+◌, ◌≤◌, Bool, true, false, List, [], ◌++◌, length, take, drop, None, refl, sym, subst, ap, ◌∙◌, append_assoc}
 use Rattle.std.proofs.lemmas.List.{append-nil}
 use Rattle.blog_event.specs.declared.event.Header.{Header}
-use Rattle.blog_event.specs.Event.{event_text}
+use Rattle.blog_event.specs.Event.{event_size, event_text}
 use Rattle.blog_event.specs.File.{Placed}
 use Rattle.blog_source.specs.declared.reading.Reading.{Reading}
 use Rattle.blog_source.specs.Found.{Found, found_with}
-use Rattle.blog_source.specs.code.Walk.{IsKept, found_left, handed_text, moved, moved_size}
+use Rattle.blog_source.specs.code.Walk.{IsKept, found_left, handed_text, moved}
 use Rattle.blog_source.proofs.Moving.{has-room, kept-text}
 
 -- nothing is handed out for no events
@@ -33,7 +33,7 @@ kept-found how sums bytes new at h kept long behind =
 
 -- what is handed out with it
 pub kept-put : (how : Reading) (ends sums : Bool) (bytes new : List ℕ) (at to next : ℕ) (h : Header) (kept : IsKept how sums bytes at h) → length new ≡ length bytes
-    → drop (at + h.size) new ≡ drop (at + h.size) bytes → next ≡ to + moved_size sums h.size
+    → drop (at + h.size) new ≡ drop (at + h.size) bytes → next ≡ to + event_size (moved ends sums to at h bytes)
     → take next new ≡ take to bytes ++ event_text (moved ends sums to at h bytes)
     → take next new ++ handed_text ends sums next (found_left how sums (length new) (at + h.size) (drop (at + h.size) new)).kept
     ≡ take to bytes ++ handed_text ends sums to (found_left how sums (length bytes) at (drop at bytes)).kept
@@ -43,6 +43,6 @@ kept-put how ends sums bytes new at to next h kept long behind next_is put =
     let room : sums ≡ true → 23 ≤ h.size = λ is. subst (λ (size : ℕ). 23 ≤ size) (sym kept.header.size) (has-room sums (record { pos = at; event = kept.event }) kept.passes is) in
     ap (λ (out : List ℕ). out ++ handed_text ends sums next later) put
     ∙ ap (λ (next : ℕ). (take to bytes ++ one) ++ handed_text ends sums next later) next_is
-    ∙ append_assoc (take to bytes) one (handed_text ends sums (to + moved_size sums h.size) later)
+    ∙ append_assoc (take to bytes) one (handed_text ends sums (to + event_size (moved ends sums to at h bytes)) later)
     ∙ ap (λ (text : List ℕ). take to bytes ++ text) (sym (kept-text ends sums bytes at to h kept.event later kept.stands kept.header room))
     ∙ ap (λ (f : Found). take to bytes ++ handed_text ends sums to f.kept) (sym (kept-found how sums bytes new at h kept long behind))

@@ -10,3 +10,4 @@ mod WholeReading
 mod Standing
 mod HandedPlaces
 mod Unmoved
+pub mod Gtids

@@ -13,7 +13,7 @@ use Rattle.blog_source.specs.declared.reading.Reading.{Reading}
 use Rattle.blog_source.specs.declared.walk.Step.{Step}
 use Rattle.blog_source.specs.declared.walk.Step.TheVariants.{Keep, PassOver, Refuse}
 use Rattle.blog_source.specs.Found.{Found, check_of, found, found_with}
-use Rattle.blog_source.specs.Handed.{handed}
+use Rattle.blog_source.specs.Handed.{handed, known}
 
 -- the events that follow each other from a position on, where these bytes are left of a log
 abbrev pub left : Option ℕ → ℕ → ℕ → List ℕ → List Placed
@@ -49,16 +49,21 @@ abbrev pub moved_size : Bool → ℕ → ℕ
 moved_size true size = size - 4
 moved_size false size = size
 
--- the event at a position, whose header this is, moved to another position, without its sum
-abbrev pub moved : Bool → Bool → ℕ → ℕ → Header → List ℕ → Event
-moved ends sums to at h bytes = record {
+-- the event at a position, whose header this is, without its sum and its log_pos
+abbrev pub moved_bare : Bool → ℕ → Header → List ℕ → Event
+moved_bare sums at h bytes = record {
   timestamp = h.timestamp;
   kind = h.kind;
   server_id = h.server_id;
-  log_pos = if ends then to + moved_size sums h.size else at;
+  log_pos = 0;
   flags = h.flags;
   body = take (moved_size sums h.size - 19) (drop (at + 19) bytes);
 }
+
+-- what it becomes at another position
+abbrev pub moved : Bool → Bool → ℕ → ℕ → Header → List ℕ → Event
+moved ends sums to at h bytes =
+    let e = known (moved_bare sums at h bytes) in record e { log_pos = if ends then to + event_size e else at }
 
 -- an event at a position passes its check; this is its header
 pub record IsKept (how : Reading) (sums : Bool) (bytes : List ℕ) (at : ℕ) (h : Header) : Type 0 where

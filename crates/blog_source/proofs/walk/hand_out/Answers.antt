@@ -3,7 +3,6 @@ use Rattle.std.proofs.Common.{◌+◌, ◌∙◌, sym, ap, arith, inl, inr}
 use Rattle.blog_source.specs.Found.{Found}
 use Rattle.blog_source.proofs.Left.{found-whole}
 use Rattle.blog_source.proofs.Handing.{ended-text, kept-found, kept-put}
-use Rattle.blog_source.proofs.Moving.{moved-less}
 use Rattle.blog_source.proofs.walk.hand_out.Goals as goal
 
 pub events-preserved-in-Keep : goal.events-preserved-in-Keep
@@ -12,7 +11,7 @@ events-preserved-in-Keep c =
     let put = c.put_handed-to.ensures in
     let old = c.events.invariant in
     let same = kept-found c.args.how c.args.sums c.events.bytes c.put_handed-to.new.bytes c.events.at c.in-Keep.header kept put.len put.behind in record {
-      order = omega (arith, put.end, old.order, moved-less c.args.sums c.in-Keep.header.size);
+      order = put.before;
       within = omega (arith, put.len, kept.within);
       len = put.len ∙ old.len;
       text = kept-put c.args.how c.args.ends c.args.sums c.events.bytes c.put_handed-to.new.bytes c.events.at c.events.to c.put_handed-to.result c.in-Keep.header kept put.len put.behind put.end
