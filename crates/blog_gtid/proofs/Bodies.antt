@@ -10,14 +10,13 @@ use Rattle.std.proofs.lemmas.Option.{cond_some, none-some}
 use Rattle.blog_event.specs.Format.{◌>>=◌}
 use Rattle.blog_event.specs.File.{AreBytes}
 use Rattle.blog_gtid.specs.Integers.{BeginWith, integer_front, byte_front, bytes_front, signed_front}
-use Rattle.byteorder.specs.Endian.{little_bytes}
-use Rattle.blog_gtid.specs.Tagged.{TaggedId, HasTag, HasTagged, after_header, after_id, text_front, tag_of, tagged_of, gtid_body_of, gtid_text}
+use Rattle.blog_gtid.specs.Tagged.{TaggedId, HasTag, HasTagged, after_header, after_id, text_front, tag_of, tagged_of}
 use Rattle.blog_gtid.proofs.Spellings.{integer-found, integer-again}
 
 -- ---- steps
 
 -- a step that gave something
-step-found : {A B : Type 0} (o : Option A) (f : A → Option B) (y : B) → (o >>= f) ≡ Some y → (x : A) × (o ≡ Some x) × (f x ≡ Some y)
+pub step-found : {A B : Type 0} (o : Option A) (f : A → Option B) (y : B) → (o >>= f) ≡ Some y → (x : A) × (o ≡ Some x) × (f x ≡ Some y)
 step-found None f y e = absurd (none-some y e)
 step-found (Some x) f y e = (x, refl, e)
 
@@ -141,7 +140,7 @@ record Reads (vs bytes rest : List ℕ) : Type 0 where
   are : AreBytes rest
   more : (ws end : List ℕ) → BeginWith ws end rest → BeginWith (vs ++ ws) end bytes
 
-some-parts : {A : Type 0} (x y : A) → Some x ≡ Some y → x ≡ y
+pub some-parts : {A : Type 0} (x y : A) → Some x ≡ Some y → x ≡ y
 some-parts x y e = ap (λ o. unwrap_or o x) e
 
 are-after : (first rest : List ℕ) → AreBytes (first ++ rest) → AreBytes rest
@@ -245,16 +244,16 @@ tag-found (first ∷ bytes) tag are e =
 
 -- ---- the steps of a body
 
-abbrev from_tag : ℕ → List ℕ → ℕ × List ℕ → Option TaggedId
+abbrev pub from_tag : ℕ → List ℕ → ℕ × List ℕ → Option TaggedId
 from_tag flags server number = tag_of number.1 >>= (λ tag. Some (record { flags = flags; server = server; number = number.0; tag = tag }))
 
-abbrev from_number : ℕ → List ℕ × List ℕ → Option TaggedId
+abbrev pub from_number : ℕ → List ℕ × List ℕ → Option TaggedId
 from_number flags server = (after_id 2 server.1 >>= signed_front) >>= from_tag flags server.0
 
-abbrev from_server : ℕ × List ℕ → Option TaggedId
+abbrev pub from_server : ℕ × List ℕ → Option TaggedId
 from_server flags = (after_id 1 flags.1 >>= bytes_front 16) >>= from_number flags.0
 
-abbrev from_flags : List ℕ → Option TaggedId
+abbrev pub from_flags : List ℕ → Option TaggedId
 from_flags fields = (after_id 0 fields >>= byte_front) >>= from_server
 
 -- the fields, one after the other
@@ -294,40 +293,3 @@ tagged-found body id are e =
     let t = step-found (tag_of n.0.1) (λ tag. Some (record { flags = f.0.0; server = v.0.0; number = n.0.0; tag = tag })) id n.2 in
     let has = assembled body head.0 f.0.0 n.0.0 v.0.0 t.0 s.0 f_id.0 f.0.1 v_id.0 v.0.1 n_id.0 n.0.1 head.1 zeroth flags first server second number (tag-found n.0.1 t.0 number.are t.1) in
     subst (HasTagged body) (some-parts (record { flags = f.0.0; server = v.0.0; number = n.0.0; tag = t.0 }) id t.2) has
-
--- ---- the body of the Gtid event has 25 bytes
-
--- as many bytes are read as are asked for
-front-long : (n : ℕ) (bytes : List ℕ) (found : List ℕ × List ℕ) → bytes_front n bytes ≡ Some found → length found.0 ≡ n
-unfolding bytes_front
-front-long zero bytes found is = ap (λ (found : List ℕ × List ℕ). length found.0) (sym (some-parts ([], bytes) found is))
-front-long (suc n) bytes found is =
-    let s = step-found (byte_front bytes) (λ first. bytes_front n first.1 >>= (λ others. Some (first.0 ∷ others.0, others.1))) found is in
-    let t = step-found (bytes_front n s.0.1) (λ others. Some (s.0.0 ∷ others.0, others.1)) found s.2 in
-    let others = front-long n s.0.1 t.0 t.1 in
-    let same = ap (λ (found : List ℕ × List ℕ). length found.0) (sym (some-parts (s.0.0 ∷ t.0.0, t.0.1) found t.2)) in
-    same ∙ omega (arith, others)
-
-server-long : (body : List ℕ) (id : TaggedId) → tagged_of body ≡ Some id → length id.server ≡ 16
-unfolding tagged_of
-server-long body id e =
-    let s = step-found (after_header body) from_flags id e in
-    let f = step-found (after_id 0 s.0 >>= byte_front) from_server id s.2 in
-    let v = step-found (after_id 1 f.0.1 >>= bytes_front 16) (from_number f.0.0) id f.2 in
-    let v_id = step-found (after_id 1 f.0.1) (bytes_front 16) v.0 v.1 in
-    let n = step-found (after_id 2 v.0.1 >>= signed_front) (from_tag f.0.0 v.0.0) id v.2 in
-    let t = step-found (tag_of n.0.1) (λ tag. Some (record { flags = f.0.0; server = v.0.0; number = n.0.0; tag = tag })) id n.2 in
-    ap (λ (id : TaggedId). length id.server) (sym (some-parts (record { flags = f.0.0; server = v.0.0; number = n.0.0; tag = t.0 }) id t.2))
-    ∙ front-long 16 v_id.0 v.0 v_id.2
-
-pub gtid-long : (body : List ℕ) → length (gtid_body_of body) ≡ 25
-unfolding gtid_body_of
-gtid-long body = by_found (tagged_of body) refl
-  where
-    by_found : (found : Option TaggedId) → tagged_of body ≡ found → length (gtid_body_of body) ≡ 25
-    by_found None none = rw none refl
-    by_found (Some id) found =
-        let server = server-long body id found in
-        let whole = length-append id.server (little_bytes 8 id.number) in
-        let is : length (gtid_text id) ≡ 25 = omega arith in
-        rw found is

@@ -1,6 +1,6 @@
 -- Moving an event to the front of the bytes in which it stands.
 use Rattle.std.proofs.Common.{◌≡◌, ℕ, ◌+◌, ◌-◌, ◌≤◌, Bool, List, ◌++◌, length, take, drop, true, false, Some, None, [], ◌∷◌, refl, sym, ap, ◌∙◌, arith, append_assoc}
-use Rattle.std.proofs.lemmas.List.{drop-drop, drop_at, length-append, length-drop, length-take-le, take-append-le, take-take, take_at}
+use Rattle.std.proofs.lemmas.List.{drop-drop, drop_at, length-append, length-drop, length-take-le, take-append-drop, take-append-le, take-take, take_at}
 use Rattle.std.specs.Prelude.{if◌then◌else◌, nat_le, ◌==◌, ◌&&◌}
 use Rattle.std.proofs.lemmas.Bool.Decides.{nat_tests}
 use Rattle.std.proofs.lemmas.Bool.{leb-true}
@@ -16,22 +16,33 @@ use Rattle.byteorder.specs.Endian.{little_number}
 use Rattle.blog_event.specs.Event.{Event, event_at, event_size, event_text}
 use Rattle.blog_event.specs.File.{Placed}
 use Rattle.blog_event.proofs.Framing.{event-at-gives}
-use Rattle.blog_source.specs.Handed.{bare, is_tagged, known}
+use Rattle.blog_source.specs.declared.form.Form.{Form}
+use Rattle.blog_source.specs.declared.form.Form.TheVariants.{Places, Plain}
+use Rattle.blog_source.specs.Handed.{bare, is_tagged}
 use Rattle.blog_event.specs.Writing.{header_text}
-use Rattle.blog_source.specs.code.Walk.{IsHeaderOf, handed_text, moved, moved_bare, moved_size}
+use Rattle.blog_source.specs.code.Walk.{IsHeaderOf, formed, moved, moved_bare, moved_size, pos_as, put_text}
 use borrow.Rule.Slice.PartMut.{put_mid}
 use lib.Seq.{paste}
 
+-- a part that was moved to the front, or is there already
+pub part-moved : (old new : List ℕ) (at to n : ℕ) → new ≡ paste old to (drop at old) ((at + n) - at) → new ≡ take to old ++ (take n (drop at old) ++ drop (to + n) old)
+part-moved old new at to n is =
+    let len : (at + n) - at ≡ n = omega arith in
+    is ∙ ap (λ (n : ℕ). paste old to (drop at old) n) len ∙ append_assoc (take to old) (take n (drop at old)) (drop (to + n) old)
+
+pub part-there : (old : List ℕ) (at to n : ℕ) → to ≡ at → old ≡ take to old ++ (take n (drop at old) ++ drop (to + n) old)
+part-there old at to n same =
+    sym (take-append-drop to old) ∙ ap (λ (rest : List ℕ). take to old ++ rest) (sym (take-append-drop n (drop to old)))
+    ∙ ap (λ (rest : List ℕ). take to old ++ (take n (drop to old) ++ rest)) (drop-drop n to old)
+    ∙ ap (λ (at : ℕ). take to old ++ (take n (drop at old) ++ drop (to + n) old)) same
+
 -- bytes whose part behind a header's place is moved, and then the header, are their front, the header, the part, and their rest
-pub moved-bytes : (old body h : List ℕ) (at to n k : ℕ) → body ≡ paste old (to + 19) (drop (at + 19) old) ((at + 19 + n) - (at + 19)) → length h ≡ 19 → k ≡ 19 → to ≤ at
-    → at + (19 + n) ≤ length old
-    → put_mid to k body h ≡ (take to old ++ (h ++ take n (drop (at + 19) old))) ++ drop (to + (19 + n)) old
-moved-bytes old body h at to n k body_is long k_is order within =
+pub moved-bytes : (old body h : List ℕ) (at to n k : ℕ) → body ≡ take (to + 19) old ++ (take n (drop (at + 19) old) ++ drop (to + 19 + n) old) → length h ≡ 19 → k ≡ 19
+    → to ≤ at → at + (19 + n) ≤ length old → put_mid to k body h ≡ (take to old ++ (h ++ take n (drop (at + 19) old))) ++ drop (to + (19 + n)) old
+moved-bytes old body h at to n k is long k_is order within =
     let part : List ℕ = take n (drop (at + 19) old) in
     let front : List ℕ = take (to + 19) old in
     let rest : List ℕ = drop (to + 19 + n) old in
-    let len : (at + 19 + n) - (at + 19) ≡ n = omega arith in
-    let is : body ≡ front ++ (part ++ rest) = body_is ∙ ap (λ (n : ℕ). paste old (to + 19) (drop (at + 19) old) n) len ∙ append_assoc front part rest in
     let front_long : length front ≡ to + 19 = length-take-le (to + 19) old (omega arith) in
     let before : take to body ≡ take to old = ap (take to) is ∙ take-append-le to front (part ++ rest) (omega arith) ∙ take-take to (to + 19) old (omega arith) in
     let behind : drop (to + k) body ≡ part ++ rest = ap (λ (k : ℕ). drop (to + k) body) k_is ∙ ap (drop (to + 19)) is ∙ drop_at front (part ++ rest) (to + 19) front_long in
@@ -52,13 +63,13 @@ moved-long old h at to n long order within =
     let part = length-take-le n (drop (at + 19) old) (omega arith) in
     omega arith
 
-pub moved-front : (old body h : List ℕ) (at to n k : ℕ) → body ≡ paste old (to + 19) (drop (at + 19) old) ((at + 19 + n) - (at + 19)) → length h ≡ 19 → k ≡ 19 → to ≤ at
+pub moved-front : (old body h : List ℕ) (at to n k : ℕ) → body ≡ take (to + 19) old ++ (take n (drop (at + 19) old) ++ drop (to + 19 + n) old) → length h ≡ 19 → k ≡ 19 → to ≤ at
     → at + (19 + n) ≤ length old → take (to + (19 + n)) (put_mid to k body h) ≡ take to old ++ (h ++ take n (drop (at + 19) old))
 moved-front old body h at to n k body_is long k_is order within =
     ap (take (to + (19 + n))) (moved-bytes old body h at to n k body_is long k_is order within)
     ∙ take_at _ (drop (to + (19 + n)) old) (to + (19 + n)) (moved-long old h at to n long order within)
 
-pub moved-behind : (old body h : List ℕ) (at to n k : ℕ) → body ≡ paste old (to + 19) (drop (at + 19) old) ((at + 19 + n) - (at + 19)) → length h ≡ 19 → k ≡ 19 → to ≤ at
+pub moved-behind : (old body h : List ℕ) (at to n k : ℕ) → body ≡ take (to + 19) old ++ (take n (drop (at + 19) old) ++ drop (to + 19 + n) old) → length h ≡ 19 → k ≡ 19 → to ≤ at
     → at + (19 + n) ≤ length old → drop (to + (19 + n)) (put_mid to k body h) ≡ drop (to + (19 + n)) old
 moved-behind old body h at to n k body_is long k_is order within =
     ap (drop (to + (19 + n))) (moved-bytes old body h at to n k body_is long k_is order within)
@@ -88,10 +99,10 @@ tagged-is sums at h bytes size tagged is least within tested =
     let same : nat_le 25 (length (moved_bare sums at h bytes).body) ≡ nat_le 44 size = grind (arith, nat_tests) in
     ap (λ (test : Bool). (h.kind == 42) && test) same ∙ tested
 
--- a header and a body of 25 bytes, put one after the other
-pub two-parts : (old h b : List ℕ) (to k m : ℕ) → length h ≡ 19 → length b ≡ 25 → k ≡ 19 → m ≡ 25 → to + 44 ≤ length old
-    → put_mid (to + 19) m (put_mid to k old h) b ≡ (take to old ++ (h ++ b)) ++ drop (to + 44) old
-two-parts old h b to k m header body k_is m_is within =
+-- a header and a body, put one after the other
+pub two-parts : (old h b : List ℕ) (to k m n : ℕ) → length h ≡ 19 → length b ≡ n → k ≡ 19 → m ≡ n → to + (19 + n) ≤ length old
+    → put_mid (to + 19) m (put_mid to k old h) b ≡ (take to old ++ (h ++ b)) ++ drop (to + (19 + n)) old
+two-parts old h b to k m n header body k_is m_is within =
     let one : List ℕ = put_mid to k old h in
     let front_long : length (take to old) ≡ to = length-take-le to old (omega arith) in
     let both = length-append (take to old) h in
@@ -100,10 +111,10 @@ two-parts old h b to k m header body k_is m_is within =
     ap (λ (rest : List ℕ). take to old ++ (h ++ rest)) rest ∙ sym (append_assoc (take to old) h (drop (to + 19) old)) in
     let before : take (to + 19) one ≡ take to old ++ h = ap (take (to + 19)) is ∙ take_at (take to old ++ h) (drop (to + 19) old) (to + 19) (omega arith) in
     let behind : drop (to + 19) one ≡ drop (to + 19) old = ap (drop (to + 19)) is ∙ drop_at (take to old ++ h) (drop (to + 19) old) (to + 19) (omega arith) in
-    let on : to + 19 + m ≡ to + 44 = omega arith in
-    let left : drop m (drop (to + 19) one) ≡ drop (to + 44) old = ap (drop m) behind ∙ drop-drop m (to + 19) old ∙ ap (λ (n : ℕ). drop n old) on in
-    (λ i. before i ++ (b ++ left i)) ∙ ap (λ (front : List ℕ). front) (sym (append_assoc (take to old ++ h) b (drop (to + 44) old)))
-    ∙ ap (λ (front : List ℕ). front ++ drop (to + 44) old) (append_assoc (take to old) h b)
+    let on : to + 19 + m ≡ to + (19 + n) = omega arith in
+    let left : drop m (drop (to + 19) one) ≡ drop (to + (19 + n)) old = ap (drop m) behind ∙ drop-drop m (to + 19) old ∙ ap (λ (n : ℕ). drop n old) on in
+    (λ i. before i ++ (b ++ left i)) ∙ ap (λ (front : List ℕ). front) (sym (append_assoc (take to old ++ h) b (drop (to + (19 + n)) old)))
+    ∙ ap (λ (front : List ℕ). front ++ drop (to + (19 + n)) old) (append_assoc (take to old) h b)
 
 pub put-long : (old h : List ℕ) (to k : ℕ) → length h ≡ 19 → k ≡ 19 → to + 19 ≤ length old → length (put_mid to k old h) ≡ length old
 put-long old h to k header k_is within =
@@ -114,8 +125,8 @@ put-long old h to k header k_is within =
     let rest = length-drop k (drop to old) in
     omega arith
 
-pub two-long : (old h b : List ℕ) (to : ℕ) → length h ≡ 19 → length b ≡ 25 → to + 44 ≤ length old → length (take to old ++ (h ++ b)) ≡ to + 44
-two-long old h b to header body within =
+pub two-long : (old h b : List ℕ) (to n : ℕ) → length h ≡ 19 → length b ≡ n → to + (19 + n) ≤ length old → length (take to old ++ (h ++ b)) ≡ to + (19 + n)
+two-long old h b to n header body within =
     let front = length-take-le to old (omega arith) in
     let later = length-append h b in
     let whole = length-append (take to old) (h ++ b) in
@@ -182,33 +193,27 @@ bare-is false bytes at h e found is room =
     let body = moved-body false bytes at h.size e found is.size room in
     λ i. record { timestamp = sym is.timestamp i; kind = sym is.kind i; server_id = sym is.server_id i; log_pos = 0; flags = sym is.flags i; body = body i }
 
--- what an event becomes doesn't go by its log_pos
-known-placed : (e : Event) (pos : ℕ) → record (known (record e { log_pos = 0 })) { log_pos = pos } ≡ record (known e) { log_pos = pos }
-known-placed e pos = by_case (is_tagged e) refl
+-- what is put for an event, which doesn't go by its own log_pos
+abbrev put_as : Form → ℕ → ℕ → Event → Event
+put_as form at to e = record (formed form e) { log_pos = pos_as form at (to + event_size (formed form e)) }
+
+placed-same : (form : Form) (at to : ℕ) (e : Event) → put_as form at to (record e { log_pos = 0 }) ≡ put_as form at to e
+placed-same form at to e = by_case (is_tagged e) refl
   where
-    by_case : (tagged : Bool) → is_tagged e ≡ tagged → record (known (record e { log_pos = 0 })) { log_pos = pos } ≡ record (known e) { log_pos = pos }
+    by_case : (tagged : Bool) → is_tagged e ≡ tagged → put_as form at to (record e { log_pos = 0 }) ≡ put_as form at to e
     by_case true is = rw is refl
     by_case false is = rw is refl
 
-known-long : (e : Event) → event_size (known (record e { log_pos = 0 })) ≡ event_size (known e)
-known-long e = ap event_size (known-placed e 0)
-
--- what is handed out for it, and for those behind it
-pub kept-text : (ends sums : Bool) (bytes : List ℕ) (at to : ℕ) (h : Header) (e : Event) (ps : List Placed) → event_at (drop at bytes) ≡ Some e → IsHeaderOf e h
+-- what is put for it, and for those behind it
+pub kept-text : (form : Form) (sums : Bool) (bytes : List ℕ) (at to : ℕ) (h : Header) (e : Event) (ps : List Placed) → event_at (drop at bytes) ≡ Some e → IsHeaderOf e h
     → (sums ≡ true → 23 ≤ h.size)
-    → handed_text ends sums to (record { pos = at; event = e } ∷ ps) ≡ event_text (moved ends sums to at h bytes) ++ handed_text ends sums (to + event_size (moved ends sums to at h bytes)) ps
-kept-text true sums bytes at to h e ps found is room =
-    let same = bare-is sums bytes at h e found is room in
-    let long : event_size (known (bare sums e)) ≡ event_size (known (moved_bare sums at h bytes)) = sym (known-long (bare sums e)) ∙ ap (λ (e : Event). event_size (known e)) same in
-    let moves : record (known (bare sums e)) { log_pos = to + event_size (known (bare sums e)) } ≡ moved true sums to at h bytes =
-    sym (known-placed (bare sums e) (to + event_size (known (bare sums e))))
-    ∙ (λ i. record (known (same i)) { log_pos = to + long i }) in
-    (λ i. event_text (moves i) ++ handed_text true sums (to + event_size (moves i)) ps)
-kept-text false sums bytes at to h e ps found is room =
-    let same = bare-is sums bytes at h e found is room in
-    let moves : record (known (bare sums e)) { log_pos = at } ≡ moved false sums to at h bytes =
-    sym (known-placed (bare sums e) at) ∙ (λ i. record (known (same i)) { log_pos = at }) in
-    (λ i. event_text (moves i) ++ handed_text false sums (to + event_size (moves i)) ps)
+    → put_text form sums to (record { pos = at; event = e } ∷ ps) ≡ event_text (moved form sums to at h bytes) ++ put_text form sums (to + event_size (moved form sums to at h bytes)) ps
+kept-text Places sums bytes at to h e ps found is room =
+    let moves = sym (placed-same Places at to (bare sums e)) ∙ ap (put_as Places at to) (bare-is sums bytes at h e found is room) in
+    (λ i. event_text (moves i) ++ put_text Places sums (to + event_size (moves i)) ps)
+kept-text Plain sums bytes at to h e ps found is room =
+    let moves = sym (placed-same Plain at to (bare sums e)) ∙ ap (put_as Plain at to) (bare-is sums bytes at h e found is room) in
+    (λ i. event_text (moves i) ++ put_text Plain sums (to + event_size (moves i)) ps)
 
 -- ---- the checks of an event
 

@@ -14,13 +14,9 @@ use Rattle.blog_source.specs.Found.{found_behind}
 abbrev pub is_tagged : Event → Bool
 is_tagged e = (e.kind == 42) && nat_le 25 (length e.body)
 
--- such an event as a Gtid event (type 33)
-abbrev pub untagged : Event → Event
-untagged e = record e { kind = 33; body = gtid_body_of e.body }
-
--- any other event is as it is
+-- such an event as a Gtid event (type 33), with the tag behind its 25 bytes; any other event is as it is
 abbrev pub known : Event → Event
-known e = if is_tagged e then untagged e else e
+known e = if is_tagged e then record e { kind = 33; body = gtid_body_of e.body } else e
 
 -- what an event becomes, without its sum: none, one or several events that flashback reads, together no longer than it
 abbrev pub becomes : Event → List Event

@@ -1,29 +1,17 @@
 //! Going through the events of a log in place: each is checked, and moved to where it is handed out.
 
-ghost use Rattle.std.specs.Prelude.{◌≡◌, ◌≤◌, ◌<◌, ◌+◌, ◌-◌, ◌^◌, ◌++◌, ◌||◌, ◌==◌, ◌&&◌, nat_le, not, true, false, length, take, drop, Some, None, IfOk, IfSome};
+ghost use Rattle.std.specs.Prelude.{◌≡◌, ◌≤◌, ◌<◌, ◌+◌, ◌^◌, ◌++◌, true, length, take, drop, Some, IfOk};
 ghost use Rattle.std.specs.Result.{result_err};
-ghost use Rattle.blog_event.specs.Event.{event_of, event_at, event_size, event_text};
+ghost use Rattle.blog_event.specs.Event.{event_of, event_at, event_size};
 ghost use Rattle.blog_event.specs.File.{is_below};
-ghost use Rattle.blog_event.specs.Writing.{header_text};
-ghost use Rattle.blog_gtid.specs.Tagged.{gtid_body_of};
-ghost use Rattle.blog_sum.specs.Sums.{sum_check};
 ghost use Rattle.blog_source.specs.Found.{begins_right, is_wrong_sum};
-ghost use Rattle.blog_source.specs.code.Walk.{IsStep, found_left, handed_text, left, moved, moved_size, next_check};
+ghost use Rattle.blog_source.specs.code.Walk.{IsStep, found_left, left, next_check, put_text};
 
+use crate::form::Form;
+use crate::putting::put_kept;
 use crate::reading::Reading;
-use blog_event::constants::GTID_LOG_EVENT;
-use blog_event::{Event, Fault, HEADER_LEN, Header, event_at, header_bytes};
-use blog_gtid::gtid_body;
-use blog_sum::{SUM_LEN, SumFault, summed_event};
-
-/// The type of a tagged GTID event (MySQL source code documentation, "GTID_TAGGED_LOG_EVENT").
-const GTID_TAGGED_LOG_EVENT: u8 = 42;
-
-/// How many bytes the body of a Gtid event has that a tagged one becomes.
-const GTID_LEN: usize = 25;
-
-/// How many bytes that event has.
-const GTID_SIZE: u32 = 44;
+use blog_event::{Event, Fault, Header, event_at};
+use blog_sum::{SumFault, summed_event};
 
 /// What is said of the event at a position.
 #[derive(Clone, Copy, Debug)]
@@ -123,100 +111,12 @@ fn step_at_fault(bytes: &[u8], at: u32, sums: bool, how: Reading, fault: SumFaul
     Step::Refuse(fault)
 }
 
-/// Moves an event to the front, from `at` to `to`: this header, and the first bytes of its body.
-fn move_event(bytes: &mut [u8], at: usize, to: usize, header: Header, body_len: usize)
-    requires order { to ≤ at }
-    requires within { at + (19 + body_len) ≤ length bytes.old }
-    ensures front { take (to + (19 + body_len)) bytes.new ≡ take to bytes.old ++ (header_text header ++ take body_len (drop (at + 19) bytes.old)) }
-    ensures behind { drop (to + (19 + body_len)) bytes.new ≡ drop (to + (19 + body_len)) bytes.old }
-    ensures len { length bytes.new ≡ length bytes.old }
-{
-    let body = at + HEADER_LEN;
-    bytes.copy_within(body..body + body_len, to + HEADER_LEN);
-    bytes[to..to + HEADER_LEN].copy_from_slice(&header_bytes(header));
-}
-
-/// Whether an event of this type, which has so many bytes without its sum, is put as a Gtid event.
-fn is_tagged(kind: u8, size: u32) -> bool
-    ensures { result ≡ ((kind == 42) && nat_le 44 size) }
-{
-    kind == GTID_TAGGED_LOG_EVENT && size >= GTID_SIZE
-}
-
-/// Puts the Gtid event that a tagged one becomes, with this header, at `to`. The tagged one is at `at`, and its body has so
-/// many bytes without its sum.
-fn put_untagged(bytes: &mut [u8], at: usize, to: usize, header: Header, body_len: usize)
-    requires order { to ≤ at }
-    requires enough { 25 ≤ body_len }
-    requires within { at + (19 + body_len) ≤ length bytes.old }
-    ensures front { take (to + 44) bytes.new ≡ take to bytes.old ++ (header_text header ++ gtid_body_of (take body_len (drop (at + 19) bytes.old))) }
-    ensures behind { drop (to + 44) bytes.new ≡ drop (to + 44) bytes.old }
-    ensures len { length bytes.new ≡ length bytes.old }
-{
-    let body = gtid_body_at(bytes, at + HEADER_LEN, body_len);
-    let place = to + HEADER_LEN;
-    bytes[to..place].copy_from_slice(&header_bytes(header));
-    bytes[place..place + GTID_LEN].copy_from_slice(&body);
-}
-
-/// The body of the Gtid event that a tagged one becomes, whose body begins at a position and has so many bytes.
-fn gtid_body_at(bytes: &[u8], at: usize, len: usize) -> [u8; 25]
-    requires within { at + len ≤ length bytes.now }
-    ensures { result ≡ gtid_body_of (take len (drop at bytes.now)) }
-{
-    gtid_body(&bytes[at..at + len])
-}
-
-/// Puts what is handed out for the event at `at`, whose header this is, at `to`: the event without its sum, or the Gtid event
-/// that it becomes. Its log_pos is where it ends then, or where the event began. Returns where it ends.
-fn put_handed(bytes: &mut [u8], at: u32, to: u32, header: Header, sums: bool, ends: bool) -> u32
-    requires short { length bytes.old < 2 ^ 32 }
-    requires order { to ≤ at }
-    requires least { 19 ≤ header.size }
-    requires room { sums ≡ true → 23 ≤ header.size }
-    requires within { at + header.size ≤ length bytes.old }
-    ensures front { take result bytes.new ≡ take to bytes.old ++ event_text (moved ends sums to at header bytes.old) }
-    ensures behind { drop (at + header.size) bytes.new ≡ drop (at + header.size) bytes.old }
-    ensures len { length bytes.new ≡ length bytes.old }
-    ensures end { result ≡ to + event_size (moved ends sums to at header bytes.old) }
-    ensures before { result ≤ at + header.size }
-{
-    let bare = if sums {
-        header.size - SUM_LEN as u32
-    } else {
-        header.size
-    };
-    let body_len = bare as usize - HEADER_LEN;
-    if is_tagged(header.kind, bare) {
-        let end = to + GTID_SIZE;
-        let moved = Header {
-            kind: GTID_LOG_EVENT,
-            size: GTID_SIZE,
-            log_pos: if ends { end } else { at },
-            ..header
-        };
-        put_untagged(bytes, at as usize, to as usize, moved, body_len);
-        end
-    } else {
-        let end = to + bare;
-        let log_pos = if ends { end } else { at };
-        let moved = Header {
-            size: bare,
-            log_pos,
-            ..header
-        };
-        move_event(bytes, at as usize, to as usize, moved, body_len);
-        end
-    }
-}
-
-/// Goes through the events from `first` on, and moves what is handed out for each to the front. The log_pos of each is where it
-/// ends then if `ends` is given, else where the event of the log begins that it stands for.
-pub(crate) fn hand_out(bytes: &mut [u8], first: u32, sums: bool, ends: bool, how: Reading) -> Walked
+/// Goes through the events from `first` on, and puts what each becomes behind what stands in front of `first`.
+pub(crate) fn hand_out(bytes: &mut [u8], first: u32, sums: bool, form: Form, how: Reading) -> Walked
     requires short { length bytes.old < 2 ^ 32 }
     requires within { first ≤ length bytes.old }
     ensures text { take result.len bytes.new ≡ take first bytes.old
-        ++ handed_text ends sums first (found_left how sums (length bytes.old) first (drop first bytes.old)).kept }
+        ++ put_text form sums first (found_left how sums (length bytes.old) first (drop first bytes.old)).kept }
     ensures fault { result.fault ≡ (found_left how sums (length bytes.old) first (drop first bytes.old)).fault }
     ensures end { result.end ≡ (found_left how sums (length bytes.old) first (drop first bytes.old)).end }
     ensures damaged { result.damaged ≡ (found_left how sums (length bytes.old) first (drop first bytes.old)).damaged }
@@ -229,7 +129,7 @@ pub(crate) fn hand_out(bytes: &mut [u8], first: u32, sums: bool, ends: bool, how
     'events: while is_below(at, how.stop) && (at as usize) < bytes.len() {
         match step_at(bytes, at, sums, how) {
             Step::Keep(header) => {
-                to = put_handed(bytes, at, to, header, sums, ends);
+                to = put_kept(bytes, at, to, header, sums, form);
                 at += header.size;
             }
             Step::PassOver(size) => {
