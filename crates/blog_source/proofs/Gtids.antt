@@ -1,6 +1,5 @@
 -- What is put for an event: the Gtid event for a tagged one, and any other without its sum.
-use Rattle.std.proofs.Common.{◌≡◌, ℕ, ◌+◌, ◌-◌, Bool, true, false, List, ◌++◌, length, take, drop, refl, sym, subst, ap, ◌∙◌}
-use Rattle.std.specs.Prelude.{if◌then◌else◌}
+use Rattle.std.proofs.Common.{◌≡◌, ℕ, ◌+◌, ◌-◌, Bool, true, false, List, ◌++◌, length, take, drop, refl, sym, ap, ◌∙◌}
 use Rattle.blog_event.specs.declared.event.Header.{Header}
 use Rattle.blog_event.specs.Event.{Event, event_size, event_text}
 use Rattle.blog_event.specs.Writing.{header_text}

@@ -1,5 +1,5 @@
 -- The log that is handed out: its events, its length, and that it is a log.
-use Rattle.std.proofs.Common.{◌≡◌, ℕ, ◌+◌, ◌-◌, ◌^◌, ◌≤◌, ◌<◌, Bool, true, false, List, [], ◌∷◌, length, take, drop, Option, Some, None, refl, sym, subst, ap, ◌∙◌, arith}
+use Rattle.std.proofs.Common.{◌≡◌, ℕ, ◌+◌, ◌-◌, ◌^◌, ◌≤◌, ◌<◌, Bool, true, false, List, [], ◌∷◌, length, drop, Option, Some, None, refl, sym, subst, ap, ◌∙◌, arith}
 use Rattle.std.specs.Prelude.{◌&&◌, ◌==◌, nat_le}
 use Rattle.std.proofs.lemmas.Bool.{and_parts, leb-true}
 use Rattle.std.specs.List.{flat_map, AllByRecursion}
@@ -12,7 +12,6 @@ use Rattle.blog_event.specs.Format.{algorithm, description_fault}
 use Rattle.blog_event.specs.Opening.{opening_fault}
 use Rattle.blog_sum.specs.declared.fault.SumFault.{SumFault}
 use Rattle.blog_sum.specs.Sums.{algorithm_of, has_sums}
-use Rattle.blog_sum.specs.Plain.{plain_format}
 use Rattle.blog_sum.proofs.Formats.{described-long, plain-described, plain-none}
 use Rattle.blog_sum.proofs.Plains.{format-accepted, format-event, summed-algorithm}
 use Rattle.blog_sum.proofs.Texts.{format-size}

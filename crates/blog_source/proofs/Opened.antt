@@ -1,5 +1,5 @@
 -- What is found of a log, and what is handed out for it, behind its front.
-use Rattle.std.proofs.Common.{◌≡◌, ℕ, ◌+◌, false, List, [], ◌∷◌, ◌++◌, length, take, drop, Some, sym, ap, ◌∙◌, append_assoc, arith}
+use Rattle.std.proofs.Common.{◌≡◌, ℕ, ◌+◌, List, [], ◌∷◌, ◌++◌, length, take, drop, Some, sym, ap, ◌∙◌, append_assoc, arith}
 use Rattle.std.specs.Prelude.{Option}
 use Rattle.std.specs.List.{flat_map}
 use Rattle.std.proofs.lemmas.List.{append-nil, drop_all, drop-drop, take_all}
@@ -8,8 +8,7 @@ use Rattle.blog_event.specs.File.{magic, file_text, events_from, placed_from, re
 use Rattle.blog_event.proofs.Framing.{read-first}
 use Rattle.blog_sum.specs.Sums.{has_sums}
 use Rattle.blog_source.specs.declared.front.Front.{Front}
-use Rattle.blog_source.specs.declared.form.Form.{Form}
-use Rattle.blog_source.specs.declared.form.Form.TheVariants.{Places, Plain}
+use Rattle.blog_source.specs.declared.form.Form.TheVariants.{Places}
 use Rattle.blog_source.specs.declared.reading.Reading.{Reading}
 use Rattle.blog_source.specs.Found.{Found, found, found_behind, found_of}
 use Rattle.blog_source.specs.Handed.{handed, handed_events, handed_format, handed_log}

@@ -5,7 +5,7 @@ use Rattle.std.specs.Result.{IsErrAnd, result_err}
 use Rattle.std.specs.List.{flat_map}
 use Rattle.std.proofs.lemmas.Option.{none-some}
 use Rattle.blog_event.specs.Event.{Event, event_size, event_text}
-use Rattle.blog_event.specs.File.{Placed, magic, file_text, events_from, placed_from, read}
+use Rattle.blog_event.specs.File.{Placed, magic, file_text, events_from, placed_from}
 use Rattle.blog_sum.specs.declared.fault.SumFault.{SumFault}
 use Rattle.blog_sum.specs.Plain.{ended_from}
 use Rattle.blog_sum.specs.Sums.{has_sums}

@@ -1,6 +1,6 @@
 -- The log without checksums that is handed out for a server's log. Each of its events is at the place of an event of that log,
 -- which its log_pos says.
-use Rattle.std.specs.Prelude.{ℕ, ◌+◌, ◌==◌, ◌&&◌, nat_le, Bool, true, false, if◌then◌else◌, List, [], ◌∷◌, map, length}
+use Rattle.std.specs.Prelude.{ℕ, ◌==◌, ◌&&◌, nat_le, Bool, true, false, if◌then◌else◌, List, [], ◌∷◌, map, length}
 use Rattle.std.specs.List.{flat_map}
 use Rattle.blog_event.specs.Event.{Event}
 use Rattle.blog_event.specs.File.{Placed, file_text, read}

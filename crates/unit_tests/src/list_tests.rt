@@ -11,7 +11,8 @@ use sample_logs::builder::{
     BEGIN, DROP_TABLE, GTID, PREVIOUS_GTIDS, Part, ROTATE, XID, build, map_of,
 };
 use sample_logs::samples::{ALTER_BETWEEN, INSERT, MULTI_TABLE, SAVEPOINT_KEPT, UPDATE};
-use sample_logs::summed::{CLOSED, CLOSED_PLAIN, IN_USE, IN_USE_PLAIN, TAGGED};
+use sample_logs::summed::{CLOSED, CLOSED_PLAIN, IN_USE, IN_USE_PLAIN};
+use sample_logs::tagged::TAGGED;
 use std::process::Abort;
 use std::test::Fail;
 

@@ -1,9 +1,7 @@
 -- The header is put first, then the body behind it.
 use Rattle.std.proofs.Common.{◌≡◌, ◌+◌, ◌-◌, ◌++◌, ◌∙◌, ap, arith, drop, length, take, List, ℕ}
 use Rattle.std.proofs.lemmas.List.{drop_at, take_at}
-use Rattle.blog_gtid.specs.Tagged.{gtid_body_of}
 use Rattle.blog_source.proofs.Moving.{part-long, put-long, two-long, two-parts}
-use borrow.Rule.Slice.PartMut.{put_mid}
 use Rattle.blog_source.proofs.putting.put_event.Goals as goal
 
 pub returns-clause-front : goal.returns-clause-front

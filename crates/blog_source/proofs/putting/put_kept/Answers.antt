@@ -1,5 +1,5 @@
 -- By whether the event is a tagged one.
-use Rattle.std.proofs.Common.{◌≤◌, ◌+◌, arith, drop, length, sym, take}
+use Rattle.std.proofs.Common.{◌+◌, arith, drop, sym}
 use Rattle.std.proofs.lemmas.List.{length-drop, length-take-le}
 use Rattle.blog_source.proofs.Gtids.{same-put, tagged-put}
 use Rattle.blog_source.proofs.Moving.{drops-more, tagged-is}
