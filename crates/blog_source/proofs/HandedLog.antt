@@ -13,7 +13,7 @@ use Rattle.blog_event.specs.Opening.{opening_fault}
 use Rattle.blog_sum.specs.declared.fault.SumFault.{SumFault}
 use Rattle.blog_sum.specs.Sums.{algorithm_of, has_sums}
 use Rattle.blog_sum.proofs.Formats.{described-long, plain-described, plain-none}
-use Rattle.blog_sum.proofs.Plains.{format-accepted, format-event, summed-algorithm}
+use Rattle.blog_sum.proofs.Summed.{format-accepted, format-event, summed-algorithm}
 use Rattle.blog_sum.proofs.Texts.{format-size}
 use Rattle.blog_source.specs.declared.reading.Reading.{Reading}
 use Rattle.blog_source.specs.Found.{begins_right, check_of, found, found_with, is_wrong_sum, source_refusal}
@@ -31,7 +31,7 @@ end-past pos [] = omega arith
 end-past pos (e ∷ es) = let later = end-past (pos + event_size e) es in omega arith
 
 -- an event without its sum, where it has one, with another place
-bare-event : (sums : Bool) (pos : ℕ) (e : Event) → pos < 2 ^ 32 → IsEvent e → (sums ≡ true → 23 ≤ event_size e)
+pub bare-event : (sums : Bool) (pos : ℕ) (e : Event) → pos < 2 ^ 32 → IsEvent e → (sums ≡ true → 23 ≤ event_size e)
     → IsEvent (record (bare sums e) { log_pos = pos }) × (event_size (bare sums e) ≤ event_size e)
 bare-event false pos e short event room = (
   record { timestamp = event.timestamp; kind = event.kind; server_id = event.server_id; size = event.size; log_pos = short; flags = event.flags },
@@ -65,7 +65,7 @@ known-event sums pos e short event room = by_case (is_tagged (bare sums e)) refl
     by_case false is = rw is (bare-event sums pos e short event room)
 
 -- events are handed out from a position on, and end no later than another
-abbrev Fit : ℕ → ℕ → List Event → Type 0
+abbrev pub Fit : ℕ → ℕ → List Event → Type 0
 Fit pos end es = AllByRecursion IsEvent es × (end_of pos es ≤ end)
 
 -- what is handed out for events fits where they are, and before it

@@ -9,6 +9,7 @@ pub mod LogText
 pub mod Plained
 mod HandedLog
 pub mod WholeReading
+mod PlainLog
 mod Standing
 mod HandedPlaces
 mod Unmoved

@@ -9,7 +9,7 @@ use Rattle.blog_event.specs.declared.fault.Fault.TheVariants.{CutEvent}
 use Rattle.blog_sum.specs.declared.fault.SumFault.{SumFault}
 use Rattle.blog_sum.specs.declared.fault.SumFault.TheVariants.{Log, WrongSum}
 use Rattle.blog_sum.specs.Sums.{ends_in_its_sum, unless}
-use Rattle.blog_sum.proofs.Plains.{none-first}
+use Rattle.blog_sum.proofs.Summed.{none-first}
 use Rattle.blog_source.specs.Found.{check_of}
 use Rattle.blog_event.specs.declared.event.Header.{Header}
 use Rattle.byteorder.specs.Endian.{little_number}

@@ -1,7 +1,7 @@
 -- What the laws of a source speak of.
-use Rattle.std.specs.Prelude.{◌≡◌, ℕ, Bool, false, List, [], ◌∷◌, ◌++◌, map, drop, None}
+use Rattle.std.specs.Prelude.{◌≡◌, ℕ, ◌+◌, Bool, false, List, [], ◌∷◌, ◌++◌, map, drop, None}
 use Rattle.std.specs.List.{AllByRecursion}
-use Rattle.blog_event.specs.Event.{Event, unplaced}
+use Rattle.blog_event.specs.Event.{Event, event_size, unplaced}
 use Rattle.blog_event.specs.File.{Placed, placed_from, end_of}
 use Rattle.blog_sum.specs.Sums.{has_sums}
 use Rattle.blog_source.specs.declared.reading.Reading.{Reading}
@@ -45,3 +45,7 @@ IsUnmoved h = (h.at ≡ h.source.pos) × (unplaced h.event ≡ unplaced h.source
 -- none of the events that are read is a tagged GTID event
 abbrev pub NoneTagged : List Event → Type 0
 NoneTagged es = AllByRecursion (λ e. is_tagged e ≡ false) (drop 1 es)
+
+-- its log_pos is where it ends
+abbrev pub IsEnded : Placed → Type 0
+IsEnded p = p.event.log_pos ≡ p.pos + event_size p.event

@@ -17,5 +17,8 @@ pub use laws::{
     unsummed_logs_keep_their_places, whole_reading_finds_the_sums_faults,
 };
 pub use plain_copy::plain;
+pub use plain_laws::{
+    plain_log_has_the_events, plain_log_is_its_own, plain_logs_open, unsummed_logs_are_plain,
+};
 pub use reading::Reading;
 pub use source::Source;
