@@ -11,6 +11,7 @@ mod putting;
 mod reading;
 mod source;
 mod walk;
+mod whole;
 
 pub use laws::{
     handed_log_has_the_events, handed_logs_open, places_are_of_the_source,
