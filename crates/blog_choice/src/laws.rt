@@ -1,10 +1,16 @@
 //! Laws of the definitions.
 
-ghost use Rattle.std.specs.Prelude.{◌≡◌, ℕ, List, true};
-ghost use Rattle.blog_choice.specs.Choice.{Name, read_name, spelled, can_be_spelled};
+ghost use Rattle.std.specs.Prelude.{◌≡◌, ◌↔◌, ℕ, List, true, false};
+ghost use Rattle.blog_choice.specs.Choice.{Name, read_name, spelled, can_be_spelled, is_nil};
+ghost use Rattle.blog_choice.specs.Words.{occurs, HasWord};
 
 /// A name that is spelled is read, and what is read is so spelled. The call does nothing.
 pub fn names_are_read()
     ensures again { (name : Name) → can_be_spelled name ≡ true → read_name (spelled name) ≡ name }
     ensures same { (text : List ℕ) → spelled (read_name text) ≡ text }
+{}
+
+/// A word is found exactly where a text has it. The call does nothing.
+pub fn words_are_found_exactly()
+    ensures exact { (word text : List ℕ) → is_nil word ≡ false → (occurs word text ≡ true) ↔ HasWord word text }
 {}
