@@ -71,18 +71,18 @@ word-again word text h has =
     let tail = has.found ++ has.after in
     let same_len : length has.found ≡ length word = sym (length-map has.found to_ascii_lowercase) ∙ ap length has.same ∙ length-map word to_ascii_lowercase in
     let len : length text ≡ place + (length has.found + length has.after) =
-        ap length has.parts ∙ length-append has.before tail ∙ ap (λ n. place + n) (length-append has.found has.after) in
+    ap length has.parts ∙ length-append has.before tail ∙ ap (λ n. place + n) (length-append has.found has.after) in
     let within : place < length text = omega (arith, not-nil word h) in
     let rest : drop place text ≡ tail = ap (λ part. drop place part) has.parts ∙ drop_at has.before tail place refl in
     let front : take (length word) (drop place text) ≡ has.found = ap (λ part. take (length word) part) rest ∙ take_at has.found has.after (length word) same_len in
     let behind : drop (place + length word) text ≡ has.after =
-        sym (drop-drop (length word) place text) ∙ ap (λ part. drop (length word) part) rest ∙ drop_at has.found has.after (length word) same_len in
+    sym (drop-drop (length word) place text) ∙ ap (λ part. drop (length word) part) rest ∙ drop_at has.found has.after (length word) same_len in
     let taken : take place text ≡ has.before = ap (λ part. take place part) has.parts ∙ take_at has.before tail place refl in
     let goes : goes_on_with word text place ≡ true =
-        (bytes_eq-Decides (map to_ascii_lowercase (take (length word) (drop place text))) (map to_ascii_lowercase word)).1 (ap (λ part. map to_ascii_lowercase part) front ∙ has.same) in
+    (bytes_eq-Decides (map to_ascii_lowercase (take (length word) (drop place text))) (map to_ascii_lowercase word)).1 (ap (λ part. map to_ascii_lowercase part) front ∙ has.same) in
     let apart_before : not (is_word_byte (slice_index (0 ∷ text) place)) ≡ true =
-        sym (ends-take place text (omega arith)) ∙ ap (λ part. begins_apart (reverse part)) taken ∙ has.before_it in
+    sym (ends-take place text (omega arith)) ∙ ap (λ part. begins_apart (reverse part)) taken ∙ has.before_it in
     let apart_after : not (is_word_byte (slice_index text (place + length word))) ≡ true =
-        sym (begins-drop (place + length word) text) ∙ ap begins_apart behind ∙ has.after_it in
+    sym (begins-drop (place + length word) text) ∙ ap begins_apart behind ∙ has.after_it in
     at-place (λ at. goes_on_with word text at && stands_apart word text at) (length text) place within
     (and_from (goes_on_with word text place) (stands_apart word text place) goes (and_from _ _ apart_before apart_after))

@@ -1,5 +1,5 @@
 -- A name that is spelled is read again, and what is read is so spelled.
-use Rattle.std.proofs.Common.{◌≡◌, ℕ, ◌+◌, ◌-◌, ◌<◌, Bool, true, false, cond, List, [], ◌∷◌, ◌++◌, length, take, drop, Option, Some, None, zero, suc, get_or, length-append, take-append-drop, refl, sym, ap, ◌∙◌, arith}
+use Rattle.std.proofs.Common.{◌≡◌, ℕ, ◌+◌, ◌-◌, ◌<◌, Bool, true, false, cond, List, [], ◌∷◌, ◌++◌, length, take, drop, Option, Some, None, suc, get_or, length-append, take-append-drop, refl, sym, ap, ◌∙◌, arith}
 use Rattle.std.specs.Prelude.{◌==◌, not, nat_lt}
 use Rattle.std.specs.List.{position, position_or_len, list_any}
 use Rattle.std.specs.Option.{option_map_or}

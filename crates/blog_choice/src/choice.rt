@@ -48,9 +48,7 @@ fn is_any_matching(
 ) -> bool
     ensures { result ≡ list_any (matches (option_copied database.entry) schema.now table.now) (map name_value names.now) }
 {
-    names
-        .iter()
-        .any(|name| is_in(name.schema.or(database), schema) && table == name.table)
+    names.iter().any(|name| is_in(name.schema.or(database), schema) && table == name.table)
 }
 
 impl<'n> TableName<'n> {

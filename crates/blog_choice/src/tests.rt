@@ -12,6 +12,15 @@ fn of_tables<'c>(tables: &'c [TableName<'c>]) -> TableChoice<'c> {
     }
 }
 
+/// All tables of a schema.
+fn of_schema<'c>(schema: &'c [u8]) -> TableChoice<'c> {
+    TableChoice {
+        database: Some(schema),
+        tables: &[],
+        excluded: &[],
+    }
+}
+
 /// Whether a statement with the default schema `other` names the table that `name` spells.
 fn names(name: &str, text: &str, inside: bool) -> bool {
     let tables = [TableName::read(name.as_bytes())];
@@ -40,7 +49,11 @@ fn reads_names(rt: HostRuntime) {
     ];
     for (text, schema, table) in spelled {
         let name = TableName::read(text.as_bytes());
-        assert_eq!(rt; name.schema, schema.map(|schema| schema.as_bytes()), "{text}");
+        assert_eq!(rt;
+            name.schema,
+            schema.map(|schema| schema.as_bytes()),
+            "{text}"
+        );
         assert_eq!(rt; name.table, table.as_bytes(), "{text}");
     }
 }
@@ -73,11 +86,7 @@ fn chooses_tables(rt: HostRuntime) {
 
 #[test]
 fn chooses_a_schema(rt: HostRuntime) {
-    let shop = TableChoice {
-        database: Some(b"shop"),
-        tables: &[],
-        excluded: &[],
-    };
+    let shop = of_schema(b"shop");
     assert!(rt; !shop.is_all());
     assert!(rt; shop.has(b"shop", b"orders"));
     assert!(rt; !shop.has(b"other", b"orders"));
@@ -205,20 +214,13 @@ fn knows_statements_in_a_transaction(rt: HostRuntime) {
         "UPDATE x SET a = 1",
         "CREATE TABLE orders (a INT)",
     ];
-    let others = [
-        "CREATE TABLE x (a INT)",
-        "\ncreate\r\n\ttable`x` (a INT)",
-    ];
+    let others = ["CREATE TABLE x (a INT)", "\ncreate\r\n\ttable`x` (a INT)"];
     check_orders(&rt, &naming, &others, true);
 }
 
 #[test]
 fn knows_statements_in_a_schema(rt: HostRuntime) {
-    let shop = TableChoice {
-        database: Some(b"shop"),
-        tables: &[],
-        excluded: &[],
-    };
+    let shop = of_schema(b"shop");
     let cases = [
         ("shop", "DROP TABLE x", true),
         ("other", "DROP TABLE x", false),
