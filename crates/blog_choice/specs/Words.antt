@@ -1,4 +1,5 @@
--- Words of a statement's text.
+-- Words of a statement's text. An unquoted name has ASCII letters, digits, `_`, `$`, and characters beyond ASCII
+-- (MySQL Reference Manual, "Schema Object Names").
 use Rattle.std.specs.Prelude.{◌≡◌, ℕ, ◌+◌, ◌==◌, Bool, true, not, ◌&&◌, ◌||◌, List, [], ◌∷◌, ◌++◌, length, take, drop, map, reverse, nat_le, slice_index}
 use Rattle.std.specs.Char.{is_ascii_alphanumeric, to_ascii_lowercase}
 use Rattle.std.specs.List.{list_any, range_with_len, before_first, position_or_len}
@@ -18,7 +19,7 @@ goes_on_with word text place = str_eq_ignore_ascii_case (take (length word) (dro
 abbrev pub stands_apart : List ℕ → List ℕ → ℕ → Bool
 stands_apart word text place = not (is_word_byte (slice_index (0 ∷ text) place)) && not (is_word_byte (slice_index text (place + length word)))
 
--- the word is in the text, and no longer word that has it
+-- the word is in the text
 unfoldable pub occurs : List ℕ → List ℕ → Bool
 occurs word text = list_any (λ place. goes_on_with word text place && stands_apart word text place) (range_with_len 0 (length text))
 

@@ -9,4 +9,4 @@ mod tests;
 mod words;
 
 pub use choice::{TableChoice, TableName};
-pub use laws::{names_are_read, words_are_found_exactly};
+pub use laws::{names_are_read, statements_about_chosen_tables_name_them, words_are_found_exactly};
