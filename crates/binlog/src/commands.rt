@@ -16,9 +16,9 @@ use crate::log_file::{LogFault, open_log};
 use blog_device::{RunFault, Watched, put, read_log};
 use blog_event::Fault;
 use blog_list::list;
-use blog_source::{Reading, Source};
+use blog_source::{Reading, Source, plain};
 use blog_split::{SplitFault, SplitRunFault, split, split_to};
-use blog_sum::{SumFault, plain};
+use blog_sum::SumFault;
 use result_file::{FileFault, ResultFile, Wanted};
 use std::alloc::Allocator;
 use std::io;
@@ -286,7 +286,7 @@ fn new_log_text<A: Allocator + Copy, D: Read>(
 {
     let log = read_log(alloc, reader)?;
     match making {
-        Making::Plain => Ok(plain(alloc, log.as_slice())?),
+        Making::Plain => Ok(plain(log)?),
         Making::Split(size) => Ok(split(alloc, log.as_slice(), size as usize)?),
     }
 }
