@@ -132,28 +132,11 @@ two-long old h b to n header body within =
     let whole = length-append (take to old) (h ++ b) in
     omega arith
 
--- how long the event is that is moved
-pub bare-long : (sums : Bool) (at : ℕ) (h : Header) (bytes : List ℕ) (size : ℕ) → size ≡ moved_size sums h.size → 19 ≤ size → at + size ≤ length bytes
-    → size ≡ event_size (moved_bare sums at h bytes)
-bare-long sums at h bytes size is least within =
-    let left = length-drop (at + 19) bytes in
-    let part = length-take-le (moved_size sums h.size - 19) (drop (at + 19) bytes) (omega arith) in
-    omega arith
-
 -- what is the same from a position on is so from a later one on
 pub drops-more : (new old : List ℕ) (m n : ℕ) → drop m new ≡ drop m old → m ≤ n → drop n new ≡ drop n old
 drops-more new old m n same order =
     let on : m + (n - m) ≡ n = omega arith in
     ap (λ (n : ℕ). drop n new) (sym on) ∙ sym (drop-drop (n - m) m new) ∙ ap (drop (n - m)) same ∙ drop-drop (n - m) m old ∙ ap (λ (n : ℕ). drop n old) on
-
--- an event without its sum is an event, and no longer
-pub size-bounds : (sums : Bool) (whole size : ℕ) → size ≡ moved_size sums whole → 19 ≤ whole → (sums ≡ true → 23 ≤ whole) → (19 ≤ size) × (size ≤ whole)
-size-bounds true whole size is least room = let enough = room refl in (omega arith, omega arith)
-size-bounds false whole size is least room = (omega arith, omega arith)
-
-pub moved-less : (sums : Bool) (size : ℕ) → moved_size sums size ≤ size
-moved-less true size = omega arith
-moved-less false size = omega arith
 
 -- ---- an event that is kept
 

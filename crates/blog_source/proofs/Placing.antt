@@ -1,5 +1,5 @@
 -- Going through a log for the first event that is at a place or behind it.
-use Rattle.std.proofs.Common.{◌≡◌, ℕ, ◌+◌, ◌≤◌, ◌<◌, true, false, length, drop, List, Some, None, refl, sym, ap, ◌∙◌, inr, arith}
+use Rattle.std.proofs.Common.{◌≡◌, ℕ, ◌+◌, ◌≤◌, true, false, length, drop, List, Some, None, refl, sym, ap, ◌∙◌, inr, arith}
 use Rattle.std.specs.Prelude.{find, nat_le, nat_lt}
 use Rattle.std.proofs.lemmas.Bool.Decides.{nat_tests}
 use Rattle.std.specs.Option.{option_map_or}
@@ -32,8 +32,3 @@ pub position-first : (log : List ℕ) (place at : ℕ) → at ≡ first_of log �
 position-first log place at is behind =
     let test : nat_lt place (first_of log) ≡ false = grind (arith, nat_tests) in
     ap (position_left log place) is ∙ (rw test refl)
-
--- before that the place is the position
-pub position-front : (log : List ℕ) (place at : ℕ) → at ≡ first_of log → place < at → place ≡ position_of log place
-position-front log place at is before =
-    let test : nat_lt place (first_of log) ≡ true = grind (arith, nat_tests) in rw test refl
