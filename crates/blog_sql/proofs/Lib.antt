@@ -1,3 +1,4 @@
 pub mod Lines
 pub mod Adding
+pub mod Changing
 pub mod Walking
