@@ -1,6 +1,6 @@
 -- Base64 in lines: lines of 57 bytes are lines by themselves.
 use Rattle.std.proofs.Common.{◌≡◌, ℕ, zero, suc, ◌+◌, ◌-◌, ◌*◌, ◌%◌, ◌/◌, ◌<◌, ◌≤◌, List, [], ◌∷◌, ◌++◌, length, take, drop, replicate, Option, refl, sym, ap, ap₂, subst, ◌∙◌, arith, append-nil, append_assoc}
-use Rattle.std.proofs.lemmas.List.{take_all, take-append-drop, nil_from_length, length-take-le, length-drop, length-append, length-replicate}
+use Rattle.std.proofs.lemmas.List.{take_all, take-take, take-append-drop, nil_from_length, length-take-le, length-drop, length-append, length-replicate}
 use Rattle.std.proofs.lemmas.Bool.{ne_eqb}
 use Rattle.std.proofs.Math.Seq.{take-add, take-append-add}
 use Rattle.base64.specs.Engines.{standard}
@@ -10,7 +10,7 @@ use Rattle.base64.proofs.EngineFacts.{encode_of-append, encode_of-nil}
 use Rattle.base64.proofs.RoundTrip.{length-encode_symbols}
 use Rattle.blog_device.specs.Devices.{AppendsBeginning}
 use Rattle.blog_sql.specs.Sql.{base64_lines, in_lines}
-use Rattle.blog_sql.specs.code.Adding.{Adds}
+use Rattle.blog_sql.specs.code.Adding.{Adds, full_part}
 use Rattle.blog_sql.proofs.Adding.{adds-more, adds-broken, begins-longer}
 
 -- ---- lines of a text
@@ -131,14 +131,28 @@ adds-line had has now x y z a l n before line is full within =
 
 -- the lines so far, and a beginning of one more
 pub line-broken : (had has now : Option (List ℕ)) (x y a l : List ℕ) (n : ℕ) → Adds had has x y (base64_lines (take n a)) → AppendsBeginning has now (y ++ base64_lines l) → l ≡ take 57 (drop n a) → n % 57 ≡ 0 → n + 57 ≤ length a
-    → AppendsBeginning had now (x ++ base64_lines a)
+    → AppendsBeginning had now (x ++ base64_lines (full_part a))
 line-broken had has now x y a l n before broken is full within =
-    let whole = adds-broken had has now x y (base64_lines (take n a)) (base64_lines l) before broken in
+    let m : ℕ = length a - length a % 57 in
+    let within_part : n + 57 ≤ m = omega arith in
+    let part : List ℕ = take m a in
+    let size : length part ≡ m = length-take-le m a (omega arith) in
+    let full_next : (n + 57) % 57 ≡ 0 = omega arith in
+    let front : take (n + 57) part ≡ take (n + 57) a = take-take (n + 57) m a within_part in
+    let split : base64_lines part ≡ base64_lines (take (n + 57) a) ++ base64_lines (drop (n + 57) part) =
+    lines-left (n + 57) part full_next (omega arith) ∙ ap (λ (bytes : List ℕ). base64_lines bytes ++ base64_lines (drop (n + 57) part)) front in
     let so_far = ap (λ (bytes : List ℕ). base64_lines (take n a) ++ base64_lines bytes) is ∙ sym (take-line n a full (omega arith)) in
-    let lines = subst (λ (text : List ℕ). AppendsBeginning had now (x ++ text)) so_far whole in
-    let size : (n + 57) % 57 ≡ 0 = omega arith in
-    subst (AppendsBeginning had now) (append_assoc x (base64_lines (take (n + 57) a)) (base64_lines (drop (n + 57) a)) ∙ ap (λ (text : List ℕ). x ++ text) (sym (lines-left (n + 57) a size within)))
-    (begins-longer had now (x ++ base64_lines (take (n + 57) a)) (base64_lines (drop (n + 57) a)) lines)
+    let lines = subst (λ (text : List ℕ). AppendsBeginning had now (x ++ text)) so_far (adds-broken had has now x y (base64_lines (take n a)) (base64_lines l) before broken) in
+    subst (λ (text : List ℕ). AppendsBeginning had now (x ++ text)) (sym split)
+    (subst (AppendsBeginning had now) (append_assoc x (base64_lines (take (n + 57) a)) (base64_lines (drop (n + 57) part)))
+    (begins-longer had now (x ++ base64_lines (take (n + 57) a)) (base64_lines (drop (n + 57) part)) lines))
+
+-- a beginning of the full lines is one of all lines
+pub full-broken : (had has : Option (List ℕ)) (x a : List ℕ) → AppendsBeginning had has (x ++ base64_lines (full_part a)) → AppendsBeginning had has (x ++ base64_lines a)
+full-broken had has x a broken =
+    let m : ℕ = length a - length a % 57 in
+    subst (AppendsBeginning had has) (append_assoc x (base64_lines (take m a)) (base64_lines (drop m a)) ∙ ap (λ (text : List ℕ). x ++ text) (sym (lines-left m a (omega arith) (omega arith))))
+    (begins-longer had has (x ++ base64_lines (take m a)) (base64_lines (drop m a)) broken)
 
 -- full lines, and then what is left
 pub adds-last : (had has now : Option (List ℕ)) (x y z a l : List ℕ) (n : ℕ) → Adds had has x y (base64_lines (take n a)) → l ≡ drop n a → n % 57 ≡ 0 → n ≤ length a → Adds has now y z (base64_lines l) → Adds had now x z (base64_lines a)

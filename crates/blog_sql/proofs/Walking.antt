@@ -1,5 +1,5 @@
 -- What is printed for events, one after another.
-use Rattle.std.proofs.Common.{◌≡◌, ℕ, ◌+◌, ◌%◌, Bool, true, false, not, List, [], ◌∷◌, ◌++◌, length, take, drop, Option, codes, refl, sym, ap, ap₂, subst, ◌∙◌, append-nil, append_assoc, arith}
+use Rattle.std.proofs.Common.{◌≡◌, ℕ, ◌+◌, ◌-◌, ◌%◌, Bool, true, false, not, List, [], ◌∷◌, ◌++◌, length, take, drop, Option, codes, refl, sym, ap, ap₂, subst, ◌∙◌, append-nil, append_assoc, arith}
 use Rattle.std.proofs.lemmas.List.{take-append-drop, length-take-le}
 use Rattle.blog_device.specs.Devices.{AppendsBeginning}
 use Rattle.blog_event.specs.Event.{Event, event_size}
@@ -9,7 +9,7 @@ use Rattle.blog_flash.specs.Written.{Written, Same, Maps, Changes}
 use Rattle.blog_flash.specs.code.LaidOut.{text_from}
 use Rattle.blog_trans.specs.Groups.{RowsEvent}
 use Rattle.blog_sql.specs.Sql.{base64_lines, begin_lines, count_errors, end_lines}
-use Rattle.blog_sql.specs.code.Adding.{Adds}
+use Rattle.blog_sql.specs.code.Adding.{Adds, full_part}
 use Rattle.blog_sql.specs.code.Walk.{closing, edge, left, left_of, left_with, opening, Prints, PrintsBeginning, PrintsInside, BeginsInside}
 use Rattle.blog_sql.specs.declared.output.Output.{Output}
 use Rattle.blog_sql.proofs.Adding.{adds-more, adds-broken, begins-longer}
@@ -123,3 +123,17 @@ module _ {A : Type 0} (had has now : Option (List ℕ)) (before after : Output A
             ∙ added-before had now before.chunk.items after.chunk.items (opening before.is_open ++ base64_lines (take n all)) sum more
             ∙ ap (λ (bytes : List ℕ). before.chunk.items ++ bytes) (append_assoc (opening before.is_open) (base64_lines (take n all)) more ∙ ap (λ (bytes : List ℕ). opening before.is_open ++ bytes) whole);
       }
+
+  pub event-broken : (e : Event) (all : List ℕ) → Adds had has before.chunk.items y (opening before.is_open) → AppendsBeginning has now (y ++ base64_lines (full_part all))
+      → all ≡ before.held.items ++ text_from before.pos (e ∷ []) → BeginsInside had now before e
+  event-broken e all opens broken is = λ ws.
+      let m : ℕ = length all - length all % 57 in
+      let next : ℕ = before.pos + event_size e in
+      let more : List ℕ = left before.each_transaction before.is_inside next true (drop m all) ws in
+      let size : length (take m all) ≡ m = length-take-le m all (omega arith) in
+      let full : length (take m all) % 57 ≡ 0 = omega arith in
+      let whole = sym (left-lines before.each_transaction before.is_inside next (take m all) (drop m all) ws full)
+          ∙ ap (λ (bytes : List ℕ). left before.each_transaction before.is_inside next true bytes ws) (take-append-drop m all ∙ is) in
+      subst (λ (bytes : List ℕ). AppendsBeginning had now (before.chunk.items ++ bytes))
+      (append_assoc (opening before.is_open) (base64_lines (take m all)) more ∙ ap (λ (bytes : List ℕ). opening before.is_open ++ bytes) whole)
+      (longer had now before.chunk.items (opening before.is_open ++ base64_lines (take m all)) more (adds-broken had has now before.chunk.items y (opening before.is_open) (base64_lines (take m all)) opens broken))

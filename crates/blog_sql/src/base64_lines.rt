@@ -4,7 +4,7 @@ ghost use Rattle.std.specs.Prelude.{◌≡◌, ◌≤◌, ◌<◌, ◌+◌, ◌%
 ghost use Rattle.blog_device.specs.Watched.{device_of, has_failed};
 ghost use Rattle.blog_device.specs.Devices.{AppendsBeginning, is_write_fault};
 ghost use Rattle.blog_sql.specs.Sql.{base64_lines};
-ghost use Rattle.blog_sql.specs.code.Adding.{Adds};
+ghost use Rattle.blog_sql.specs.code.Adding.{Adds, full_part};
 
 use crate::chunk::append;
 use base64::engine::general_purpose::STANDARD;
@@ -48,7 +48,7 @@ pub(crate) fn put_full_lines<A: Allocator, W: Write>(
     ensures within { IfOk result (λ n. n ≤ length bytes.now) }
     ensures full { IfOk result (λ n. n % 57 ≡ 0) }
     ensures all { IfOk result (λ n. length bytes.now < n + 57) }
-    ensures beginning { OnErr result (AppendsBeginning (W.contents (device_of writer.old)) (W.contents (device_of writer.new)) (chunk.old.items ++ base64_lines bytes.now)) }
+    ensures beginning { OnErr result (AppendsBeginning (W.contents (device_of writer.old)) (W.contents (device_of writer.new)) (chunk.old.items ++ base64_lines (full_part bytes.now))) }
     ensures fault { IfErr result (λ e. e ≡ RunFault.Write) }
     ensures capacity { vec_capacity chunk.old ≤ vec_capacity chunk.new }
     ensures mark { has_failed writer.new ≡ (has_failed writer.old || is_write_fault result) }
