@@ -1,5 +1,5 @@
 -- What is printed for events, one after another.
-use Rattle.std.proofs.Common.{◌≡◌, ℕ, ◌+◌, ◌-◌, ◌%◌, Bool, true, false, not, List, [], ◌∷◌, ◌++◌, length, take, drop, Option, codes, refl, sym, ap, ap₂, subst, ◌∙◌, append-nil, append_assoc, arith}
+use Rattle.std.proofs.Common.{◌≡◌, ℕ, ◌+◌, ◌-◌, ◌%◌, Bool, true, false, not, List, [], ◌∷◌, ◌++◌, length, take, drop, Option, Result, Ok, Err, OnOk, codes, refl, sym, ap, ap₂, subst, ◌∙◌, append-nil, append_assoc, arith}
 use Rattle.std.proofs.lemmas.List.{take-append-drop, length-take-le}
 use Rattle.blog_device.specs.Devices.{AppendsBeginning}
 use Rattle.blog_event.specs.Event.{Event, event_size}
@@ -137,3 +137,62 @@ module _ {A : Type 0} (had has now : Option (List ℕ)) (before after : Output A
       subst (λ (bytes : List ℕ). AppendsBeginning had now (before.chunk.items ++ bytes))
       (append_assoc (opening before.is_open) (base64_lines (take m all)) more ∙ ap (λ (bytes : List ℕ). opening before.is_open ++ bytes) whole)
       (longer had now before.chunk.items (opening before.is_open ++ base64_lines (take m all)) more (adds-broken had has now before.chunk.items y (opening before.is_open) (base64_lines (take m all)) opens broken))
+
+-- ---- rows events
+
+-- three facts of an answer
+pub of-three : {X E P Q R S : Type 0} (r : Result X E) → OnOk r P → OnOk r Q → OnOk r R → (P → Q → R → S) → OnOk r S
+of-three (Ok x) p q r f = f p q r
+of-three (Err e) p q r f = tt
+
+-- a beginning of what is left with an event of a statement
+pub rows-broken : {A : Type 0} (had has : Option (List ℕ)) (before : Output A) (r : RowsEvent) (last : Bool) → BeginsInside had has before (rows_event last r) → PrintsBeginning had has before (Changes r last)
+rows-broken had has before r false broken = broken
+rows-broken had has before r true broken = λ ws.
+    let e : Event = rows_event true r in
+    let ends : List ℕ = closing true (before.held.items ++ text_from before.pos (e ∷ [])) in
+    let more : List ℕ = left before.each_transaction before.is_inside (before.pos + event_size e) false [] ws in
+    subst (λ (text : List ℕ). AppendsBeginning had has (before.chunk.items ++ text)) (append_assoc (opening before.is_open) ends more)
+    (longer had has before.chunk.items (opening before.is_open ++ ends) more (broken []))
+
+module _ {A : Type 0} (had has now : Option (List ℕ)) (before middle after : Output A) (r : RowsEvent) where
+  last_text : List ℕ
+  last_text = opening before.is_open ++ closing true (before.held.items ++ text_from before.pos (rows_event true r ∷ []))
+
+  -- what an event of a statement adds, with the end of the statement
+  last-adds : PrintsInside had has before (rows_event true r) middle → Adds had has before.chunk.items (middle.chunk.items ++ closing middle.is_open middle.held.items) last_text
+  unfolding last_text
+  last-adds prints = (prints.done, prints.written, prints.text [])
+
+  -- the last rows event of a statement
+  pub last-prints : PrintsInside had has before (rows_event true r) middle → middle.pos ≡ before.pos + event_size (rows_event true r)
+      → Adds has now middle.chunk.items after.chunk.items (closing middle.is_open middle.held.items) → after.is_open ≡ false → after.held.items ≡ []
+      → after.each_transaction ≡ middle.each_transaction → after.is_inside ≡ middle.is_inside → after.pos ≡ middle.pos → Prints had now before (Changes r true) after
+  unfolding last_text
+  last-prints prints at closes begun held each inside pos =
+      let ends : List ℕ = middle.chunk.items ++ closing middle.is_open middle.held.items in
+      let rest : Adds has now ends after.chunk.items [] = (closes.0, closes.1, closes.2 ∙ sym (append-nil ends)) in
+      let sum = adds-more had has now before.chunk.items ends after.chunk.items last_text [] (last-adds prints) rest in
+      let all = subst (Adds had now before.chunk.items after.chunk.items) (append-nil last_text) sum in
+      let e : Event = rows_event true r in
+      let statement : List ℕ = closing true (before.held.items ++ text_from before.pos (e ∷ [])) in
+      record {
+        done = all.0;
+        written = all.1;
+        text = λ ws. let more : List ℕ = left before.each_transaction before.is_inside (before.pos + event_size e) false [] ws in
+            ap (λ (bytes : List ℕ). all.0 ++ (after.chunk.items ++ bytes)) (same-left _ _ _ _ _ _ _ _ _ _ ws (each ∙ prints.each) (inside ∙ prints.same) (pos ∙ at) begun held)
+            ∙ added-before had now before.chunk.items after.chunk.items (opening before.is_open ++ statement) all more
+            ∙ ap (λ (bytes : List ℕ). before.chunk.items ++ bytes) (append_assoc (opening before.is_open) statement more);
+      }
+
+  pub last-broken : PrintsInside had has before (rows_event true r) middle → AppendsBeginning has now (middle.chunk.items ++ closing middle.is_open middle.held.items) → PrintsBeginning had now before (Changes r true)
+  unfolding last_text
+  last-broken prints broken = λ ws.
+      let ends : List ℕ = middle.chunk.items ++ closing middle.is_open middle.held.items in
+      let e : Event = rows_event true r in
+      let statement : List ℕ = closing true (before.held.items ++ text_from before.pos (e ∷ [])) in
+      let more : List ℕ = left before.each_transaction before.is_inside (before.pos + event_size e) false [] ws in
+      let nothing = subst (AppendsBeginning has now) (sym (append-nil ends)) broken in
+      let whole = subst (λ (text : List ℕ). AppendsBeginning had now (before.chunk.items ++ text)) (append-nil last_text) (adds-broken had has now before.chunk.items ends last_text [] (last-adds prints) nothing) in
+      subst (λ (text : List ℕ). AppendsBeginning had now (before.chunk.items ++ text)) (append_assoc (opening before.is_open) statement more)
+      (longer had now before.chunk.items (opening before.is_open ++ statement) more whole)

@@ -21,16 +21,16 @@ use std::alloc::Allocator;
 use std::io::Write;
 
 /// Begins events for the server to apply.
-pub(crate) const BINLOG: &[u8] = b"BINLOG '\n";
+const BINLOG: &[u8] = b"BINLOG '\n";
 
 /// Ends a statement.
 const STATEMENT_END: &[u8] = b"';\nSET @undo_errors = @undo_errors + @@error_count;\n";
 
 /// Begins a transaction.
-pub(crate) const BEGIN: &[u8] = b"BEGIN;\n";
+const BEGIN: &[u8] = b"BEGIN;\n";
 
 /// Ends a transaction: it is committed if no statement so far had an error.
-pub(crate) const END: &[u8] = b"SET @undo_end = IF(@undo_errors = 0, 'COMMIT', 'ROLLBACK');\nPREPARE undo_end FROM @undo_end;\nEXECUTE undo_end;\nDEALLOCATE PREPARE undo_end;\n";
+const END: &[u8] = b"SET @undo_end = IF(@undo_errors = 0, 'COMMIT', 'ROLLBACK');\nPREPARE undo_end FROM @undo_end;\nEXECUTE undo_end;\nDEALLOCATE PREPARE undo_end;\n";
 
 /// Returns what is printed before an event of a statement.
 fn opening(is_open: bool) -> &'static [u8]
@@ -41,7 +41,7 @@ fn opening(is_open: bool) -> &'static [u8]
 }
 
 /// Returns what is printed where a transaction begins, or ends if it is the inside that is left.
-fn edge(each_transaction: bool, is_inside: bool) -> &'static [u8]
+pub(crate) fn edge(each_transaction: bool, is_inside: bool) -> &'static [u8]
     ensures value { result.now ≡ edge each_transaction is_inside }
     ensures short { length result.now ≤ 512 }
 {
@@ -88,6 +88,7 @@ impl<A: Allocator> Output<A> {
         ensures beginning { OnErr result (AppendsBeginning (W.contents (device_of writer.old)) (W.contents (device_of writer.new)) (self.old.chunk.items ++ closing self.old.is_open self.old.held.items)) }
         ensures open { OnOk result (self.new.is_open ≡ false) }
         ensures held { OnOk result (self.new.held.items ≡ []) }
+        ensures room { OnOk result ((n : ℕ) → HasRoom n self.old → HasRoom n self.new) }
         ensures pos { self.new.pos ≡ self.old.pos }
         ensures inside { self.new.is_inside ≡ self.old.is_inside }
         ensures each { self.new.each_transaction ≡ self.old.each_transaction }

@@ -81,3 +81,12 @@ pub record PrintsInside {A : Type 0} (had has : Option (List ℕ)) (before : Out
 
 abbrev pub BeginsInside : {A : Type 0} → Option (List ℕ) → Option (List ℕ) → Output A → Event → Type 0
 BeginsInside had has before e = (ws : List Written) → AppendsBeginning had has (before.chunk.items ++ left_with before e ws)
+
+-- nothing is printed yet
+pub record IsNew {A : Type 0} (how : SqlOptions) (front : List ℕ) (out : Output A) : Type 0 where
+  pub chunk : out.chunk.items ≡ []
+  pub each : out.each_transaction ≡ how.each_transaction
+  pub inside : out.is_inside ≡ false
+  pub pos : out.pos ≡ length front
+  pub begun : out.is_open ≡ false
+  pub held : out.held.items ≡ []
