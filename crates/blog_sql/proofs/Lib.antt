@@ -2,3 +2,4 @@ pub mod Lines
 pub mod Adding
 pub mod Changing
 pub mod Walking
+pub mod Grouping

@@ -1,11 +1,11 @@
 -- The SQL that makes the changes of groups, all or none.
-use Rattle.std.specs.Prelude.{ℕ, zero, suc, ◌+◌, ◌==◌, Bool, if◌then◌else◌, List, [], ◌∷◌, ◌++◌, length, drop, codes, ⊤}
+use Rattle.std.specs.Prelude.{ℕ, zero, suc, ◌+◌, ◌<◌, ◌==◌, Bool, if◌then◌else◌, List, [], ◌∷◌, ◌++◌, length, drop, codes}
 use Rattle.std.specs.List.{AllByRecursion}
 use Rattle.base64.specs.Engines.{standard}
 use Rattle.base64.specs.GeneralPurpose.{encode_of}
 use Rattle.blog_event.specs.Event.{event_size}
 use Rattle.blog_event.specs.File.{end_of}
-use Rattle.blog_trans.specs.Groups.{RowsEvent, Statement, Transaction}
+use Rattle.blog_trans.specs.Groups.{Statement, Transaction}
 use Rattle.blog_flash.specs.Printed.{line}
 use Rattle.blog_flash.specs.Texts.{statement_events, transaction_events}
 use Rattle.blog_flash.specs.code.LaidOut.{text_from}
@@ -82,7 +82,7 @@ sql_text how front ts =
 
 -- each statement of the groups has a rows event
 abbrev pub HasRows : Statement → Type 0
-HasRows s = elim s.rows [ [] ↦ ⊥ | r ∷ rows ↦ ⊤ ]
+HasRows s = 0 < length s.rows
 
 abbrev pub HaveRows : List Transaction → Type 0
 HaveRows ts = AllByRecursion (λ t. AllByRecursion HasRows t.statements) ts

@@ -1,6 +1,6 @@
 //! How long a log would be with its events changed.
 
-ghost use Rattle.std.specs.Prelude.{◌≡◌, ◌+◌, ◌≤◌, map};
+ghost use Rattle.std.specs.Prelude.{◌≡◌, ◌+◌, ◌≤◌, map, IfSome};
 ghost use Rattle.std.specs.List.{AllByRecursion};
 ghost use Rattle.blog_event.specs.Event.{event_size};
 ghost use Rattle.blog_flash.specs.code.Measured.{GetsLonger, Measures};
@@ -17,7 +17,8 @@ use blog_trans::SkippedEvent;
 /// Adds an event with a body of `body_len` bytes. Returns `None` if the log would be too long.
 fn with_event(sizes: LogSizes, body_len: usize) -> Option<LogSizes>
     requires { sizes.len ≤ 4294967295 }
-    ensures { GetsLonger sizes body_len result }
+    ensures longer { GetsLonger sizes body_len result }
+    ensures bounded { sizes.largest ≤ sizes.len → IfSome result (λ after. after.largest ≤ after.len) }
 {
     let left = u32::MAX as usize - sizes.len;
     if left < HEADER_LEN {
@@ -55,7 +56,8 @@ pub fn sql_sizes<'a, E: WrittenEvents<'a>>(
     requires front { front_len ≤ 4294967295 }
     requires events { E.can_next events.old }
     requires names { HasShortNames how.now }
-    ensures { Measures front_len (map event_written (map (changed how.now) (E.to_come events.old))) result }
+    ensures measures { Measures front_len (map event_written (map (changed how.now) (E.to_come events.old))) result }
+    ensures bounded { IfSome result (λ sizes. sizes.largest ≤ 4294967295) }
 {
     let mut sizes = LogSizes {
         len: front_len,
