@@ -3,3 +3,4 @@ pub mod Adding
 pub mod Changing
 pub mod Walking
 pub mod Grouping
+pub mod Whole

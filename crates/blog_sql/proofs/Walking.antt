@@ -72,7 +72,7 @@ pub added-before : (had has : Option (List ℕ)) (x y s : List ℕ) (a : Adds ha
 added-before had has x y s a more = sym (append_assoc a.0 y more) ∙ ap (λ (bytes : List ℕ). bytes ++ more) a.2 ∙ append_assoc x s more
 
 -- what is left depends on the state alone
-same-left : (each each' inside inside' begun begun' : Bool) (pos pos' : ℕ) (held held' : List ℕ) (ws : List Written) → each ≡ each' → inside ≡ inside' → pos ≡ pos' → begun ≡ begun' → held ≡ held'
+pub same-left : (each each' inside inside' begun begun' : Bool) (pos pos' : ℕ) (held held' : List ℕ) (ws : List Written) → each ≡ each' → inside ≡ inside' → pos ≡ pos' → begun ≡ begun' → held ≡ held'
     → left each inside pos begun held ws ≡ left each' inside' pos' begun' held' ws
 same-left each each' inside inside' begun begun' pos pos' held held' ws e i p b h = rw (e, i, p, b, h) refl
 

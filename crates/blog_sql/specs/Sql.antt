@@ -65,13 +65,13 @@ transactions_sql each pos (t ∷ ts) = transaction_sql each pos t ++ transaction
 
 -- before the groups: the format description, which is the front without the magic number. If each transaction ends by itself
 -- and there is none, nothing failed
-abbrev pub head_sql : Bool → List ℕ → List ℕ
+unfoldable pub head_sql : Bool → List ℕ → List ℕ
 head_sql each front =
     line (codes "-- flashback 0.1.0") ++ (line (codes "SET @undo_errors = 0;") ++ (binlog (drop 4 front)
     ++ (line (codes "/*!50700 SET @@SESSION.GTID_NEXT='AUTOMATIC' */;") ++ (if each then line (codes "SET @undo_end = 'COMMIT';") else begin_lines))))
 
 -- after them
-abbrev pub tail_sql : Bool → List ℕ
+unfoldable pub tail_sql : Bool → List ℕ
 tail_sql each = (if each then [] else end_lines) ++ line (codes "SELECT @undo_end AS ended_with, @undo_errors AS errors;")
 
 -- the groups of a log with this front

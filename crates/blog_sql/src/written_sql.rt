@@ -14,7 +14,7 @@ ghost use Rattle.blog_flash.specs.code.Measured.{AreWithin};
 ghost use Rattle.blog_sql.specs.Changed.{HasShortNames, changed};
 ghost use Rattle.blog_sql.specs.Sql.{HaveRows, head_sql, sql_text, tail_sql};
 ghost use Rattle.blog_sql.specs.code.Adding.{Adds};
-ghost use Rattle.blog_sql.specs.code.Walk.{HasRoom, IsNew, left_of, walk_sql};
+ghost use Rattle.blog_sql.specs.code.Walk.{HasRoom, IsNew, after_format, left_of, walk_sql};
 
 use crate::base64_lines::put_lines;
 use crate::chunk::append;
@@ -44,6 +44,14 @@ const BEFORE_EACH: &[u8] = b"';\n/*!50700 SET @@SESSION.GTID_NEXT='AUTOMATIC' */
 /// The last line.
 const LAST: &[u8] = b"SELECT @undo_end AS ended_with, @undo_errors AS errors;\n";
 
+/// Returns what is printed after the format description.
+fn after_format(each: bool) -> &'static [u8]
+    ensures value { result.now ≡ after_format each }
+    ensures short { length result.now ≤ 512 }
+{
+    if each { BEFORE_EACH } else { BEFORE_ONE }
+}
+
 /// Adds what is before the events.
 fn put_head<A: Allocator, W: Write>(
     writer: &mut Watched<W>,
@@ -61,7 +69,7 @@ fn put_head<A: Allocator, W: Write>(
 {
     append(writer, chunk, FIRST)?;
     put_lines(writer, chunk, &front[4..])?;
-    append(writer, chunk, if each { BEFORE_EACH } else { BEFORE_ONE })
+    append(writer, chunk, after_format(each))
 }
 
 /// Adds what is after the events, and writes the chunk.

@@ -37,6 +37,11 @@ left each inside pos begun held (Changes r false ∷ ws) =
 left each inside pos begun held (Changes r true ∷ ws) =
     opening begun ++ (closing true (held ++ text_from pos (rows_event true r ∷ [])) ++ left each inside (pos + event_size (rows_event true r)) false [] ws)
 
+-- after the format description
+abbrev pub after_format : Bool → List ℕ
+after_format each =
+    line (codes "';") ++ (line (codes "/*!50700 SET @@SESSION.GTID_NEXT='AUTOMATIC' */;") ++ (if each then line (codes "SET @undo_end = 'COMMIT';") else begin_lines))
+
 -- the whole
 abbrev pub walk_sql : SqlOptions → List ℕ → List Written → List ℕ
 walk_sql how front ws =
