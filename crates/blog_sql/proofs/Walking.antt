@@ -118,7 +118,7 @@ module _ {A : Type 0} (had has now : Option (List ℕ)) (before after : Output A
         text = λ ws. let next : ℕ = before.pos + event_size e in
             let more : List ℕ = left before.each_transaction before.is_inside next true (drop n all) ws in
             let whole = sym (left-lines before.each_transaction before.is_inside next (take n all) (drop n all) ws (ap (λ (k : ℕ). k % 57) size ∙ full))
-                ∙ ap (λ (bytes : List ℕ). left before.each_transaction before.is_inside next true bytes ws) (take-append-drop n all ∙ is) in
+            ∙ ap (λ (bytes : List ℕ). left before.each_transaction before.is_inside next true bytes ws) (take-append-drop n all ∙ is) in
             ap (λ (bytes : List ℕ). sum.0 ++ (after.chunk.items ++ bytes)) (same-left _ _ _ _ _ _ _ _ _ _ ws each inside pos begun held)
             ∙ added-before had now before.chunk.items after.chunk.items (opening before.is_open ++ base64_lines (take n all)) sum more
             ∙ ap (λ (bytes : List ℕ). before.chunk.items ++ bytes) (append_assoc (opening before.is_open) (base64_lines (take n all)) more ∙ ap (λ (bytes : List ℕ). opening before.is_open ++ bytes) whole);
@@ -133,7 +133,7 @@ module _ {A : Type 0} (had has now : Option (List ℕ)) (before after : Output A
       let size : length (take m all) ≡ m = length-take-le m all (omega arith) in
       let full : length (take m all) % 57 ≡ 0 = omega arith in
       let whole = sym (left-lines before.each_transaction before.is_inside next (take m all) (drop m all) ws full)
-          ∙ ap (λ (bytes : List ℕ). left before.each_transaction before.is_inside next true bytes ws) (take-append-drop m all ∙ is) in
+      ∙ ap (λ (bytes : List ℕ). left before.each_transaction before.is_inside next true bytes ws) (take-append-drop m all ∙ is) in
       subst (λ (bytes : List ℕ). AppendsBeginning had now (before.chunk.items ++ bytes))
       (append_assoc (opening before.is_open) (base64_lines (take m all)) more ∙ ap (λ (bytes : List ℕ). opening before.is_open ++ bytes) whole)
       (longer had now before.chunk.items (opening before.is_open ++ base64_lines (take m all)) more (adds-broken had has now before.chunk.items y (opening before.is_open) (base64_lines (take m all)) opens broken))

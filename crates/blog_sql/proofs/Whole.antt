@@ -1,5 +1,7 @@
 -- The text as a whole: what is before the events, the events, and what is after them.
-use Rattle.std.proofs.Common.{◌≡◌, ℕ, Bool, true, false, not, List, [], ◌∷◌, ◌++◌, length, map, drop, Option, Result, Ok, Err, OnOk, OnErr, IfErr, codes, refl, sym, ap, subst, ◌∙◌, append-nil, append_assoc}
+use Rattle.std.proofs.Common.{◌≡◌, ℕ, Bool, true, false, not, ◌+◌, ◌≤◌, List, [], ◌∷◌, ◌++◌, length, map, drop, Option, Vec, vec_capacity, Result, Ok, Err, OnOk, OnErr, IfErr, codes, refl, sym, ap, subst, ◌∙◌, append-nil, append_assoc, arith}
+use Rattle.std.specs.List.{AllByRecursion}
+use Rattle.blog_event.specs.Event.{Event, event_size}
 use Rattle.std.specs.Io.KnownBytes.{Appends}
 use Rattle.std.proofs.KnownBytes.{Appends-nil, Appends-trans}
 use Rattle.blog_device.specs.Devices.{AppendsBeginning}
@@ -12,7 +14,7 @@ use Rattle.blog_flash.proofs.WritingOut.{IsOnTheWay}
 use Rattle.blog_sql.specs.Changed.{changed}
 use Rattle.blog_sql.specs.Sql.{base64_lines, end_lines, head_sql, tail_sql}
 use Rattle.blog_sql.specs.code.Adding.{Adds}
-use Rattle.blog_sql.specs.code.Walk.{IsNew, Prints, after_format, edge, left, left_of, walk_sql}
+use Rattle.blog_sql.specs.code.Walk.{HasRoom, IsNew, Prints, after_format, edge, left, left_of, walk_sql}
 use Rattle.blog_sql.specs.declared.options.SqlOptions.{SqlOptions}
 use Rattle.blog_sql.specs.declared.output.Output.{Output}
 use Rattle.blog_sql.proofs.Walking.{same-left}
@@ -91,3 +93,19 @@ is-written had has text (Ok done) all begun fault = all
 is-written had has text (Err (run.Log f)) all begun fault = cc
 is-written had has text (Err run.Read) all begun fault = cc
 is-written had has text (Err run.Write) all begun fault = begun
+
+-- ---- room
+
+-- another chunk with room
+pub chunk-room : {A : Type 0} (n : ℕ) (out : Output A) (chunk : Vec ℕ A) → 512 ≤ vec_capacity chunk → HasRoom n out → HasRoom n (record out { chunk = chunk })
+chunk-room n out chunk room h = record { held = h.held; within = h.within; room = h.room; chunk = room }
+
+pub chunk-rooms : {A : Type 0} (out : Output A) (chunk : Vec ℕ A) (es : List Event) → 512 ≤ vec_capacity chunk → AllByRecursion (λ e. HasRoom (event_size e) out) es
+    → AllByRecursion (λ e. HasRoom (event_size e) (record out { chunk = chunk })) es
+chunk-rooms out chunk [] room all = tt
+chunk-rooms out chunk (e ∷ es) room (h, all) = (chunk-room (event_size e) out chunk room h, chunk-rooms out chunk es room all)
+
+-- room for the largest event is room for each
+pub each-room : {A : Type 0} (out : Output A) (largest : ℕ) (es : List Event) → HasRoom largest out → AllByRecursion (λ e. event_size e ≤ largest) es → AllByRecursion (λ e. HasRoom (event_size e) out) es
+each-room out largest [] h all = tt
+each-room out largest (e ∷ es) h (small, all) = (record { held = h.held; within = h.within; room = omega (arith, h.room, small); chunk = h.chunk }, each-room out largest es h all)

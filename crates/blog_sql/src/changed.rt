@@ -44,12 +44,7 @@ fn new_name<'s>(schemas: &[Renamed<'s>], name: &[u8]) -> Option<&'s [u8]>
 }
 
 /// Appends a table map with its new log_pos, its timestamp and its schema changed. `out` has the log from position `from` on.
-fn put_map<A: Allocator>(
-    out: &mut Vec<u8, A>,
-    from: usize,
-    event: &Event<'_>,
-    how: &SqlOptions<'_>,
-)
+fn put_map<A: Allocator>(out: &mut Vec<u8, A>, from: usize, event: &Event<'_>, how: &SqlOptions<'_>)
     requires names { HasShortNames how.now }
     requires room { vec_len out.old + event_size (changed_map how.now (unplaced (event_of event.now))) ≤ vec_capacity out.old }
     requires short { from + vec_len out.old + event_size (changed_map how.now (unplaced (event_of event.now))) ≤ 4294967295 }

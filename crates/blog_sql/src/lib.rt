@@ -7,10 +7,9 @@ mod chunk;
 mod options;
 mod output;
 mod sizes;
-mod written_sql;
-
 #[cfg(test)]
 mod tests;
+mod written_sql;
 
 pub use options::{Renamed, SqlOptions};
 pub use sizes::sql_sizes;

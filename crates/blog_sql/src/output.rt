@@ -30,7 +30,8 @@ const STATEMENT_END: &[u8] = b"';\nSET @undo_errors = @undo_errors + @@error_cou
 const BEGIN: &[u8] = b"BEGIN;\n";
 
 /// Ends a transaction: it is committed if no statement so far had an error.
-const END: &[u8] = b"SET @undo_end = IF(@undo_errors = 0, 'COMMIT', 'ROLLBACK');\nPREPARE undo_end FROM @undo_end;\nEXECUTE undo_end;\nDEALLOCATE PREPARE undo_end;\n";
+const END: &[u8] =
+    b"SET @undo_end = IF(@undo_errors = 0, 'COMMIT', 'ROLLBACK');\nPREPARE undo_end FROM @undo_end;\nEXECUTE undo_end;\nDEALLOCATE PREPARE undo_end;\n";
 
 /// Returns what is printed before an event of a statement.
 fn opening(is_open: bool) -> &'static [u8]

@@ -27,11 +27,22 @@ fn sql_of<R: AllocGlobal + Abort>(rt: &R, log: &[u8], how: &SqlOptions<'_>) -> V
 
 #[test]
 fn prints(rt: HostRuntime) -> Result<(), Fail> {
-    let how = SqlOptions { each_transaction: false, time: None, schemas: &[] };
+    let how = SqlOptions {
+        each_transaction: false,
+        time: None,
+        schemas: &[],
+    };
     let text = sql_of(&rt, &two_statements(&rt)?, &how);
     println!(rt; "{}", str::from_utf8(&text).ok().unwrap_or("?"))?;
-    let schemas = [Renamed { from: b"d", to: b"other" }];
-    let how = SqlOptions { each_transaction: true, time: Some(1), schemas: &schemas };
+    let schemas = [Renamed {
+        from: b"d",
+        to: b"other",
+    }];
+    let how = SqlOptions {
+        each_transaction: true,
+        time: Some(1),
+        schemas: &schemas,
+    };
     let text = sql_of(&rt, &two_transactions(&rt)?, &how);
     println!(rt; "{}", str::from_utf8(&text).ok().unwrap_or("?"))?;
     let text = sql_of(&rt, &no_changes(&rt)?, &how);

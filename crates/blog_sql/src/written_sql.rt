@@ -39,7 +39,8 @@ const FIRST: &[u8] = b"-- flashback 0.1.0\nSET @undo_errors = 0;\nBINLOG '\n";
 const BEFORE_ONE: &[u8] = b"';\n/*!50700 SET @@SESSION.GTID_NEXT='AUTOMATIC' */;\nBEGIN;\n";
 
 /// After it, if each transaction is one of its own: what ended if there is none.
-const BEFORE_EACH: &[u8] = b"';\n/*!50700 SET @@SESSION.GTID_NEXT='AUTOMATIC' */;\nSET @undo_end = 'COMMIT';\n";
+const BEFORE_EACH: &[u8] =
+    b"';\n/*!50700 SET @@SESSION.GTID_NEXT='AUTOMATIC' */;\nSET @undo_end = 'COMMIT';\n";
 
 /// The last line.
 const LAST: &[u8] = b"SELECT @undo_end AS ended_with, @undo_errors AS errors;\n";
