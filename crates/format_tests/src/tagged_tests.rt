@@ -51,7 +51,7 @@ fn a_body_that_cannot_be_read_becomes_zeros(rt: HostRuntime) {
     let zeros = with_bytes(&rt, &TAGGED_PLAIN, AT + 19, &[0; 25]);
     // its version, and its size
     for at in [19, 20] {
-        let log = with_bytes(&rt, &unsummed(&rt, 76), AT + at, &[0]);
+        let log = with_bytes(&rt, &unsummed(&rt, 76), AT.saturating_add(at), &[0]);
         check_plain(&rt, &log, &zeros);
     }
     // 25 bytes of it
