@@ -17,7 +17,7 @@ use crate::arguments::{ArgumentsFault, Asked, ListTask, Making, NewLogTask, read
 use crate::log_file::{LogFault, open_log};
 use blog_device::{RunFault, Watched, put, read_log};
 use blog_event::Fault;
-use blog_list::list;
+use blog_list::{Style, list};
 use blog_source::{Reading, Source, plain};
 use blog_split::{SplitFault, SplitRunFault, split_to};
 use blog_sum::SumFault;
@@ -407,15 +407,12 @@ fn run_list<'a, R: AllocGlobal, A: Allocator + Copy, D: Read, O: Write>(
         Ok(source) => source,
         Err(fault) => return Err(Failure::Unread(fault)),
     };
-    match list(
-        rt.alloc(),
-        alloc,
-        &source,
-        &task.wanted,
-        task.zone.time_zone(),
-        task.form,
-        output,
-    ) {
+    let style = Style {
+        form: task.form,
+        zone: task.zone.time_zone(),
+        gtids: false,
+    };
+    match list(rt.alloc(), alloc, &source, &task.wanted, &style, output) {
         Ok(None) => Ok(()),
         Ok(Some(fault)) => Err(Failure::EndsEarly(fault)),
         Err(fault) => Err(Failure::List(fault)),

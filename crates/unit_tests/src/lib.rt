@@ -2,7 +2,11 @@
 #![tactic(auto)]
 
 #[cfg(test)]
+mod json_tests;
+#[cfg(test)]
 mod list_tests;
+#[cfg(test)]
+mod lists;
 #[cfg(test)]
 mod parts;
 #[cfg(test)]

@@ -1,12 +1,12 @@
 //! Lists of the units of logs, as text and as JSON.
 
-use crate::parts::{MAP, ONE, PAYLOAD, ROLLBACK};
+use crate::lists::{ALL, TEXT};
+use crate::parts::{MAP, ONE, PAYLOAD, ROLLBACK, TAGGED, event_of};
 use crate::sources::source_of;
 use blog_device::Watched;
 use blog_event::Fault;
-use blog_list::{Form, Wanted, list};
+use blog_list::{Style, Wanted, list};
 use blog_sum::SumFault;
-use jiff::tz::TimeZone;
 use sample_logs::builder::{
     BEGIN, DROP_TABLE, GTID, PREVIOUS_GTIDS, Part, ROTATE, XID, build, map_of,
 };
@@ -16,17 +16,7 @@ use sample_logs::tagged::TAGGED;
 use std::process::Abort;
 use std::test::Fail;
 
-/// All units are wanted.
-const ALL: Wanted<'static> = Wanted {
-    start: None,
-    stop: None,
-    from_time: None,
-    to_time: None,
-    database: None,
-    table: None,
-};
-
-const HEADER: &str = "     start       stop  time (UTC)           rows\n";
+const HEADER: &str = "     start       stop  time (UTC)               thread  rows\n";
 
 /// Checks the list of a log, without its header, and what is answered of its end.
 fn check(
@@ -42,8 +32,7 @@ fn check(
         rt.alloc(),
         &source_of(rt, bytes)?,
         wanted,
-        TimeZone::UTC,
-        Form::Text,
+        &TEXT,
         &mut output,
     );
     assert_eq!(rt; answer, Ok(end.map(SumFault::Log)));
@@ -66,57 +55,35 @@ fn check_parts(
     check(rt, &build(rt, parts)?, &ALL, lines, end)
 }
 
-/// Checks the list of a log as JSON.
-fn check_json(
-    rt: &(impl AllocGlobal + Abort),
-    bytes: &[u8],
-    wanted: &Wanted<'_>,
-    lines: &str,
-) -> Result<(), Fail> {
-    let mut output = Watched::new(Vec::new(rt.alloc()));
-    let answer = list(
-        rt.alloc(),
-        rt.alloc(),
-        &source_of(rt, bytes)?,
-        wanted,
-        TimeZone::UTC,
-        Form::Json,
-        &mut output,
-    );
-    assert_eq!(rt; answer, Ok(None));
-    assert_eq!(rt; str::from_utf8(output.device().as_slice())?, lines);
-    Ok(())
-}
-
 #[test]
 fn logs_of_a_server_have_their_lists(rt: HostRuntime) -> Result<(), Fail> {
-    let lines = "       154        397  2026-11-22 07:26:41  `d`.`t` inserts 1
+    let lines = "       154        397  2026-11-22 07:26:41          13  `d`.`t` inserts 1
 units 1, not undoable 0, rows 1
 ";
     check_all(&rt, &INSERT, lines)?;
-    let lines = "       154        479  2026-11-22 07:26:42  `d`.`k` updates 3
+    let lines = "       154        479  2026-11-22 07:26:42          27  `d`.`k` updates 3
 units 1, not undoable 0, rows 3
 ";
     check_all(&rt, &UPDATE, lines)?;
-    let lines = "       154        559  2026-11-22 07:26:43  `d`.`k` updates 2; `d`.`t` updates 3
+    let lines =
+        "       154        559  2026-11-22 07:26:43          41  `d`.`k` updates 2; `d`.`t` updates 3
 units 1, not undoable 0, rows 5
 ";
     check_all(&rt, &MULTI_TABLE, lines)?;
-    let lines = "       154        625  2026-11-22 07:26:44  `d`.`t` inserts 2
+    let lines = "       154        625  2026-11-22 07:26:44          55  `d`.`t` inserts 2
 units 1, not undoable 0, rows 2
 ";
     check_all(&rt, &SAVEPOINT_KEPT, lines)?;
-    let lines = "       240        500  2026-11-22 07:26:55  `d`.`k` inserts 1
-       500        682  2026-11-22 07:26:55  Statement at 573: alter table d.k add column z int
-       682        947  2026-11-22 07:26:55  `d`.`k` inserts 1
+    let lines = "       240        500  2026-11-22 07:26:55         243  `d`.`k` inserts 1
+       500        682  2026-11-22 07:26:55              Statement at 573: alter table d.k add column z int
+       682        947  2026-11-22 07:26:55         243  `d`.`k` inserts 1
 units 3, not undoable 1, rows 2
 ";
     check_all(&rt, &ALTER_BETWEEN, lines)?;
-    let lines =
-        "       194        488  2026-11-21 02:00:00  283c105d-e730-11f1-97ff-02fc00000001:4  `shop`.`orders` inserts 3
-       488        767  2026-11-21 02:01:00  283c105d-e730-11f1-97ff-02fc00000001:5  `shop`.`items` inserts 2
-       767       1143  2026-11-21 02:02:00  283c105d-e730-11f1-97ff-02fc00000001:6  `shop`.`orders` deletes 2; `shop`.`items` deletes 1
-      1143       1436  2026-11-21 02:03:00  283c105d-e730-11f1-97ff-02fc00000001:7  `shop`.`orders` updates 1
+    let lines = "       194        488  2026-11-21 02:00:00          13  `shop`.`orders` inserts 3
+       488        767  2026-11-21 02:01:00          13  `shop`.`items` inserts 2
+       767       1143  2026-11-21 02:02:00          13  `shop`.`orders` deletes 2; `shop`.`items` deletes 1
+      1143       1436  2026-11-21 02:03:00          13  `shop`.`orders` updates 1
 units 4, not undoable 0, rows 9
 ";
     check_all(&rt, &CLOSED_PLAIN, lines)
@@ -125,10 +92,10 @@ units 4, not undoable 0, rows 9
 /// The lines of `CLOSED`, whose events have four bytes more than those of `CLOSED_PLAIN`, but for the format description.
 #[rattlefmt::skip]
 const CLOSED_LINES: [&str; 4] = [
-    "       198        512  2026-11-21 02:00:00  283c105d-e730-11f1-97ff-02fc00000001:4  `shop`.`orders` inserts 3\n",
-    "       512        811  2026-11-21 02:01:00  283c105d-e730-11f1-97ff-02fc00000001:5  `shop`.`items` inserts 2\n",
-    "       811       1215  2026-11-21 02:02:00  283c105d-e730-11f1-97ff-02fc00000001:6  `shop`.`orders` deletes 2; `shop`.`items` deletes 1\n",
-    "      1215       1528  2026-11-21 02:03:00  283c105d-e730-11f1-97ff-02fc00000001:7  `shop`.`orders` updates 1\n",
+    "       198        512  2026-11-21 02:00:00          13  `shop`.`orders` inserts 3\n",
+    "       512        811  2026-11-21 02:01:00          13  `shop`.`items` inserts 2\n",
+    "       811       1215  2026-11-21 02:02:00          13  `shop`.`orders` deletes 2; `shop`.`items` deletes 1\n",
+    "      1215       1528  2026-11-21 02:03:00          13  `shop`.`orders` updates 1\n",
 ];
 
 /// Checks which lines of `CLOSED` a list has that is wanted from a position on and up to another, and what it counts.
@@ -171,7 +138,7 @@ fn a_log_with_checksums_has_its_own_positions(rt: HostRuntime) -> Result<(), Fai
 #[test]
 fn faults_of_units_are_at_the_positions_of_the_log(rt: HostRuntime) -> Result<(), Fail> {
     let lines =
-        "       490        702  2026-11-21 03:01:00  283c105d-e730-11f1-97ff-02fc00000001:9  Statement at 567: alter table items add column price decimal(8,2)
+        "       490        702  2026-11-21 03:01:00              Statement at 567: alter table items add column price decimal(8,2)
 units 1, not undoable 1, rows 0
 ";
     let wanted = Wanted {
@@ -179,12 +146,7 @@ units 1, not undoable 1, rows 0
         stop: Some(702),
         ..ALL
     };
-    check(&rt, &IN_USE, &wanted, lines, None)?;
-    let line =
-        "{\"start\":490,\"stop\":702,\"time\":\"2026-11-21T03:01:00+00:00\",\"timestamp\":1795230060,\"gtid\":\"283c105d-e730-11f1-97ff-02fc00000001:9\",\"fault\":\"Statement\",\"position\":567,\"statement\":\"alter table items add column price decimal(8,2)\"}
-{\"units\":1,\"not_undoable\":1,\"rows\":0}
-";
-    check_json(&rt, &IN_USE, &wanted, line)
+    check(&rt, &IN_USE, &wanted, lines, None)
 }
 
 #[test]
@@ -205,8 +167,7 @@ fn a_damaged_log_is_listed_as_far_as_it_is_right(rt: HostRuntime) -> Result<(), 
     let mut lines = String::new(rt.alloc());
     lines.push_str(first)?;
     lines.push_str(second)?;
-    let unended =
-        "       811       1026  2026-11-21 02:02:00  283c105d-e730-11f1-97ff-02fc00000001:6  Unended at 1026\n";
+    let unended = "       811       1026  2026-11-21 02:02:00          13  Unended at 1026\n";
     let before = "units 2, not undoable 0, rows 5\n";
     let whole = format!(in rt.alloc(); "{lines}{before}")?;
     let up_to = Wanted {
@@ -222,16 +183,7 @@ fn a_damaged_log_is_listed_as_far_as_it_is_right(rt: HostRuntime) -> Result<(), 
 fn check_damaged(rt: &(impl AllocGlobal + Abort), bytes: &[u8], lines: &str) -> Result<(), Fail> {
     let mut output = Watched::new(Vec::new(rt.alloc()));
     let source = source_of(rt, bytes)?;
-    let zone = TimeZone::UTC;
-    let answer = list(
-        rt.alloc(),
-        rt.alloc(),
-        &source,
-        &ALL,
-        zone,
-        Form::Text,
-        &mut output,
-    );
+    let answer = list(rt.alloc(), rt.alloc(), &source, &ALL, &TEXT, &mut output);
     assert_eq!(rt; answer, Ok(Some(SumFault::WrongSum { pos: 1026 })));
     let text = str::from_utf8(output.device().as_slice())?;
     assert_eq!(rt; text.strip_prefix(HEADER), Some(lines));
@@ -241,13 +193,13 @@ fn check_damaged(rt: &(impl AllocGlobal + Abort), bytes: &[u8], lines: &str) -> 
 /// The lines of `IN_USE_PLAIN`.
 #[rattlefmt::skip]
 const SHOP_LINES: [&str; 7] = [
-    "       194        466  2026-11-21 03:00:00  283c105d-e730-11f1-97ff-02fc00000001:8  `shop`.`orders` inserts 1\n",
-    "       466        670  2026-11-21 03:01:00  283c105d-e730-11f1-97ff-02fc00000001:9  Statement at 539: alter table items add column price decimal(8,2)\n",
-    "       670        943  2026-11-21 03:02:00  283c105d-e730-11f1-97ff-02fc00000001:10  `shop`.`items` inserts 1\n",
-    "       943       1294  2026-11-21 03:03:00  283c105d-e730-11f1-97ff-02fc00000001:11  `shop`.`orders` inserts 1\n",
-    "      1294       1474  2026-11-21 03:04:00  283c105d-e730-11f1-97ff-02fc00000001:12  Statement at 1367: create table t2 (a int)\n",
-    "      1474       1760  2026-11-21 03:05:00  283c105d-e730-11f1-97ff-02fc00000001:13  `shop`.`items` deletes 2\n",
-    "      1760       1925  2026-11-21 03:06:00  283c105d-e730-11f1-97ff-02fc00000001:14  Statement at 1833: truncate table t2\n",
+    "       194        466  2026-11-21 03:00:00          16  `shop`.`orders` inserts 1\n",
+    "       466        670  2026-11-21 03:01:00              Statement at 539: alter table items add column price decimal(8,2)\n",
+    "       670        943  2026-11-21 03:02:00          16  `shop`.`items` inserts 1\n",
+    "       943       1294  2026-11-21 03:03:00          16  `shop`.`orders` inserts 1\n",
+    "      1294       1474  2026-11-21 03:04:00              Statement at 1367: create table t2 (a int)\n",
+    "      1474       1760  2026-11-21 03:05:00          16  `shop`.`items` deletes 2\n",
+    "      1760       1925  2026-11-21 03:06:00              Statement at 1833: truncate table t2\n",
 ];
 
 /// Checks the list of `IN_USE_PLAIN`: the lines of these numbers, and the last one.
@@ -300,27 +252,6 @@ fn options_choose_units(rt: HostRuntime) -> Result<(), Fail> {
     check_shop(&rt, &Wanted { to_time, ..all }, &[0], last)
 }
 
-#[test]
-fn json_has_an_object_a_line(rt: HostRuntime) -> Result<(), Fail> {
-    let wanted = Wanted {
-        start: Some(1294),
-        stop: Some(1760),
-        ..ALL
-    };
-    let lines =
-        "{\"start\":1294,\"stop\":1474,\"time\":\"2026-11-21T03:04:00+00:00\",\"timestamp\":1795230240,\"gtid\":\"283c105d-e730-11f1-97ff-02fc00000001:12\",\"fault\":\"Statement\",\"position\":1367,\"statement\":\"create table t2 (a int)\"}
-{\"start\":1474,\"stop\":1760,\"time\":\"2026-11-21T03:05:00+00:00\",\"timestamp\":1795230300,\"gtid\":\"283c105d-e730-11f1-97ff-02fc00000001:13\",\"tables\":[{\"schema\":\"shop\",\"table\":\"items\",\"inserts\":0,\"updates\":0,\"deletes\":2}]}
-{\"units\":2,\"not_undoable\":1,\"rows\":2}
-";
-    check_json(&rt, &IN_USE_PLAIN, &wanted, lines)?;
-    let bytes = build(&rt, &[BEGIN, map_of(1, b"\xff\""), ONE, XID])?;
-    let lines =
-        "{\"start\":120,\"stop\":260,\"time\":\"1970-01-01T00:00:00+00:00\",\"timestamp\":0,\"gtid\":null,\"tables\":[{\"schema\":\"d\",\"table\":\"\u{FFFD}\\\"\",\"table_hex\":\"FF22\",\"inserts\":1,\"updates\":0,\"deletes\":0}]}
-{\"units\":1,\"not_undoable\":0,\"rows\":1}
-";
-    check_json(&rt, &bytes, &ALL, lines)
-}
-
 #[rattlefmt::skip]
 const SMALL_UNITS: &[Part<'static>] = &[
     BEGIN, XID, BEGIN, MAP, XID, BEGIN, MAP, ONE, ROLLBACK, GTID, DROP_TABLE, PAYLOAD, BEGIN,
@@ -331,12 +262,12 @@ const SMALL_UNITS: &[Part<'static>] = &[
 fn small_logs_have_their_lists(rt: HostRuntime) -> Result<(), Fail> {
     let last = "units 0, not undoable 0, rows 0\n";
     check_parts(&rt, &[PREVIOUS_GTIDS, ROTATE], last, None)?;
-    let lines = "       120        186  1970-01-01 00:00:00  no rows
-       186        289  1970-01-01 00:00:00  no rows
-       289        443  1970-01-01 00:00:00  RolledBack at 401: ROLLBACK
-       443        533  1970-01-01 00:00:00  00000000-0000-0000-0000-000000000000:0  Statement at 487: DROP TABLE t
-       533        561  1970-01-01 00:00:00  UnknownEvent at 533
-       561        728  1970-01-01 00:00:00  UnknownEvent at 600
+    let lines = "       120        186  1970-01-01 00:00:00           0  no rows
+       186        289  1970-01-01 00:00:00           0  no rows
+       289        443  1970-01-01 00:00:00           0  RolledBack at 401: ROLLBACK
+       443        533  1970-01-01 00:00:00              Statement at 487: DROP TABLE t
+       533        561  1970-01-01 00:00:00              UnknownEvent at 533: a compressed transaction
+       561        728  1970-01-01 00:00:00           0  UnknownEvent at 600: a compressed transaction
 units 6, not undoable 4, rows 0
 ";
     check_parts(&rt, SMALL_UNITS, lines, None)
@@ -349,7 +280,7 @@ fn the_beginning_of_a_statement_is_shown(rt: HostRuntime) -> Result<(), Fail> {
         text: b"INSERT\tINTO t\nVALUES ('\xe4\xb8\x96\xe7\x95\x8c\xe4\xb8\x96\xe7\x95\x8c\xff', 'and so on up to sixty columns')",
     };
     let lines =
-        "       120        225  1970-01-01 00:00:00  Statement at 120: INSERT\\tINTO t\\nVALUES ('\u{4E16}\u{754C}\u{4E16}\u{754C}\\xff', 'and so on up to six..
+        "       120        225  1970-01-01 00:00:00              Statement at 120: INSERT\\tINTO t\\nVALUES ('\u{4E16}\u{754C}\u{4E16}\u{754C}\\xff', 'and so on up to six..
 units 1, not undoable 1, rows 0
 ";
     check_parts(&rt, &[query], lines, None)
@@ -363,7 +294,7 @@ fn names_that_would_reach_the_terminal_are_escaped(rt: HostRuntime) -> Result<()
         &[BEGIN, map_of(1, b"a\x1b[2J\nb\\c`d\xff\xc2\x9b"), ONE, XID],
     )?;
     let lines =
-        "       120        272  1970-01-01 00:00:00  `d`.`a\\x1b[2J\\nb\\\\c``d\\xff\\xc2\\x9b` inserts 1
+        "       120        272  1970-01-01 00:00:00           0  `d`.`a\\x1b[2J\\nb\\\\c``d\\xff\\xc2\\x9b` inserts 1
 units 1, not undoable 0, rows 1
 ";
     check_all(&rt, &bytes, lines)
@@ -373,8 +304,8 @@ units 1, not undoable 0, rows 1
 fn a_log_that_ends_early_has_its_units(rt: HostRuntime) -> Result<(), Fail> {
     let bytes = build(&rt, &[BEGIN, MAP, ONE, XID, BEGIN, MAP, ONE, XID])?;
     let cut = bytes.get(..397).expect(&rt, "a log");
-    let lines = "       120        259  1970-01-01 00:00:00  `d`.`t` inserts 1
-       259        371  1970-01-01 00:00:00  Unended at 371
+    let lines = "       120        259  1970-01-01 00:00:00           0  `d`.`t` inserts 1
+       259        371  1970-01-01 00:00:00           0  Unended at 371
 units 2, not undoable 1, rows 1
 ";
     let end = Some(Fault::CutEvent { pos: 371 });
@@ -391,7 +322,7 @@ fn check_up_to(
     stop: u32,
     end: Option<Fault>,
 ) -> Result<(), Fail> {
-    let lines = "       120        259  1970-01-01 00:00:00  `d`.`t` inserts 1
+    let lines = "       120        259  1970-01-01 00:00:00           0  `d`.`t` inserts 1
 units 1, not undoable 0, rows 1
 ";
     let stop = Some(stop);
@@ -407,4 +338,49 @@ fn a_log_that_ends_early_behind_the_stop_is_not_told(rt: HostRuntime) -> Result<
     let cut = bytes.get(..280).expect(&rt, "a log");
     check_up_to(&rt, cut, 259, None)?;
     check_up_to(&rt, cut, 260, Some(Fault::CutEvent { pos: 259 }))
+}
+
+#[test]
+fn ids_are_shown_where_they_are_asked_for(rt: HostRuntime) -> Result<(), Fail> {
+    let bytes = build(&rt, &[TAGGED, BEGIN, XID, GTID, BEGIN, XID, BEGIN, XID])?;
+    let style = Style {
+        gtids: true,
+        ..TEXT
+    };
+    let mut output = Watched::new(Vec::new(rt.alloc()));
+    let source = source_of(&rt, &bytes)?;
+    let answer = list(rt.alloc(), rt.alloc(), &source, &ALL, &style, &mut output);
+    assert_eq!(rt; answer, Ok(None));
+    let lines = "     start       stop  time (UTC)               thread  gtid  rows
+       120        236  1970-01-01 00:00:00           0  283c105d-e730-11f1-97ff-02fc00000001:shop\\x01:9  no rows
+       236        346  1970-01-01 00:00:00           0  ?  no rows
+       346        412  1970-01-01 00:00:00           0  no rows
+units 3, not undoable 0, rows 0
+";
+    assert_eq!(rt; str::from_utf8(output.device().as_slice())?, lines);
+    Ok(())
+}
+
+#[test]
+fn events_that_are_not_read_are_named(rt: HostRuntime) -> Result<(), Fail> {
+    let lines =
+        "       120        139  1970-01-01 00:00:00              UnknownEvent at 120: a compressed transaction
+       139        158  1970-01-01 00:00:00              UnknownEvent at 139: a prepared XA transaction
+       158        177  1970-01-01 00:00:00              UnknownEvent at 158: an incident
+       177        196  1970-01-01 00:00:00              UnknownEvent at 177: a change of view in group replication
+       196        215  1970-01-01 00:00:00              UnknownEvent at 196: an event of MariaDB
+       215        234  1970-01-01 00:00:00              OutOfPlace at 215: a relay log
+       234        261  1970-01-01 00:00:00              OutOfPlace at 234
+units 7, not undoable 7, rows 0
+";
+    let parts = [
+        event_of(40),
+        event_of(38),
+        event_of(26),
+        event_of(37),
+        event_of(160),
+        event_of(15),
+        XID,
+    ];
+    check_parts(&rt, &parts, lines, None)
 }

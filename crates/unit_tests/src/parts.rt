@@ -41,3 +41,22 @@ pub const PAYLOAD: Part<'static> = Part::Other {
     flags: 0,
     body: &[0; 9],
 };
+
+/// A Gtid event of the number 9 of a server, with the tag `shop` and a control character.
+pub const TAGGED: Part<'static> = Part::Other {
+    kind: 33,
+    flags: 0,
+    body: &[
+        0, 0x28, 0x3c, 0x10, 0x5d, 0xe7, 0x30, 0x11, 0xf1, 0x97, 0xff, 0x02, 0xfc, 0, 0, 0, 1, 9,
+        0, 0, 0, 0, 0, 0, 0, 42, b's', b'h', b'o', b'p', 1,
+    ],
+};
+
+/// An event of this type, without a body.
+pub const fn event_of(kind: u8) -> Part<'static> {
+    Part::Other {
+        kind,
+        flags: 0,
+        body: &[],
+    }
+}

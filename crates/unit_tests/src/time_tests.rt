@@ -1,9 +1,10 @@
 //! Times in time zones, printed and read. The texts are those of Python's `zoneinfo`.
 
+use crate::lists::{ALL, TEXT};
 use crate::sources::source_of;
 use crate::zones::{BERLIN, KOLKATA, LORD_HOWE, NEW_YORK};
 use blog_device::Watched;
-use blog_list::{Form, Side, TimeFault, Wanted, list, rfc_3339_text, seconds_of, time_text};
+use blog_list::{Side, Style, TimeFault, list, rfc_3339_text, seconds_of, time_text};
 use jiff::tz::{TimeZone, Tzif};
 use sample_logs::samples::INSERT;
 use std::process::Abort;
@@ -201,22 +202,14 @@ fn check_lines(
     zone: TimeZone<'_>,
     lines: &str,
 ) -> Result<(), Fail> {
-    let wanted = Wanted {
-        start: None,
-        stop: None,
-        from_time: None,
-        to_time: None,
-        database: None,
-        table: None,
-    };
+    let style = Style { zone, ..TEXT };
     let mut output = Watched::new(Vec::new(rt.alloc()));
     let answer = list(
         rt.alloc(),
         rt.alloc(),
         &source_of(rt, &INSERT)?,
-        &wanted,
-        zone,
-        Form::Text,
+        &ALL,
+        &style,
         &mut output,
     );
     assert_eq!(rt; answer, Ok(None));
@@ -231,19 +224,19 @@ fn check_lines(
 #[test]
 fn headings_name_the_zone(rt: HostRuntime) -> Result<(), Fail> {
     let table = Tzif::parse(rt.alloc(), Some("Europe/Berlin"), BERLIN)?;
-    let lines = "     start       stop  time (Europe/Berlin)  rows
-       154        397  2026-11-22 08:26:41   `d`.`t` inserts 1
+    let lines = "     start       stop  time (Europe/Berlin)      thread  rows
+       154        397  2026-11-22 08:26:41           13  `d`.`t` inserts 1
 ";
     check_lines(&rt, TimeZone::tzif(&table), lines)?;
-    let lines = "     start       stop  time (CET/CEST)      rows
-       154        397  2026-11-22 08:26:41  `d`.`t` inserts 1
+    let lines = "     start       stop  time (CET/CEST)          thread  rows
+       154        397  2026-11-22 08:26:41          13  `d`.`t` inserts 1
 ";
     let rule = TimeZone::posix("CET-1CEST,M3.5.0,M10.5.0/3")?;
     check_lines(&rt, rule, lines)?;
     let unnamed = Tzif::parse(rt.alloc(), None, BERLIN)?;
     check_lines(&rt, TimeZone::tzif(&unnamed), lines)?;
-    let lines = "     start       stop  time (JST)           rows
-       154        397  2026-11-22 16:26:41  `d`.`t` inserts 1
+    let lines = "     start       stop  time (JST)               thread  rows
+       154        397  2026-11-22 16:26:41          13  `d`.`t` inserts 1
 ";
     check_lines(&rt, TimeZone::posix("JST-9")?, lines)
 }
