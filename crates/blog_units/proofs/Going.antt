@@ -4,73 +4,84 @@ use Rattle.std.specs.Prelude.{find, if◌then◌else◌, option_map}
 use Rattle.blog_event.specs.Event.{event_size}
 use Rattle.blog_event.specs.File.{Placed}
 use Rattle.blog_trans.specs.Groups.{cons_if}
-use Rattle.blog_trans.specs.Places.{kind_at}
+use Rattle.blog_trans.specs.Places.{is_begin, kind_at}
 use Rattle.blog_units.specs.declared.part.Part.{Part}
-use Rattle.blog_units.specs.Units.{begun, continued, end_behind, goes_on, is_query_or_rows, opened_by, part_behind, rest_of, units_in}
-use Rattle.blog_units.specs.code.UnitsView.{HasStopped, time_of, time_with}
+use Rattle.blog_units.specs.declared.unit.Seen.{Seen}
+use Rattle.blog_units.specs.Units.{begun, continued, end_behind, goes_on, is_query_or_rows, opened_by, part_behind, rest_of, thread_of, units_in}
+use Rattle.blog_units.specs.code.UnitsView.{HasStopped, or_first, or_this, seen_of, seen_with, timestamp_of}
 
--- what is left of a unit of this part, whose events begin at a position, in front of others: where it stops, the time, and
--- the units behind it
-pub record IsGone (from at : ℕ) (part : Option Part) (known time : Option ℕ) (now : Option Part) (ps qs : List Placed) : Type 0 where
+-- what is left of a unit of this part, whose events begin at a position, in front of others: where it stops, what is seen of it,
+-- and the units behind it
+pub record IsGone (from at : ℕ) (part : Option Part) (known seen : Seen) (now : Option Part) (ps qs : List Placed) : Type 0 where
   pub stops : end_behind from (rest_of part ps) ≡ end_behind at (rest_of now qs)
   pub units_are : units_in part ps ≡ units_in now qs
-  pub time_is : time_of known (rest_of part ps) ≡ time_of time (rest_of now qs)
+  pub seen_is : seen_of known (rest_of part ps) ≡ seen_of seen (rest_of now qs)
   pub last_is : part_behind part (rest_of part ps) ≡ part_behind now (rest_of now qs)
 
-pub gone-start : (at : ℕ) (part : Option Part) (known : Option ℕ) (ps : List Placed) → IsGone at at part known known part ps ps
-gone-start at part known ps = record { stops = refl; units_are = refl; time_is = refl; last_is = refl }
+pub gone-start : (at : ℕ) (part : Option Part) (known : Seen) (ps : List Placed) → IsGone at at part known known part ps ps
+gone-start at part known ps = record { stops = refl; units_are = refl; seen_is = refl; last_is = refl }
 
-pub time-with-more : (time : Option ℕ) (p : Placed) (rest : List Placed) → time_of time (p ∷ rest) ≡ time_of (time_with time p) rest
-time-with-more (Some time) p rest = refl
-time-with-more None p rest = by_test (is_query_or_rows p) refl
+first-more : (test : Placed → Bool) (told : Placed → ℕ) (known : Option ℕ) (p : Placed) (rest : List Placed)
+    → or_first test told known (p ∷ rest) ≡ or_first test told (or_this test told known p) rest
+first-more test told (Some known) p rest = refl
+first-more test told None p rest = by_test (test p) refl
   where
-    by_test : (b : Bool) → is_query_or_rows p ≡ b → time_of None (p ∷ rest) ≡ time_of (if b then Some p.event.timestamp else None) rest
-    by_test true is = ap (λ b. option_map (λ p. p.event.timestamp) (if b then Some p else find is_query_or_rows rest)) is
-    by_test false is = ap (λ b. option_map (λ p. p.event.timestamp) (if b then Some p else find is_query_or_rows rest)) is
+    by_test : (b : Bool) → test p ≡ b → or_first test told None (p ∷ rest) ≡ or_first test told (if b then Some (told p) else None) rest
+    by_test true is = ap (λ b. option_map told (if b then Some p else find test rest)) is
+    by_test false is = ap (λ b. option_map told (if b then Some p else find test rest)) is
+
+pub seen-more : (seen : Seen) (p : Placed) (rest : List Placed) → seen_of seen (p ∷ rest) ≡ seen_of (seen_with seen p) rest
+seen-more seen p rest = λ i. record {
+  time = first-more is_query_or_rows timestamp_of seen.time p rest i;
+  thread = first-more is_begin thread_of seen.thread p rest i;
+}
 
 -- one more event, with which the unit goes on
-pub gone-on : (from at n : ℕ) (part : Option Part) (known time : Option ℕ) (now : Part) (ps qs later : List Placed) (p : Placed)
-    → IsGone from at part known time (Some now) ps qs → qs ≡ p ∷ later → goes_on now (kind_at p) ≡ true → p.pos + event_size p.event ≡ n
-    → IsGone from n part known (time_with time p) (continued now p) ps later
-gone-on from at n part known time now ps qs later p gone is goes ends =
+pub gone-on : (from at n : ℕ) (part : Option Part) (known seen : Seen) (now : Part) (ps qs later : List Placed) (p : Placed)
+    → IsGone from at part known seen (Some now) ps qs → qs ≡ p ∷ later → goes_on now (kind_at p) ≡ true → p.pos + event_size p.event ≡ n
+    → IsGone from n part known (seen_with seen p) (continued now p) ps later
+gone-on from at n part known seen now ps qs later p gone is goes ends =
     let rest_is : rest_of (Some now) qs ≡ p ∷ rest_of (continued now p) later = ap (rest_of (Some now)) is ∙ ap (λ b. if b then p ∷ rest_of (continued now p) later else []) goes in
     record {
       stops = gone.stops ∙ ap (end_behind at) rest_is ∙ ap (λ (n : ℕ). end_behind n (rest_of (continued now p) later)) ends;
       units_are = gone.units_are ∙ ap (units_in (Some now)) is
           ∙ ap (λ b. if b then units_in (continued now p) later else begun (kind_at p) p later (λ part. units_in part later)) goes;
-      time_is = gone.time_is ∙ ap (time_of time) rest_is ∙ time-with-more time p (rest_of (continued now p) later);
+      seen_is = gone.seen_is ∙ ap (seen_of seen) rest_is ∙ seen-more seen p (rest_of (continued now p) later);
       last_is = gone.last_is ∙ ap (part_behind (Some now)) rest_is;
     }
 
 -- the unit has ended
-time-none : (time : Option ℕ) → time_of time [] ≡ time
-time-none (Some time) = refl
-time-none None = refl
+first-none : (test : Placed → Bool) (told : Placed → ℕ) (known : Option ℕ) → or_first test told known [] ≡ known
+first-none test told (Some known) = refl
+first-none test told None = refl
 
-ended : (from at : ℕ) (part : Part) (known time : Option ℕ) (now : Option Part) (ps qs : List Placed) → IsGone from at (Some part) known time now ps qs
-    → rest_of now qs ≡ [] → units_in now qs ≡ units_in None qs → HasStopped from at part known time now ps qs
-ended from at part known time now ps qs gone none same = record {
+seen-none : (seen : Seen) → seen_of seen [] ≡ seen
+seen-none seen = λ i. record { time = first-none is_query_or_rows timestamp_of seen.time i; thread = first-none is_begin thread_of seen.thread i }
+
+ended : (from at : ℕ) (part : Part) (known seen : Seen) (now : Option Part) (ps qs : List Placed) → IsGone from at (Some part) known seen now ps qs
+    → rest_of now qs ≡ [] → units_in now qs ≡ units_in None qs → HasStopped from at part known seen now ps qs
+ended from at part known seen now ps qs gone none same = record {
   stops = sym (gone.stops ∙ ap (end_behind at) none);
   units_are = gone.units_are ∙ same;
-  time_is = sym (gone.time_is ∙ ap (time_of time) none ∙ time-none time);
+  seen_is = sym (gone.seen_is ∙ ap (seen_of seen) none ∙ seen-none seen);
   last_is = sym (gone.last_is ∙ ap (part_behind now) none);
 }
 
 -- with its last event
-pub gone-ended : (from at : ℕ) (part : Part) (known time : Option ℕ) (ps qs : List Placed) → IsGone from at (Some part) known time None ps qs → HasStopped from at part known time None ps qs
-gone-ended from at part known time ps qs gone = ended from at part known time None ps qs gone refl refl
+pub gone-ended : (from at : ℕ) (part : Part) (known seen : Seen) (ps qs : List Placed) → IsGone from at (Some part) known seen None ps qs → HasStopped from at part known seen None ps qs
+gone-ended from at part known seen ps qs gone = ended from at part known seen None ps qs gone refl refl
 
 -- with the log
-pub gone-over : (from at : ℕ) (part : Part) (known time : Option ℕ) (now : Part) (ps qs : List Placed) → IsGone from at (Some part) known time (Some now) ps qs → qs ≡ []
-    → HasStopped from at part known time (Some now) ps qs
-gone-over from at part known time now ps qs gone is =
-    ended from at part known time (Some now) ps qs gone (ap (rest_of (Some now)) is) (ap (units_in (Some now)) is ∙ sym (ap (units_in None) is))
+pub gone-over : (from at : ℕ) (part : Part) (known seen : Seen) (now : Part) (ps qs : List Placed) → IsGone from at (Some part) known seen (Some now) ps qs → qs ≡ []
+    → HasStopped from at part known seen (Some now) ps qs
+gone-over from at part known seen now ps qs gone is =
+    ended from at part known seen (Some now) ps qs gone (ap (rest_of (Some now)) is) (ap (units_in (Some now)) is ∙ sym (ap (units_in None) is))
 
 -- in front of an event that it doesn't go on with
-pub gone-before : (from at : ℕ) (part : Part) (known time : Option ℕ) (now : Part) (ps qs later : List Placed) (p : Placed) → IsGone from at (Some part) known time (Some now) ps qs
-    → qs ≡ p ∷ later → goes_on now (kind_at p) ≡ false → HasStopped from at part known time (Some now) ps qs
-gone-before from at part known time now ps qs later p gone is goes =
-    ended from at part known time (Some now) ps qs gone
+pub gone-before : (from at : ℕ) (part : Part) (known seen : Seen) (now : Part) (ps qs later : List Placed) (p : Placed) → IsGone from at (Some part) known seen (Some now) ps qs
+    → qs ≡ p ∷ later → goes_on now (kind_at p) ≡ false → HasStopped from at part known seen (Some now) ps qs
+gone-before from at part known seen now ps qs later p gone is goes =
+    ended from at part known seen (Some now) ps qs gone
     (ap (rest_of (Some now)) is ∙ ap (λ b. if b then p ∷ rest_of (continued now p) later else []) goes)
     (ap (units_in (Some now)) is ∙ ap (λ b. if b then units_in (continued now p) later else begun (kind_at p) p later (λ part. units_in part later)) goes
     ∙ sym (ap (units_in None) is))

@@ -2,3 +2,4 @@ mod Behind
 mod Going
 mod Held
 mod Stepping
+mod Threads

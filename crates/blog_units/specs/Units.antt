@@ -1,6 +1,6 @@
 -- The units of a log: what of it is undone, or refused, by itself. A unit is a transaction, or what stands outside of
 -- transactions and may not stand there, with the Gtid event in front of it.
-use Rattle.std.specs.Prelude.{ℕ, ◌+◌, ◌==◌, ◌&&◌, ◌||◌, Bool, true, false, not, nat_le, if◌then◌else◌, List, [], ◌∷◌, length, take, drop, find, Option, Some, None, option_map, bytes_eq, codes}
+use Rattle.std.specs.Prelude.{ℕ, ◌+◌, ◌==◌, ◌&&◌, ◌||◌, Bool, true, false, not, nat_le, nat_lt, if◌then◌else◌, List, [], ◌∷◌, length, take, drop, find, Option, Some, None, option_map, bytes_eq, codes, slice_index}
 use Rattle.std.specs.Option.{option_map_or}
 use Rattle.byteorder.specs.Endian.{little_number}
 use Rattle.blog_event.specs.Event.{Event, event_size}
@@ -8,7 +8,7 @@ use Rattle.blog_event.specs.File.{Placed, placed_from, read}
 use Rattle.blog_row.specs.declared.event_kinds.EventKind.{EventKind}
 use Rattle.blog_row.specs.declared.event_kinds.EventKind.TheVariants as kind
 use Rattle.blog_row.specs.Kinds.{query_text, is_begin_kind}
-use Rattle.blog_trans.specs.Places.{kind_at, is_end, is_rows}
+use Rattle.blog_trans.specs.Places.{kind_at, is_begin, is_end, is_rows}
 use Rattle.blog_trans.specs.Selection.{Selection}
 use Rattle.blog_trans.specs.Groups.{cons_if}
 use Rattle.blog_units.specs.declared.part.Part.{Part}
@@ -111,24 +111,34 @@ end_behind at (p ∷ ps) = end_behind (p.pos + event_size p.event) ps
 abbrev pub is_query_or_rows : Placed → Bool
 is_query_or_rows p = p.event.kind == 2 || (is_rows p || p.event.kind == 39)
 
--- a global transaction id: the 16 bytes of the server's, and a number (MySQL Internals manual, "Gtid_event")
+-- the thread that wrote a Query event: the first 4 bytes of its body (MySQL Internals manual, "Query_event")
+unfoldable pub thread_of : Placed → ℕ
+thread_of p = little_number 4 p.event.body
+
+-- a global transaction id: the 16 bytes of the server's, a tag, and a number (MySQL Internals manual, "Gtid_event")
 pub record Id : Type 0 where
   pub server : List ℕ
+  pub tag : List ℕ
   pub number : ℕ
 
--- that of a GTID_LOG_EVENT: a byte of flags, the server's, the number, 8 bytes
+-- behind the 25 bytes of a body the byte 42 and a tag
+abbrev pub tag_of : List ℕ → List ℕ
+tag_of body = if nat_lt 26 (length body) && slice_index body 25 == 42 then drop 26 body else []
+
+-- that of a GTID_LOG_EVENT: a byte of flags, the server's, the number, 8 bytes; and a tag
 abbrev pub id_of : Event → Option Id
 id_of e =
     if e.kind == 33 && nat_le 25 (length e.body)
-    then Some (record { server = take 16 (drop 1 e.body); number = little_number 8 (drop 17 e.body) }) else None
+    then Some (record { server = take 16 (drop 1 e.body); tag = tag_of e.body; number = little_number 8 (drop 17 e.body) }) else None
 
 -- Where a unit starts and where it stops, in bytes from the file's start; the time of its first Query or rows event, of its
--- first event where there is none, in seconds since 1970 in UTC; its global transaction id, where it begins with one; and
--- whether it is whole.
+-- first event where there is none, in seconds since 1970 in UTC; the thread that wrote its first `BEGIN`, where it has one; its
+-- global transaction id, where it begins with one; and whether it is whole.
 pub record Facts : Type 0 where
   pub start : ℕ
   pub stop : ℕ
   pub time : ℕ
+  pub thread : Option ℕ
   pub id : Option Id
   pub whole : Bool
 
@@ -137,6 +147,7 @@ facts_of u = record {
   start = u.first.pos;
   stop = end_behind (u.first.pos + event_size u.first.event) u.rest;
   time = option_map_or (λ p. p.event.timestamp) (find is_query_or_rows (u.first ∷ u.rest)) u.first.event.timestamp;
+  thread = option_map thread_of (find is_begin (u.first ∷ u.rest));
   id = id_of u.first.event;
   whole = is_whole (part_behind (opened_by (kind_at u.first)) u.rest);
 }

@@ -4,9 +4,9 @@ ghost use Rattle.std.specs.Prelude.{◌≡◌, ◌≤◌, [], None, Some, IfSome
 ghost use Rattle.blog_event.specs.Event.{event_of};
 ghost use Rattle.blog_event.specs.code.LogView.{log_bytes};
 ghost use Rattle.blog_units.specs.code.Boundaries.{IsBoundary, events_behind};
-ghost use Rattle.blog_units.specs.Units.{id_of, is_whole, units_in};
-ghost use Rattle.blog_units.specs.code.UnitsView.{AreGroups, HasStopped, IsFirst, id_told, time_with};
-ghost use Rattle.blog_trans.specs.Places.{kind_at, placed};
+ghost use Rattle.blog_units.specs.Units.{id_of, is_query_or_rows, is_whole, tag_of, thread_of, units_in};
+ghost use Rattle.blog_units.specs.code.UnitsView.{AreGroups, HasStopped, IsFirst, id_told, none_seen, or_this, seen_with, timestamp_of};
+ghost use Rattle.blog_trans.specs.Places.{is_begin, kind_at, placed};
 
 use crate::part::{Part, is_query_or_rows, opened_by};
 use blog_event::constants::GTID_LOG_EVENT;
@@ -20,6 +20,8 @@ use std::alloc::{Allocator, Global};
 pub struct GlobalId<'a> {
     /// The 16 bytes of the id of the server that began the transaction.
     pub server: &'a [u8],
+    /// The tag between the two, empty where there is none.
+    pub tag: &'a [u8],
     /// Its number there.
     pub number: u64,
 }
@@ -34,6 +36,8 @@ pub struct Unit<'a, A: Allocator = Global> {
     pub stop: u32,
     /// The time of its first Query or rows event, or of its first event where there is none: seconds since 1970, in UTC.
     pub time: u32,
+    /// The thread that wrote its first `BEGIN`, where it has one.
+    pub thread: Option<u32>,
     /// Its global transaction id, where it begins with one.
     pub id: Option<GlobalId<'a>>,
     /// Whether it is whole: no transaction without an end, and no Gtid event without a transaction or a statement. The log goes
@@ -44,6 +48,45 @@ pub struct Unit<'a, A: Allocator = Global> {
     pub groups: Result<Index<'a, 'static, A>, Fault>,
 }
 
+/// What was seen of a unit so far.
+#[derive(Clone, Copy, Debug)]
+pub(crate) struct Seen {
+    /// The time of its first Query or rows event.
+    pub(crate) time: Option<u32>,
+    /// The thread that wrote its first `BEGIN`.
+    pub(crate) thread: Option<u32>,
+}
+
+impl Seen {
+    /// Nothing.
+    pub(crate) const NONE: Seen = Seen {
+        time: None,
+        thread: None,
+    };
+
+    /// The same with an event of this kind.
+    pub(crate) fn with(self, kind: EventKind, event: &Event<'_>) -> Seen
+        requires { kind ≡ kind_at (placed event.now) }
+        ensures { result ≡ seen_with self (placed event.now) }
+    {
+        Seen {
+            time: time_with(self.time, kind, event),
+            thread: thread_with(self.thread, kind, event),
+        }
+    }
+}
+
+/// The tag in the body of a Gtid event, empty where there is none: the bytes behind the byte 42, behind the 25 of a body.
+fn tag_of(body: &[u8]) -> &[u8]
+    ensures { result.now ≡ tag_of body.now }
+{
+    if body.len() > 26 && body[25] == 42 {
+        &body[26..]
+    } else {
+        &[]
+    }
+}
+
 /// The global transaction id of an event, where it has one.
 pub(crate) fn global_id<'a>(event: &Event<'a>) -> Option<GlobalId<'a>>
     ensures { option_map id_told result ≡ id_of (event_of event.now) }
@@ -51,6 +94,7 @@ pub(crate) fn global_id<'a>(event: &Event<'a>) -> Option<GlobalId<'a>>
     if event.header.kind == GTID_LOG_EVENT && event.body.len() >= 25 {
         Some(GlobalId {
             server: &event.body[1..17],
+            tag: tag_of(event.body),
             number: LittleEndian::read_u64(&event.body[17..]),
         })
     } else {
@@ -87,9 +131,9 @@ pub(crate) fn is_whole(part: Option<Part>) -> bool
 }
 
 /// The time that is known, or else that of an event of this kind, if it is a Query or a rows event.
-pub(crate) fn time_with(known: Option<u32>, kind: EventKind, event: &Event<'_>) -> Option<u32>
+fn time_with(known: Option<u32>, kind: EventKind, event: &Event<'_>) -> Option<u32>
     requires { kind ≡ kind_at (placed event.now) }
-    ensures { result ≡ time_with known (placed event.now) }
+    ensures { result ≡ or_this is_query_or_rows timestamp_of known (placed event.now) }
 {
     match known {
         Some(time) => Some(time),
@@ -98,35 +142,50 @@ pub(crate) fn time_with(known: Option<u32>, kind: EventKind, event: &Event<'_>) 
     }
 }
 
-/// Goes through the events with which a unit goes on that has a part, from a position on. Answers where the unit stops,
-/// the time of its first Query or rows event, which may be known already, and what it has then.
+/// The thread that is known, or else that which wrote an event of this kind, if it is a `BEGIN`.
+#[tactic(auto, unfolding(crate::specs::Units::thread_of))]
+fn thread_with(known: Option<u32>, kind: EventKind, event: &Event<'_>) -> Option<u32>
+    requires { kind ≡ kind_at (placed event.now) }
+    ensures { result ≡ or_this is_begin thread_of known (placed event.now) }
+{
+    match known {
+        Some(thread) => Some(thread),
+        None => match kind {
+            EventKind::Begin => Some(LittleEndian::read_u32(event.body)),
+            _ => None,
+        },
+    }
+}
+
+/// Goes through the events with which a unit goes on that has a part, from a position on. Answers where the unit stops, what
+/// was seen of it, with what is known already, and what it has then.
 pub(crate) fn go_through(
     log: &Log<'_>,
     from: u32,
     part: Part,
-    known: Option<u32>,
-) -> (u32, Option<u32>, Option<Part>)
+    known: Seen,
+) -> (u32, Seen, Option<Part>)
     requires boundary { IsBoundary (log_bytes log.now) from }
     ensures stopped { HasStopped from result.0 part known result.1 result.2 (events_behind (log_bytes log.now) from) (events_behind (log_bytes log.now) result.0) }
     ensures boundary { IsBoundary (log_bytes log.now) result.0 }
     ensures behind { from ≤ result.0 }
 {
     let mut at = from;
-    let mut time = known;
+    let mut seen = known;
     let mut open = Some(part);
     'events: while let Some(part) = open {
         let Ok(event) = log.event_at(at) else {
-            return (at, time, open);
+            return (at, seen, open);
         };
         let kind = event_kind(&event);
         if !part.goes_on(kind) {
-            return (at, time, open);
+            return (at, seen, open);
         }
-        time = time_with(time, kind, &event);
+        seen = seen.with(kind, &event);
         open = part.continued(kind, &event);
         at += event.header.size;
     }
-    (at, time, None)
+    (at, seen, None)
 }
 
 /// The groups of the range from a start to a stop, or why it is refused.

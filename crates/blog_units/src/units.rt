@@ -4,7 +4,7 @@ ghost use Rattle.std.specs.Prelude.{◌≡◌, length, map};
 ghost use Rattle.blog_event.specs.code.LogView.{log_bytes};
 ghost use Rattle.blog_units.specs.code.Boundaries.{IsBoundary};
 
-use crate::unit::{Unit, global_id, go_through, groups_between, is_whole, next_first, time_with};
+use crate::unit::{Seen, Unit, global_id, go_through, groups_between, is_whole, next_first};
 use blog_event::Log;
 use std::alloc::{Allocator, Global};
 
@@ -20,11 +20,12 @@ pub struct Units<'a, A: Allocator = Global> {
 
 impl<'a, A: Allocator> Units<'a, A> {
     ghost use Rattle.blog_units.specs.Units.{facts_of, units};
-    ghost use Rattle.blog_units.specs.code.UnitsView.{units_left};
+    ghost use Rattle.blog_units.specs.code.UnitsView.{units_left, units_log};
 
     /// The units of a log, in its order. Memory for the groups of each is taken from `alloc`.
     pub fn new(alloc: A, log: &Log<'a>) -> Self
-        ensures { units_left result ≡ map facts_of (units (log_bytes log.now)) }
+        ensures units { units_left result ≡ map facts_of (units (log_bytes log.now)) }
+        ensures log { units_log result ≡ log.now }
     {
         Units {
             log: *log,
@@ -47,13 +48,14 @@ impl<'a, A: Allocator + Copy> Iterator for Units<'a, A> {
     fn next(&mut self) -> Option<Unit<'a, A>> {
         let (first, kind, part) = next_first(&self.log, self.at)?;
         let start = first.pos;
-        let known = time_with(None, kind, &first);
-        let (stop, time, last) = go_through(&self.log, start + first.header.size, part, known);
+        let known = Seen::NONE.with(kind, &first);
+        let (stop, seen, last) = go_through(&self.log, start + first.header.size, part, known);
         self.at = stop;
         Some(Unit {
             start,
             stop,
-            time: time.unwrap_or(first.header.timestamp),
+            time: seen.time.unwrap_or(first.header.timestamp),
+            thread: seen.thread,
             id: global_id(&first),
             whole: is_whole(last),
             groups: groups_between(self.alloc, &self.log, start, stop),

@@ -1,30 +1,39 @@
 -- What a contract sees of a unit, and of an iterator over the units of a log.
-use Rattle.std.specs.Prelude.{◌≡◌, ℕ, ◌+◌, ◌≤◌, List, ◌∷◌, length, map, find, Option, None, Some, IfSome, option_map, Result, MatchResult, if◌then◌else◌}
+use Rattle.std.specs.Prelude.{◌≡◌, ℕ, ◌+◌, ◌≤◌, Bool, List, ◌∷◌, length, map, find, Option, None, Some, IfSome, option_map, Result, MatchResult, if◌then◌else◌}
 use Rattle.std.specs.Iterator.{YieldsFirstBy}
 use Rattle.std.specs.declared.alloc.Allocator.{Ghosts}
 use Rattle.blog_event.specs.declared.event.Event as event
 use Rattle.blog_event.specs.declared.fault.Fault.{Fault}
+use Rattle.blog_event.specs.declared.log.Log.{Log}
 use Rattle.blog_event.specs.Event.{event_of, event_size}
 use Rattle.blog_event.specs.File.{Placed}
 use Rattle.blog_event.specs.code.LogView.{log_bytes}
 use Rattle.blog_trans.specs.Acceptance.{fault, IsAccepted, IsRefusal}
 use Rattle.blog_trans.specs.declared.groups.Index.{Index}
 use Rattle.blog_trans.specs.code.IndexView.{index_bytes, index_selection}
-use Rattle.blog_trans.specs.Places.{kind_at, placed}
+use Rattle.blog_trans.specs.Places.{is_begin, kind_at, placed}
 use Rattle.blog_units.specs.declared.part.Part.{Part}
 use Rattle.blog_units.specs.declared.unit.GlobalId as told
+use Rattle.blog_units.specs.declared.unit.Seen.{Seen}
 use Rattle.blog_units.specs.declared.unit.Unit as given
 use Rattle.blog_units.specs.declared.units.Units.{Units}
 use Rattle.blog_units.specs.code.Boundaries.{IsBoundary, events_behind}
-use Rattle.blog_units.specs.Units.{Facts, Id, between, end_behind, facts_of, is_query_or_rows, opened_by, part_behind, rest_of, units_in}
+use Rattle.blog_units.specs.Units.{Facts, Id, between, end_behind, facts_of, is_query_or_rows, opened_by, part_behind, rest_of, thread_of, units_in}
 
 -- an id of the program, without where its bytes lie
 abbrev pub id_told : told.GlobalId → Id
-id_told id = record { server = id.server.now; number = id.number }
+id_told id = record { server = id.server.now; tag = id.tag.now; number = id.number }
 
 -- what a unit of the program tells
 abbrev pub facts_told : {A : Type 0} → given.Unit A → Facts
-facts_told unit = record { start = unit.start; stop = unit.stop; time = unit.time; id = option_map id_told unit.id; whole = unit.whole }
+facts_told unit = record {
+  start = unit.start;
+  stop = unit.stop;
+  time = unit.time;
+  thread = unit.thread;
+  id = option_map id_told unit.id;
+  whole = unit.whole;
+}
 
 -- these are the groups of the range from a start to a stop, or this is the range's fault
 abbrev pub AreGroups : {A : Type 0} → List ℕ → ℕ → ℕ → Result (Index A) Fault → Type 0
@@ -46,27 +55,46 @@ pub record IsFirst (bytes : List ℕ) (from : ℕ) (found : event.Event × Part)
   pub behind : IsBoundary bytes (found.0.pos + found.0.header.size)
   pub within : found.0.pos + found.0.header.size ≤ length bytes
 
--- the time that is known, or that of the first Query or rows event of these
-abbrev pub time_of : Option ℕ → List Placed → Option ℕ
-time_of (Some time) ps = Some time
-time_of None ps = option_map (λ p. p.event.timestamp) (find is_query_or_rows ps)
+-- what is known, or what the first of these events tells that passes a test
+abbrev pub or_first : (Placed → Bool) → (Placed → ℕ) → Option ℕ → List Placed → Option ℕ
+or_first test told (Some known) ps = Some known
+or_first test told None ps = option_map told (find test ps)
 
--- A unit of this part goes on from a position and stops at another; this is its time, and what it has then. The events
+-- the same with one more event
+abbrev pub or_this : (Placed → Bool) → (Placed → ℕ) → Option ℕ → Placed → Option ℕ
+or_this test told (Some known) p = Some known
+or_this test told None p = if test p then Some (told p) else None
+
+abbrev pub timestamp_of : Placed → ℕ
+timestamp_of p = p.event.timestamp
+
+-- the time and the thread that are known, or those of these events
+abbrev pub seen_of : Seen → List Placed → Seen
+seen_of seen ps = record { time = or_first is_query_or_rows timestamp_of seen.time ps; thread = or_first is_begin thread_of seen.thread ps }
+
+-- the same with one more event
+abbrev pub seen_with : Seen → Placed → Seen
+seen_with seen p = record { time = or_this is_query_or_rows timestamp_of seen.time p; thread = or_this is_begin thread_of seen.thread p }
+
+-- nothing is known
+abbrev pub none_seen : Seen
+none_seen = record { time = None; thread = None }
+
+-- A unit of this part goes on from a position and stops at another; this is what is seen of it, and what it has then. The events
 -- behind the one position and the other are these.
-pub record HasStopped (from at : ℕ) (part : Part) (known time : Option ℕ) (last : Option Part) (ps qs : List Placed) : Type 0 where
+pub record HasStopped (from at : ℕ) (part : Part) (known seen : Seen) (last : Option Part) (ps qs : List Placed) : Type 0 where
   pub stops : at ≡ end_behind from (rest_of (Some part) ps)
   pub units_are : units_in (Some part) ps ≡ units_in None qs
-  pub time_is : time ≡ time_of known (rest_of (Some part) ps)
+  pub seen_is : seen ≡ seen_of known (rest_of (Some part) ps)
   pub last_is : last ≡ part_behind (Some part) (rest_of (Some part) ps)
-
--- the time with one more event
-abbrev pub time_with : Option ℕ → Placed → Option ℕ
-time_with (Some time) p = Some time
-time_with None p = if is_query_or_rows p then Some p.event.timestamp else None
 
 -- what is told of the units that are left
 abbrev pub units_left : {A : Type 0} {g : Ghosts A} → Units A g → List Facts
 units_left units = map facts_of (units_in None (events_behind (log_bytes units.log) units.at))
+
+-- the log of the units
+abbrev pub units_log : {A : Type 0} {g : Ghosts A} → Units A g → Log
+units_log units = units.log
 
 -- a step gives the first unit that is left, and none where none is
 pub record GivesUnit {A : Type 0} {g : Ghosts A} (before : Units A g) (unit : Option (given.Unit A)) (after : Units A g) : Type 0 where

@@ -9,7 +9,7 @@ invariant-events l = record {
   boundary : IsBoundary (log_bytes l.log) l.at;
   behind : l.from ≤ l.at;
   within : l.at ≤ length (log_bytes l.log);
-  gone : IsGone l.from l.at (Some l.fn.part) l.fn.known l.time l.open (events_behind (log_bytes l.log) l.from) (events_behind (log_bytes l.log) l.at);
+  gone : IsGone l.from l.at (Some l.fn.part) l.fn.known l.seen l.open (events_behind (log_bytes l.log) l.from) (events_behind (log_bytes l.log) l.at);
 }
 
 abbrev pub decreases-events : goal.decreases-events

@@ -10,5 +10,5 @@ invariant_of-result g c = record {
   boundary = boundary-first (log_bytes c.args.log.now) c.first.result None (log-opened c.args.log.now) (log-reads c.args.log.now None c.first.result c.first.ensures.event);
 }
 
-pub returns : goal.returns
-returns g c = ap (λ (us : List Unit). map facts_of us) (sym (behind-first (log_bytes c.args.log.now) c.first.result (log-reads c.args.log.now None c.first.result c.first.ensures.event)))
+pub returns-clause-units : goal.returns-clause-units
+returns-clause-units g c = ap (λ (us : List Unit). map facts_of us) (sym (behind-first (log_bytes c.args.log.now) c.first.result (log-reads c.args.log.now None c.first.result c.first.ensures.event)))
