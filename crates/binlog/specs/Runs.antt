@@ -1,6 +1,6 @@
 -- What a run does to the bytes of its devices. Of a device that does not tell its bytes these definitions say that there
 -- are such bytes.
-use Rattle.std.specs.Prelude.{◌≡◌, ◌⊎◌, ℕ, Bool, true, false, List, ⊤, String, Vec, Option, None, Some, Result, Ok, Err}
+use Rattle.std.specs.Prelude.{◌≡◌, ◌⊎◌, ℕ, Bool, true, false, List, ⊤, String, Vec, Option, None, Some, option_map, Result, Ok, Err}
 use Rattle.std.specs.Io.KnownBytes.{Keeps, Appends}
 use Rattle.blog_event.specs.declared.fault.Fault.{Fault}
 use Rattle.blog_event.specs.declared.fault.Fault.TheVariants.{TooLong, OutOfMemory as NoMemory}
@@ -12,8 +12,12 @@ use Rattle.blog_sum.specs.declared.fault.SumFault.TheVariants.{OutOfMemory}
 use Rattle.blog_sum.specs.Sums.{sum_fault}
 use Rattle.blog_sum.specs.Plain.{plain_of}
 use Rattle.blog_source.specs.declared.reading.Reading.{Reading}
-use Rattle.blog_source.specs.Found.{source_refusal}
+use Rattle.blog_source.specs.Found.{found_of, source_refusal}
 use Rattle.blog_source.specs.Handed.{handed_log}
+use Rattle.blog_source.specs.Places.{place_of}
+use Rattle.blog_source.specs.code.SourceView.{end_of, log_of}
+use Rattle.blog_source.specs.declared.source.Source.{Source}
+use Rattle.blog_event.specs.Fault.{name_of, position_of}
 use Rattle.blog_event.specs.Opening.{opening_fault}
 use Rattle.binlog.specs.Request.{asks_for_list}
 use Rattle.binlog.specs.declared.commands.Failure.{Failure}
@@ -32,37 +36,58 @@ use Rattle.blog_trans.specs.Selection.{all}
 use Rattle.blog_trans.specs.Acceptance.{IsRefusal, fault}
 use Rattle.blog_trans.specs.Groups.{Transaction}
 
--- this log was read, and it has no plain copy: memory was refused, or this is its first fault
+-- this log was read, and it isn't whole: memory was refused, or this is its first fault
 abbrev pub RefusesSums : Option (List ℕ) → Option (List ℕ) → SumFault → Type 0
 RefusesSums old new fault = (fault ≡ OutOfMemory) ⊎ ((log : List ℕ) × ReadsLog old new log × (sum_fault log ≡ Some fault))
 
--- the statements of a log can't be cut: memory was refused, or it has this fault, or what is cut is too long
-abbrev pub RefusesCut : ℕ → List ℕ → SplitFault → Type 0
-RefusesCut limit log (OfLog cause) = IsRefusal (fault log all) cause
-RefusesCut limit log TooLongCut = IsTooLong limit log
+-- a fault of the log that a source hands out, which was read up to an end, at its place in the server's log
+abbrev pub IsPlaced : List ℕ → ℕ → Fault → Fault → Type 0
+IsPlaced handed end inner fault = (name_of fault ≡ name_of inner) × (position_of fault ≡ option_map (place_of handed end) (position_of inner))
 
--- what is made of a log: the same without checksums, or one with the same changes in statements of at most so many bytes
+-- the statements of a log can't be cut that a source hands out: memory was refused, or it has this fault, or what is cut is too long
+abbrev pub RefusesCut : ℕ → List ℕ → ℕ → SplitFault → Type 0
+RefusesCut limit handed end (OfLog cause) = (inner : Fault) × IsRefusal (fault handed all) inner × IsPlaced handed end inner cause
+RefusesCut limit handed end TooLongCut = IsTooLong limit handed
+
+-- a log with the same changes as another in statements of at most so many bytes
+abbrev pub IsCutOf : ℕ → List ℕ → List ℕ → Type 0
+IsCutOf limit log text = (cut : List Transaction) × IsSplit limit log all cut text × KeepsChanges limit log all cut text
+
+-- what is made of a log, each of whose sums is right: the same without checksums, or one with its statements cut
 abbrev pub IsMadeOf : Making → List ℕ → List ℕ → Type 0
 IsMadeOf Plain log text = (sum_fault log ≡ None) × (text ≡ plain_of log)
-IsMadeOf (Split limit) log text = (cut : List Transaction) × IsSplit limit log all cut text × KeepsChanges limit log all cut text
+IsMadeOf (Split limit) log text = (sum_fault log ≡ None) × IsCutOf limit (handed_log whole log) text
 
--- what comes of reading a log for its new log: the new log; or that it can't be held, that a read failed, or that it has none
-abbrev pub MakesNewLog : {A : Type 0} → Making → Option (List ℕ) → Option (List ℕ) → Result (Vec ℕ A) NewLogFault → Type 0
-MakesNewLog making old new (Ok text) = (log : List ℕ) × ReadsLog old new log × IsMadeOf making log text.items
-MakesNewLog making old new (Err (Run (Log fault))) = (fault ≡ NoMemory) ⊎ ((fault ≡ TooLong 0) × PassesLimit greatest_length old new)
-MakesNewLog making old new (Err (Run Read)) = ⊤
-MakesNewLog making old new (Err (Run Write)) = ⊥
-MakesNewLog making old new (Err (Sums fault)) = (making ≡ Plain) × RefusesSums old new fault
-MakesNewLog making old new (Err (Cut fault)) = (limit : ℕ) × (log : List ℕ) × (making ≡ Split limit) × ReadsLog old new log × RefusesCut limit log fault
+-- why no new log is made of a log, each of whose sums is right
+abbrev pub RefusesNewLog : Making → List ℕ → SplitFault → Type 0
+RefusesNewLog Plain log fault = ⊥
+RefusesNewLog (Split limit) log fault = (sum_fault log ≡ None) × RefusesCut limit (handed_log whole log) (found_of whole log).end fault
 
--- and of writing it: the whole new log is written, or a beginning of it where a write failed, or nothing
+-- what comes of reading a log and opening it as a source: a source that is whole; or that it can't be held, that a read failed,
+-- or that it isn't whole
+abbrev pub OpensWhole : {A : Type 0} → Option (List ℕ) → Option (List ℕ) → Result (Source A) NewLogFault → Type 0
+OpensWhole old new (Ok source) = (log : List ℕ) × ReadsLog old new log × (sum_fault log ≡ None) × (log_of source ≡ handed_log whole log) × (end_of source ≡ (found_of whole log).end)
+OpensWhole old new (Err (Run (Log fault))) = (fault ≡ NoMemory) ⊎ ((fault ≡ TooLong 0) × PassesLimit greatest_length old new)
+OpensWhole old new (Err (Run Read)) = ⊤
+OpensWhole old new (Err (Run Write)) = ⊥
+OpensWhole old new (Err (Sums fault)) = RefusesSums old new fault
+OpensWhole old new (Err (Cut fault)) = ⊥
+
+-- what comes of cutting the statements of the log that a source hands out, and writing that
+abbrev pub SplitsSource : ℕ → List ℕ → ℕ → Option (List ℕ) → Option (List ℕ) → Result Unit SplitRunFault → Type 0
+SplitsSource limit handed end had has (Ok done) = (text : List ℕ) × IsCutOf limit handed text × Appends had has text
+SplitsSource limit handed end had has (Err (run.Split fault)) = RefusesCut limit handed end fault
+SplitsSource limit handed end had has (Err run.Write) = (text : List ℕ) × IsCutOf limit handed text × AppendsBeginning had has text
+
+-- what comes of making a new log of the log that is read, and writing it: the whole new log is written, or a beginning of it
+-- where a write failed, or nothing
 abbrev pub WritesNewLog : Making → Option (List ℕ) → Option (List ℕ) → Option (List ℕ) → Option (List ℕ) → Result Unit NewLogFault → Type 0
 WritesNewLog making old new had has (Ok done) = (log text : List ℕ) × ReadsLog old new log × IsMadeOf making log text × Appends had has text
 WritesNewLog making old new had has (Err (Run (Log fault))) = ((fault ≡ NoMemory) ⊎ ((fault ≡ TooLong 0) × PassesLimit greatest_length old new)) × Keeps had has
 WritesNewLog making old new had has (Err (Run Read)) = Keeps had has
 WritesNewLog making old new had has (Err (Run Write)) = (log text : List ℕ) × ReadsLog old new log × IsMadeOf making log text × AppendsBeginning had has text
-WritesNewLog making old new had has (Err (Sums fault)) = (making ≡ Plain) × RefusesSums old new fault × Keeps had has
-WritesNewLog making old new had has (Err (Cut fault)) = (limit : ℕ) × (log : List ℕ) × (making ≡ Split limit) × ReadsLog old new log × RefusesCut limit log fault × Keeps had has
+WritesNewLog making old new had has (Err (Sums fault)) = RefusesSums old new fault × Keeps had has
+WritesNewLog making old new had has (Err (Cut fault)) = (log : List ℕ) × ReadsLog old new log × RefusesNewLog making log fault × Keeps had has
 
 -- why a new log can't be made or written, where its statements are cut while it is written
 abbrev pub new_log_fault : SplitRunFault → NewLogFault
@@ -106,12 +131,12 @@ whole = record { stop = None; skip_damaged = false }
 
 -- what comes of reading a log for its list: its front was read; or it can't be held, what is handed out for it can't be opened,
 -- or a read or a write failed
-abbrev pub WritesList : {X : Type 0} → Option (List ℕ) → Option (List ℕ) → Result X RunFault → Type 0
-WritesList old new (Ok end) = (log : List ℕ) × ReadsLog old new log × (source_refusal log ≡ None)
-WritesList old new (Err (Log fault)) = (fault ≡ NoMemory) ⊎ ((fault ≡ TooLong 0) × PassesLimit greatest_length old new)
-    ⊎ ((log : List ℕ) × ReadsLog old new log × (source_refusal log ≡ None) × (opening_fault (handed_log whole log) ≡ Some fault))
-WritesList old new (Err Read) = ⊤
-WritesList old new (Err Write) = (log : List ℕ) × ReadsLog old new log × (source_refusal log ≡ None)
+abbrev pub WritesList : {X : Type 0} → Reading → Option (List ℕ) → Option (List ℕ) → Result X RunFault → Type 0
+WritesList how old new (Ok end) = (log : List ℕ) × ReadsLog old new log × (source_refusal log ≡ None)
+WritesList how old new (Err (Log fault)) = (fault ≡ NoMemory) ⊎ ((fault ≡ TooLong 0) × PassesLimit greatest_length old new)
+    ⊎ ((log : List ℕ) × ReadsLog old new log × (source_refusal log ≡ None) × (opening_fault (handed_log how log) ≡ Some fault))
+WritesList how old new (Err Read) = ⊤
+WritesList how old new (Err Write) = (log : List ℕ) × ReadsLog old new log × (source_refusal log ≡ None)
 
 -- this log was read, of which nothing can be read for a list
 abbrev pub LeavesUnread : Option (List ℕ) → Option (List ℕ) → SumFault → Type 0

@@ -5,19 +5,22 @@ ghost use Rattle.std.specs.Process.{exit_status};
 ghost use Rattle.blog_device.specs.Watched.{device_of, has_failed};
 ghost use Rattle.binlog.specs.Request.{asks_for_list};
 ghost use Rattle.binlog.specs.Status.{status_of};
-ghost use Rattle.binlog.specs.Runs.{MakesNewLog, LeavesUnread, MayFollowList, OfNewLog, OfList, WritesNewLog, WritesList, new_log_fault, is_failed_read, is_failed_write, may_list};
+ghost use Rattle.blog_split.specs.SplittingTo.{ends_before_writing, is_writing_fault};
+ghost use Rattle.blog_source.specs.code.SourceView.{end_of, log_of};
+ghost use Rattle.binlog.specs.Runs.{LeavesUnread, OpensWhole, SplitsSource, MayFollowList, OfNewLog, OfList, WritesNewLog, WritesList, new_log_fault, is_failed_read, is_failed_write, may_list};
 ghost use Rattle.blog_device.specs.Devices.{is_read_fault, is_write_fault};
 ghost use Rattle.binlog.specs.declared.commands.Failure.TheVariants.{Arguments, NewLog, ResultFile};
 ghost use Rattle.binlog.specs.declared.commands.NewLogFault.TheVariants.{Run, Sums, Split};
 ghost use Rattle.binlog.specs.declared.arguments.Making.TheVariants as made;
 
-use crate::arguments::{ArgumentsFault, Asked, ListTask, Making, NewLogTask, read_arguments};
+use crate::arguments::{ArgumentsFault, Asked, Making, NewLogTask, read_arguments};
+use crate::list_arguments::ListTask;
 use crate::log_file::{LogFault, open_log};
 use blog_device::{RunFault, Watched, put, read_log};
 use blog_event::Fault;
 use blog_list::list;
 use blog_source::{Reading, Source};
-use blog_split::{SplitFault, SplitRunFault, split, split_to};
+use blog_split::{SplitFault, SplitRunFault, split_to};
 use blog_sum::{SumFault, plain};
 use result_file::{FileFault, ResultFile, Wanted};
 use std::alloc::Allocator;
@@ -275,20 +278,16 @@ fn run_new_log<'a, R: Files, A: Allocator + Copy, D: Read, O: Write>(
     Ok(())
 }
 
-/// What is made of the log that is read.
-fn new_log_text<A: Allocator + Copy, D: Read>(
+/// Reads a log to its end, and opens it as a source that is whole.
+fn open_source<A: Allocator, D: Read>(
     alloc: A,
     reader: &mut Watched<D>,
-    making: Making,
-) -> Result<Vec<u8, A>, NewLogFault>
-    ensures makes { MakesNewLog making (D.remaining (device_of reader.old)) (D.remaining (device_of reader.new)) result }
+) -> Result<Source<A>, NewLogFault>
+    ensures opens { OpensWhole (D.remaining (device_of reader.old)) (D.remaining (device_of reader.new)) result }
     ensures mark { has_failed reader.new ≡ (has_failed reader.old || is_failed_read result) }
 {
     let log = read_log(alloc, reader)?;
-    match making {
-        Making::Plain => Ok(plain(alloc, log.as_slice())?),
-        Making::Split(size) => Ok(split(alloc, log.as_slice(), size as usize)?),
-    }
+    Ok(Source::open_whole(log)?)
 }
 
 /// Writes what is made of the log that is read to standard output. A plain log is held whole before.
@@ -305,12 +304,26 @@ fn new_log_to_output<A: Allocator + Copy, D: Read, O: Write>(
     ensures refused { OnErr result (has_failed output.new ≡ false → output.new ≡ output.old) }
 {
     match making {
-        Making::Plain => {
-            let text = new_log_text(alloc, reader, making)?;
-            Ok(put(output, text.as_slice())?)
-        }
+        Making::Plain => plain_to_output(alloc, reader, output),
         Making::Split(size) => split_to_output(alloc, reader, size, output),
     }
+}
+
+/// Writes the log that is read to standard output, without its checksums. It is held whole before, once.
+fn plain_to_output<A: Allocator + Copy, D: Read, O: Write>(
+    alloc: A,
+    reader: &mut Watched<D>,
+    output: &mut Watched<O>,
+) -> Result<(), NewLogFault>
+    ensures writes { WritesNewLog made.Plain (D.remaining (device_of reader.old)) (D.remaining (device_of reader.new))
+        (O.contents (device_of output.old)) (O.contents (device_of output.new)) result }
+    ensures reader_mark { has_failed reader.new ≡ (has_failed reader.old || is_failed_read result) }
+    ensures writer_mark { has_failed output.new ≡ (has_failed output.old || is_failed_write result) }
+    ensures refused { OnErr result (has_failed output.new ≡ false → output.new ≡ output.old) }
+{
+    let log = read_log(alloc, reader)?;
+    let text = plain(alloc, log.as_slice())?;
+    Ok(put(output, text.as_slice())?)
 }
 
 /// Writes the log that is read to standard output, its statements cut, while it is laid out.
@@ -326,8 +339,28 @@ fn split_to_output<A: Allocator + Copy, D: Read, O: Write>(
     ensures writer_mark { has_failed output.new ≡ (has_failed output.old || is_failed_write result) }
     ensures refused { OnErr result (has_failed output.new ≡ false → output.new ≡ output.old) }
 {
-    let log = read_log(alloc, reader)?;
-    Ok(split_to(alloc, output, log.as_slice(), size as usize)?)
+    let source = open_source(alloc, reader)?;
+    Ok(split_source(alloc, &source, size, output)?)
+}
+
+/// Writes the log of a source, its statements cut, while it is laid out. Faults are at their places.
+fn split_source<A: Allocator + Copy, O: Write>(
+    alloc: A,
+    source: &Source<A>,
+    size: u32,
+    output: &mut Watched<O>,
+) -> Result<(), SplitRunFault>
+    ensures splits { SplitsSource size (log_of source.now) (end_of source.now) (O.contents (device_of output.old)) (O.contents (device_of output.new)) result }
+    ensures untouched { ends_before_writing result ≡ true → output.new ≡ output.old }
+    ensures mark { has_failed output.new ≡ (has_failed output.old || is_writing_fault result) }
+{
+    match split_to(alloc, output, source.bytes(), size as usize) {
+        Err(SplitRunFault::Split(SplitFault::Log(fault))) => {
+            let fault = source.at_place(&fault);
+            Err(SplitRunFault::Split(SplitFault::Log(fault)))
+        }
+        done => done,
+    }
 }
 
 /// Writes what is made of the log that is read to the result file, which has its name once it is whole.
@@ -355,12 +388,12 @@ fn run_list<'a, R: AllocGlobal, A: Allocator + Copy, D: Read, O: Write>(
     rt: &R,
     alloc: A,
     reader: &mut Watched<D>,
-    task: &ListTask<'a>,
+    task: &ListTask<'a, A>,
     output: &mut Watched<O>,
 ) -> Result<(), Failure<'a, A>>
     ensures status { IfErr result (λ f. status_of f ≡ 1) }
     ensures begun { IfErr result (λ f. (output.new ≡ output.old) ⊎ MayFollowList f) }
-    ensures writes { OfList (WritesList (D.remaining (device_of reader.old)) (D.remaining (device_of reader.new)))
+    ensures writes { OfList (WritesList task.now.reading (D.remaining (device_of reader.old)) (D.remaining (device_of reader.new)))
         (LeavesUnread (D.remaining (device_of reader.old)) (D.remaining (device_of reader.new))) result }
     ensures reader_mark { OfList (λ listed. has_failed reader.new ≡ (has_failed reader.old || is_read_fault listed))
         (λ _. has_failed reader.new ≡ has_failed reader.old) result }
@@ -371,7 +404,7 @@ fn run_list<'a, R: AllocGlobal, A: Allocator + Copy, D: Read, O: Write>(
         Ok(log) => log,
         Err(fault) => return Err(Failure::List(fault)),
     };
-    let source = match Source::open(log, Reading::ALL) {
+    let source = match Source::open(log, task.reading) {
         Ok(source) => source,
         Err(fault) => return Err(Failure::Unread(fault)),
     };
@@ -379,7 +412,7 @@ fn run_list<'a, R: AllocGlobal, A: Allocator + Copy, D: Read, O: Write>(
         rt.alloc(),
         alloc,
         &source,
-        &task.wanted,
+        &task.wanted(),
         task.zone.time_zone(),
         task.form,
         output,

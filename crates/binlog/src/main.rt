@@ -4,6 +4,7 @@
 mod arguments;
 mod commands;
 mod lines;
+mod list_arguments;
 mod log_file;
 mod options;
 #[cfg(test)]

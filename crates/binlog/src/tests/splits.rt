@@ -4,6 +4,7 @@ use super::{path_of, run_arguments, run_log};
 use sample_logs::builder::{BEGIN, Part, T, XID, build, insert};
 use sample_logs::logs::insert_and_drop;
 use sample_logs::small::{INSERT_ONE_ROW, SUMMED};
+use sample_logs::summed::{CLOSED, IN_USE};
 use std::alloc::AllocError;
 use std::fs;
 use std::test::Fail;
@@ -64,15 +65,43 @@ fn logs_that_are_not_cut_are_told(rt: HostRuntime) -> Result<(), Fail> {
             "binlog: Statement at 259: the log can't be undone as a whole: ",
         ),
         (
-            SUMMED.as_slice(),
-            "binlog: Checksums at 4: the log has checksums: ",
+            IN_USE.as_slice(),
+            "binlog: Statement at 567: the log can't be undone as a whole: ",
         ),
+        (&SUMMED[..SUMMED.len() - 1], "binlog: CutEvent at 120: "),
         (&INSERT_ONE_ROW[..200], "binlog: CutEvent at 196: "),
         (b"no log", "binlog: NotABinlog at 0: "),
     ];
     for (log, line) in cases {
         let outcome = run_log(&rt, "not-cut", log, &["split"])?;
         assert!(rt; outcome.begins_refusal(1, line), "{line}");
+    }
+    Ok(())
+}
+
+/// A server's log is cut as it is: the same is written as for its plain log.
+#[test]
+fn logs_with_checksums_are_cut(rt: HostRuntime) -> Result<(), Fail> {
+    let plain = run_log(&rt, "closed", CLOSED.as_slice(), &["plain"])?;
+    for size in ["8000000", "50", "0"] {
+        let arguments = ["split", "--size", size];
+        let of_plain = run_log(&rt, "closed-plain", plain.output(), arguments.as_slice())?;
+        let of_source = run_log(&rt, "closed", CLOSED.as_slice(), arguments.as_slice())?;
+        assert!(rt; of_plain.output().len() > 500);
+        assert!(rt; of_source.is_done(of_plain.output()), "{size}");
+    }
+    Ok(())
+}
+
+/// One byte of a log with checksums is changed, each in turn: nothing is written.
+#[test]
+fn damaged_logs_are_not_cut(rt: HostRuntime) -> Result<(), Fail> {
+    for at in (120..SUMMED.len()).step_by(3) {
+        let mut log = SUMMED.to_vec(rt.alloc())?;
+        let byte = log.get_mut(at).ok_or("a short log")?;
+        *byte ^= 1;
+        let outcome = run_log(&rt, "damaged", log.as_slice(), &["split"])?;
+        assert!(rt; outcome.begins_refusal(1, "binlog: "), "{at}");
     }
     Ok(())
 }

@@ -1,0 +1,4 @@
+pub mod Choice
+pub mod Naming
+pub mod Words
+pub mod code

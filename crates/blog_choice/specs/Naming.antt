@@ -1,0 +1,51 @@
+-- Whether a statement names a chosen table. Where a rule can't tell, it does.
+use Rattle.std.specs.Prelude.{ℕ, ◌==◌, Bool, true, not, ◌&&◌, ◌||◌, if◌then◌else◌, List, [], ◌∷◌, Option, nat_le, bytes_eq, codes}
+use Rattle.std.specs.List.{list_any}
+use Rattle.std.specs.Option.{option_or, option_map_or}
+use Rattle.std.specs.Str.{str_eq_ignore_ascii_case}
+use Rattle.blog_choice.specs.Choice.{Name, Choice, is_nil}
+use Rattle.blog_choice.specs.Words.{occurs, first_word, after_first_word}
+
+-- ---- names in a text
+
+-- a name that a text can spell in other bytes: empty, with a byte from 128 on, or with a backtick
+unfoldable pub is_special : List ℕ → Bool
+is_special name = is_nil name || list_any (λ byte. byte == 96 || nat_le 128 byte) name
+
+-- the text names it
+unfoldable pub has_name : List ℕ → List ℕ → Bool
+has_name text name = is_special name || occurs name text
+
+-- the text is about schemas
+abbrev pub is_about_schemas : List ℕ → Bool
+is_about_schemas text = occurs (codes "DATABASE") text || occurs (codes "SCHEMA") text
+
+-- the text names a table, or its schema where it is about schemas
+unfoldable pub names_table : Option (List ℕ) → List ℕ → Name → Bool
+names_table database text name =
+    has_name text name.table || (is_about_schemas text && option_map_or (has_name text) (option_or name.schema database) true)
+
+-- ---- statements
+
+-- statements that change no table by a trigger, a view or a cascade
+abbrev pub naming_words : List (List ℕ)
+naming_words =
+    codes "ALTER" ∷ codes "ANALYZE" ∷ codes "CREATE" ∷ codes "DROP" ∷ codes "FLUSH" ∷ codes "GRANT" ∷ codes "OPTIMIZE" ∷ codes "RENAME"
+    ∷ codes "REPAIR" ∷ codes "REVOKE" ∷ codes "TRUNCATE" ∷ codes "XA" ∷ []
+
+abbrev pub is_create_table : List ℕ → Bool
+is_create_table text = str_eq_ignore_ascii_case (first_word text) (codes "CREATE") && str_eq_ignore_ascii_case (first_word (after_first_word text)) (codes "TABLE")
+
+-- the statement changes only tables that it names; inside of a transaction only CREATE TABLE is known to
+unfoldable pub changes_what_it_names : Bool → List ℕ → Bool
+changes_what_it_names inside text = if inside then is_create_table text else list_any (str_eq_ignore_ascii_case (first_word text)) naming_words
+
+-- one of the tables; where none is given the database, by its default schema or its text; where that isn't either, any
+abbrev pub names_wanted : Choice → List ℕ → List ℕ → Bool
+names_wanted choice default_schema text =
+    if is_nil choice.tables then option_map_or (λ name. bytes_eq default_schema name || has_name text name) choice.database true
+    else list_any (names_table choice.database text) choice.tables
+
+-- a statement of this text, with this default schema, names a chosen table
+unfoldable pub names_chosen : Choice → List ℕ → List ℕ → Bool → Bool
+names_chosen choice default_schema text inside = not (changes_what_it_names inside text) || names_wanted choice default_schema text

@@ -1,0 +1,53 @@
+-- Which units of a log are wanted.
+use Rattle.std.specs.Prelude.{ℕ, ◌==◌, ◌&&◌, ◌||◌, Bool, true, false, nat_le, nat_lt, if◌then◌else◌, List, [], ◌∷◌, Option, Some, None, Result, Ok, Err}
+use Rattle.std.specs.Option.{option_map_or}
+use Rattle.std.specs.List.{list_any}
+use Rattle.blog_event.specs.declared.fault.Fault.{Fault}
+use Rattle.blog_event.specs.declared.fault.Fault.TheVariants.{Statement}
+use Rattle.blog_trans.specs.declared.groups.Index.{Index}
+use Rattle.blog_trans.specs.Changes.{TableCount, counts_of}
+use Rattle.blog_trans.specs.Groups.{groups}
+use Rattle.blog_trans.specs.code.IndexView.{index_bytes, index_selection}
+use Rattle.blog_choice.specs.Choice.{Choice, chooses, chooses_all, is_nil}
+use Rattle.blog_choice.specs.code.Views.{choice_value}
+use Rattle.blog_request.specs.Passing.{is_passed_over, unit_events}
+use Rattle.blog_request.specs.declared.wanted.Concern.{Concern}
+use Rattle.blog_request.specs.declared.wanted.Concern.TheVariants.{Wanted as IsWanted, PassedOver, Other}
+use Rattle.blog_request.specs.declared.wanted.Wanted.{Wanted}
+
+-- a number isn't below the least one, where there is one
+abbrev pub is_from : ℕ → Option ℕ → Bool
+is_from n least = option_map_or (λ least. nat_le least n) least true
+
+-- a number is below the first one that is too great, where there is one
+abbrev pub is_before : ℕ → Option ℕ → Bool
+is_before n bound = option_map_or (λ bound. nat_lt n bound) bound true
+
+-- a thread is one of those that are asked for, or none is
+abbrev pub is_of_threads : List ℕ → Option ℕ → Bool
+is_of_threads threads thread = is_nil threads || option_map_or (λ thread. list_any (λ n. n == thread) threads) thread false
+
+-- the rows that a unit changes, by table, or why it is refused
+abbrev pub changes_told : {A : Type 0} → Result (Index A) Fault → Result (List TableCount) Fault
+changes_told (Ok index) = Ok (counts_of (groups (index_bytes index) (index_selection index)))
+changes_told (Err fault) = Err fault
+
+-- a chosen table is among those that have changed rows
+abbrev pub has_chosen : Choice → List TableCount → Bool
+has_chosen choice counts = list_any (λ c. chooses choice c.table.schema c.table.name) counts
+
+-- a unit starts within the wanted positions, and is of the wanted times and threads
+abbrev pub is_in_range : Wanted → ℕ → ℕ → Option ℕ → Bool
+is_in_range w start time thread =
+    (((is_from start w.start && is_before start w.stop) && is_from time w.from_time) && is_before time w.to_time) && is_of_threads w.threads.now thread
+
+-- by its tables: it changes a chosen one; it is refused for a statement, and passed over; or it is refused, and may change one
+abbrev pub by_tables : Choice → List ℕ → ℕ → ℕ → Result (List TableCount) Fault → Concern
+by_tables choice bytes start stop (Ok counts) = if has_chosen choice counts then IsWanted else Other
+by_tables choice bytes start stop (Err (Statement pos)) = if is_passed_over choice (unit_events bytes start stop) then PassedOver else IsWanted
+by_tables choice bytes start stop (Err fault) = IsWanted
+
+-- whether a unit of a log is wanted, by where it starts and stops, its time and thread, and its changes
+abbrev pub concern_of : Wanted → List ℕ → ℕ → ℕ → ℕ → Option ℕ → Result (List TableCount) Fault → Concern
+concern_of w bytes start stop time thread changes =
+    if is_in_range w start time thread then (if chooses_all (choice_value w.choice) then IsWanted else by_tables (choice_value w.choice) bytes start stop changes) else Other

@@ -1,0 +1,130 @@
+//! Which units are wanted.
+
+ghost use Rattle.std.specs.Prelude.{◌≡◌};
+ghost use Rattle.blog_event.specs.code.LogView.{log_bytes};
+ghost use Rattle.blog_trans.specs.Changes.{counts_of};
+ghost use Rattle.blog_trans.specs.Groups.{groups};
+ghost use Rattle.blog_trans.specs.code.IndexView.{index_bytes, index_selection, table_counted};
+ghost use Rattle.blog_choice.specs.code.Views.{choice_value};
+ghost use Rattle.blog_request.specs.Wanted.{by_tables, changes_told, concern_of, has_chosen, is_before, is_from, is_in_range, is_of_threads};
+
+use crate::passing::is_passed_over;
+use blog_choice::TableChoice;
+use blog_event::{Fault, Log};
+use blog_trans::Index;
+use blog_units::Unit;
+use std::alloc::Allocator;
+
+/// Which units of a log are wanted: those that meet each condition that is given.
+#[derive(Clone, Copy, Debug)]
+pub struct Wanted<'w> {
+    /// Those that start at this byte position or after it.
+    pub start: Option<u32>,
+    /// Those that start before this byte position.
+    pub stop: Option<u32>,
+    /// Those of this time or later, in seconds since 1970 in UTC.
+    pub from_time: Option<u32>,
+    /// Those before this time, in seconds since 1970 in UTC.
+    pub to_time: Option<u32>,
+    /// Those of these threads of the server, by the `BEGIN` event; of any thread if there are none.
+    pub threads: &'w [u32],
+    /// Those that change a chosen table. Those that can't be undone are wanted too, since which tables they change isn't
+    /// known, but for statements that name none of the chosen tables.
+    pub choice: TableChoice<'w>,
+}
+
+/// Whether a unit is wanted.
+#[derive(Clone, Copy, Debug, PartialEq, Eq)]
+pub enum Concern {
+    /// It is wanted.
+    Wanted,
+    /// It would be, but it is a statement that names none of the chosen tables.
+    PassedOver,
+    /// It isn't.
+    Other,
+}
+
+impl Wanted<'_> {
+    /// Returns whether a unit of a log is wanted.
+    pub fn concern<A: Allocator>(&self, log: &Log<'_>, unit: &Unit<'_, A>) -> Concern
+        ensures { result ≡ concern_of self.now (log_bytes log.now) unit.now.start unit.now.stop unit.now.time unit.now.thread (changes_told unit.now.groups) }
+    {
+        if !self.has_in_range(unit) {
+            Concern::Other
+        } else if self.choice.is_all() {
+            Concern::Wanted
+        } else {
+            by_tables(&self.choice, log, unit)
+        }
+    }
+
+    /// Whether a unit starts within the wanted positions, and is of the wanted times and threads.
+    fn has_in_range<A: Allocator>(&self, unit: &Unit<'_, A>) -> bool
+        ensures { result ≡ is_in_range self.now unit.now.start unit.now.time unit.now.thread }
+    {
+        is_from(unit.start, self.start)
+            && is_before(unit.start, self.stop)
+            && is_from(unit.time, self.from_time)
+            && is_before(unit.time, self.to_time)
+            && is_of_threads(self.threads, unit.thread)
+    }
+}
+
+/// Whether a unit is wanted, by its tables.
+fn by_tables<A: Allocator>(choice: &TableChoice<'_>, log: &Log<'_>, unit: &Unit<'_, A>) -> Concern
+    ensures { result ≡ by_tables (choice_value choice.now) (log_bytes log.now) unit.now.start unit.now.stop (changes_told unit.now.groups) }
+{
+    match &unit.groups {
+        Ok(groups) if changes_chosen(choice, groups) => Concern::Wanted,
+        Ok(_) => Concern::Other,
+        Err(Fault::Statement { .. }) if is_passed_over(choice, log, unit.start, unit.stop) =>
+            Concern::PassedOver,
+        Err(_) => Concern::Wanted,
+    }
+}
+
+/// Whether the groups of an index change a chosen table.
+fn changes_chosen<A: Allocator>(choice: &TableChoice<'_>, index: &Index<'_, '_, A>) -> bool
+    ensures { result ≡ has_chosen (choice_value choice.now) (counts_of (groups (index_bytes index.now) (index_selection index.now))) }
+{
+    for n in 0..index.tables() {
+        let count = index.table(n);
+        if choice.has(count.schema, count.table) {
+            return true;
+        }
+    }
+    false
+}
+
+/// Whether a thread is one of those that are asked for, or none is.
+fn is_of_threads(threads: &[u32], thread: Option<u32>) -> bool
+    ensures { result ≡ is_of_threads threads.now thread }
+{
+    if threads.is_empty() {
+        return true;
+    }
+    match thread {
+        Some(thread) => threads.contains(&thread),
+        None => false,
+    }
+}
+
+/// Whether a number isn't below the least one, where there is one.
+fn is_from(n: u32, least: Option<u32>) -> bool
+    ensures { result ≡ is_from n least }
+{
+    match least {
+        Some(least) => n >= least,
+        None => true,
+    }
+}
+
+/// Whether a number is below the first one that is too great, where there is one.
+pub fn is_before(n: u32, bound: Option<u32>) -> bool
+    ensures { result ≡ is_before n bound }
+{
+    match bound {
+        Some(bound) => n < bound,
+        None => true,
+    }
+}
