@@ -10,7 +10,7 @@ use Rattle.blog_device.specs.declared.fault.RunFault.TheVariants.{Log, Read, Wri
 use Rattle.blog_sum.specs.declared.fault.SumFault.{SumFault}
 use Rattle.blog_sum.specs.declared.fault.SumFault.TheVariants.{OutOfMemory}
 use Rattle.blog_sum.specs.Sums.{sum_fault}
-use Rattle.blog_sum.specs.Plain.{plain_of}
+use Rattle.blog_source.specs.Plain.{plain_log}
 use Rattle.blog_source.specs.declared.reading.Reading.{Reading}
 use Rattle.blog_source.specs.Found.{found_of, source_refusal}
 use Rattle.blog_source.specs.Handed.{handed_log}
@@ -55,7 +55,7 @@ IsCutOf limit log text = (cut : List Transaction) × IsSplit limit log all cut t
 
 -- what is made of a log, each of whose sums is right: the same without checksums, or one with its statements cut
 abbrev pub IsMadeOf : Making → List ℕ → List ℕ → Type 0
-IsMadeOf Plain log text = (sum_fault log ≡ None) × (text ≡ plain_of log)
+IsMadeOf Plain log text = (sum_fault log ≡ None) × (text ≡ plain_log log)
 IsMadeOf (Split limit) log text = (sum_fault log ≡ None) × IsCutOf limit (handed_log whole log) text
 
 -- why no new log is made of a log, each of whose sums is right

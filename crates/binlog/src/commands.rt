@@ -19,9 +19,9 @@ use crate::log_file::{LogFault, open_log};
 use blog_device::{RunFault, Watched, put, read_log};
 use blog_event::Fault;
 use blog_list::list;
-use blog_source::{Reading, Source};
+use blog_source::{Reading, Source, plain};
 use blog_split::{SplitFault, SplitRunFault, split_to};
-use blog_sum::{SumFault, plain};
+use blog_sum::SumFault;
 use result_file::{FileFault, ResultFile, Wanted};
 use std::alloc::Allocator;
 use std::io;
@@ -310,7 +310,7 @@ fn new_log_to_output<A: Allocator + Copy, D: Read, O: Write>(
 }
 
 /// Writes the log that is read to standard output, without its checksums. It is held whole before, once.
-fn plain_to_output<A: Allocator + Copy, D: Read, O: Write>(
+fn plain_to_output<A: Allocator, D: Read, O: Write>(
     alloc: A,
     reader: &mut Watched<D>,
     output: &mut Watched<O>,
@@ -322,7 +322,7 @@ fn plain_to_output<A: Allocator + Copy, D: Read, O: Write>(
     ensures refused { OnErr result (has_failed output.new ≡ false → output.new ≡ output.old) }
 {
     let log = read_log(alloc, reader)?;
-    let text = plain(alloc, log.as_slice())?;
+    let text = plain(log)?;
     Ok(put(output, text.as_slice())?)
 }
 

@@ -153,7 +153,8 @@ Cuts each statement of LOG into statements whose rows events have at most BYTES 
 or are a single one, each with the table maps that its rows use. A server takes all rows of a
 statement as one packet, which max_allowed_packet limits: mysqlbinlog prints them as base64,
 4 bytes for 3. The changes stay the same and in their order, and transactions stay whole.
-LOG is a log that flashback accepts as a whole, such as one that it wrote.
+LOG is a log that flashback accepts as a whole, such as one that it wrote. If it has checksums,
+each is checked, and the new log has none.
 Nothing is written unless the whole log can be cut.";
 
 const SPLIT_USAGE: &str = "binlog split [--size BYTES] [-r FILE [--force]] LOG";

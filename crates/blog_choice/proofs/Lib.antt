@@ -1,2 +1,4 @@
+pub mod About
+pub mod Found
 pub mod Names
 pub mod Places

@@ -1,12 +1,12 @@
 -- Places in a list: the first that passes a test, and whether any does.
-use Rattle.std.proofs.Common.{◌≡◌, ℕ, ◌+◌, ◌-◌, ◌≤◌, Bool, true, false, cond, List, [], ◌∷◌, length, take, drop, Option, Some, None, refl, sym, ap, subst, ◌∙◌, inl, inr, arith, length-drop}
-use Rattle.std.specs.Prelude.{◌==◌, nat_lt, map, ◌||◌}
+use Rattle.std.proofs.Common.{◌≡◌, ℕ, ◌-◌, Bool, true, false, cond, List, [], ◌∷◌, length, take, drop, Option, Some, None, refl, sym, ap, subst, ◌∙◌, inl, inr, arith}
+use Rattle.std.specs.Prelude.{◌==◌, nat_lt, map}
 use Rattle.std.specs.List.{position, position_or_len, list_any}
 use Rattle.std.specs.Option.{MatchOption}
 use Rattle.blog_choice.specs.Choice.{is_nil}
 use Rattle.std.proofs.lemmas.Bool.{cases_lt}
 use Rattle.std.proofs.lemmas.Bool.Decides.{nat_tests}
-use Rattle.std.proofs.lemmas.List.{take_all, drop_all}
+use Rattle.std.proofs.lemmas.List.{take_all, drop_all, take_rest}
 
 -- what a place that is found, or none, says of the parts before and after it
 abbrev IsParted : ℕ → List ℕ → Option ℕ → Type 0
@@ -21,13 +21,9 @@ parted-cases n xs = elim (cases_lt n (length xs)) [
 pub position-parts : (test : ℕ → Bool) (xs : List ℕ) (found : Option ℕ) → found ≡ position test xs → IsParted (position_or_len test xs) xs found
 position-parts test xs found h = subst (IsParted (position_or_len test xs) xs) (sym h) (parted-cases (position_or_len test xs) xs)
 
--- a part that goes on to the end
-pub to-end : (n : ℕ) (xs : List ℕ) → take (length xs - n) (drop n xs) ≡ drop n xs
-to-end n xs = take_all (length xs - n) (drop n xs) (omega (arith, length-drop n xs))
-
--- the same from a place that is found, and the part before it
+-- the part from a place that is found, and the part before it
 pub found-end : (test : ℕ → Bool) (xs : List ℕ) (place : ℕ) → Some place ≡ position test xs → take (length xs - place) (drop place xs) ≡ drop (position_or_len test xs) xs
-found-end test xs place h = to-end place xs ∙ ap (λ n. drop n xs) (position-parts test xs (Some place) h)
+found-end test xs place h = take_rest xs place ∙ ap (λ n. drop n xs) (position-parts test xs (Some place) h)
 
 pub found-front : (test : ℕ → Bool) (xs : List ℕ) (place : ℕ) → Some place ≡ position test xs → take place xs ≡ take (position_or_len test xs) xs
 found-front test xs place h = ap (λ n. take n xs) (position-parts test xs (Some place) h)

@@ -1,10 +1,10 @@
 -- Whether a statement names a chosen table. Where a rule can't tell, it does.
-use Rattle.std.specs.Prelude.{ℕ, ◌==◌, Bool, true, not, ◌&&◌, ◌||◌, if◌then◌else◌, List, [], ◌∷◌, Option, nat_le, bytes_eq, codes}
+use Rattle.std.specs.Prelude.{◌≡◌, ◌⊎◌, ℕ, ◌==◌, Bool, true, not, ◌&&◌, ◌||◌, if◌then◌else◌, List, [], ◌∷◌, Option, nat_le, bytes_eq, codes}
 use Rattle.std.specs.List.{list_any}
 use Rattle.std.specs.Option.{option_or, option_map_or}
 use Rattle.std.specs.Str.{str_eq_ignore_ascii_case}
 use Rattle.blog_choice.specs.Choice.{Name, Choice, is_nil}
-use Rattle.blog_choice.specs.Words.{occurs, first_word, after_first_word}
+use Rattle.blog_choice.specs.Words.{occurs, HasWord, first_word, after_first_word}
 
 -- ---- names in a text
 
@@ -40,7 +40,7 @@ is_create_table text = str_eq_ignore_ascii_case (first_word text) (codes "CREATE
 unfoldable pub changes_what_it_names : Bool → List ℕ → Bool
 changes_what_it_names inside text = if inside then is_create_table text else list_any (str_eq_ignore_ascii_case (first_word text)) naming_words
 
--- one of the tables; where none is given the database, by its default schema or its text; where that isn't either, any
+-- one of the tables is named; where none is given, the database, by the default schema or the text; where neither is, any
 abbrev pub names_wanted : Choice → List ℕ → List ℕ → Bool
 names_wanted choice default_schema text =
     if is_nil choice.tables then option_map_or (λ name. bytes_eq default_schema name || has_name text name) choice.database true
@@ -49,3 +49,8 @@ names_wanted choice default_schema text =
 -- a statement of this text, with this default schema, names a chosen table
 unfoldable pub names_chosen : Choice → List ℕ → List ℕ → Bool → Bool
 names_chosen choice default_schema text inside = not (changes_what_it_names inside text) || names_wanted choice default_schema text
+
+-- a text that is run in the default schema names a table, or its schema where it is about schemas
+abbrev pub IsAbout : List ℕ → List ℕ → List ℕ → List ℕ → Type 0
+IsAbout default_schema text schema table =
+    (HasWord table text × ((default_schema ≡ schema) ⊎ HasWord schema text)) ⊎ ((is_about_schemas text ≡ true) × HasWord schema text)

@@ -1,6 +1,7 @@
--- Words of a statement's text.
-use Rattle.std.specs.Prelude.{ℕ, ◌+◌, ◌==◌, Bool, not, ◌&&◌, ◌||◌, List, [], ◌∷◌, length, take, drop, nat_le, slice_index}
-use Rattle.std.specs.Char.{is_ascii_alphanumeric}
+-- Words of a statement's text. An unquoted name has ASCII letters, digits, `_`, `$`, and characters beyond ASCII
+-- (MySQL Reference Manual, "Schema Object Names").
+use Rattle.std.specs.Prelude.{◌≡◌, ℕ, ◌+◌, ◌==◌, Bool, true, not, ◌&&◌, ◌||◌, List, [], ◌∷◌, ◌++◌, length, take, drop, map, reverse, nat_le, slice_index}
+use Rattle.std.specs.Char.{is_ascii_alphanumeric, to_ascii_lowercase}
 use Rattle.std.specs.List.{list_any, range_with_len, before_first, position_or_len}
 use Rattle.std.specs.Str.{str_eq_ignore_ascii_case}
 
@@ -18,9 +19,24 @@ goes_on_with word text place = str_eq_ignore_ascii_case (take (length word) (dro
 abbrev pub stands_apart : List ℕ → List ℕ → ℕ → Bool
 stands_apart word text place = not (is_word_byte (slice_index (0 ∷ text) place)) && not (is_word_byte (slice_index text (place + length word)))
 
--- the word is in the text, and no longer word that has it
+-- the word is in the text
 unfoldable pub occurs : List ℕ → List ℕ → Bool
 occurs word text = list_any (λ place. goes_on_with word text place && stands_apart word text place) (range_with_len 0 (length text))
+
+-- the text doesn't begin with a byte of a word
+abbrev pub begins_apart : List ℕ → Bool
+begins_apart [] = true
+begins_apart (byte ∷ _) = not (is_word_byte byte)
+
+-- a text with the word, ASCII letters compared without case, and no byte of a word before it or after it
+pub record HasWord (word text : List ℕ) : Type 0 where
+  pub before : List ℕ
+  pub found : List ℕ
+  pub after : List ℕ
+  pub parts : text ≡ before ++ (found ++ after)
+  pub same : map to_ascii_lowercase found ≡ map to_ascii_lowercase word
+  pub before_it : begins_apart (reverse before) ≡ true
+  pub after_it : begins_apart after ≡ true
 
 -- ---- words at the front
 

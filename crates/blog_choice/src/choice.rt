@@ -48,9 +48,7 @@ fn is_any_matching(
 ) -> bool
     ensures { result ≡ list_any (matches (option_copied database.entry) schema.now table.now) (map name_value names.now) }
 {
-    names
-        .iter()
-        .any(|name| is_in(name.schema.or(database), schema) && table == name.table)
+    names.iter().any(|name| is_in(name.schema.or(database), schema) && table == name.table)
 }
 
 impl<'n> TableName<'n> {
@@ -98,21 +96,24 @@ impl TableChoice<'_> {
         is_wanted && !is_any_matching(self.excluded, None, schema, table)
     }
 
-    /// Returns whether a statement names a chosen table. If that isn't sure, it does.
+    /// Returns whether a statement names a chosen table. In doubt it does.
     ///
-    /// `text` is the statement's text, `default_schema` the schema that it is run in. `inside` is whether it is in a
-    /// transaction: between `BEGIN` or `XA START` and its end.
+    /// `text` is the statement's text, and `default_schema` the schema that it runs in. `inside` says whether it is inside a
+    /// transaction: between `BEGIN` or `XA START` and the end.
     ///
-    /// - A statement can change tables that it doesn't name: by a trigger, a view or a cascade. So it names every table,
+    /// - A statement can change tables that it doesn't name, through a trigger, a view or a cascade. So it names every table,
     ///   unless its first word is ALTER, ANALYZE, CREATE, DROP, FLUSH, GRANT, OPTIMIZE, RENAME, REPAIR, REVOKE, TRUNCATE
-    ///   or XA. In a transaction, only CREATE TABLE doesn't name every table. A comment before the first word counts.
-    /// - It names one of `tables` if the table's name is a word of its text, or if the schema's name is one beside the word
-    ///   DATABASE or SCHEMA. A name without a schema is in `database`; if there is none, that word is enough.
-    /// - If `tables` is empty, it names a table of `database` if that is its default schema or a word of its text. If there
-    ///   is no `database`, it names every table.
+    ///   or XA. Inside a transaction it names every table, unless its first two words are CREATE TABLE. A text that begins
+    ///   with a comment has no first word.
+    /// - It names one of `tables` if its text has the table's name. It also does if its text has the word DATABASE or SCHEMA
+    ///   and the schema's name. A name without a schema is in `database`; without a `database`, one of these two words is
+    ///   enough.
+    /// - If `tables` is empty, it names a table of `database` if that is its default schema, or if its text has that name. If
+    ///   there is no `database` either, it names every table.
     ///
-    /// Words are compared without case. A letter, a digit, `_` or `$` beside the name makes it another word. An empty name,
-    /// or one with a backtick or a byte from 128 on, is a word of every text. `excluded` has no effect.
+    /// A text has a name if the name is in it as a word: ASCII letters are compared without case, and no letter, digit, `_`
+    /// or `$` is beside it. Every text has an empty name, and a name with a backtick or a byte from 128 on. `excluded` has no
+    /// effect.
     #[tactic(auto, unfolding(crate::specs::Naming::names_chosen))]
     pub fn is_named(&self, default_schema: &[u8], text: &[u8], inside: bool) -> bool
         ensures { result ≡ names_chosen (choice_value self.now) default_schema.now text.now inside }

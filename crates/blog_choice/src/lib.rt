@@ -2,9 +2,11 @@
 #![tactic(auto)]
 
 mod choice;
+mod laws;
 mod naming;
 #[cfg(test)]
 mod tests;
 mod words;
 
 pub use choice::{TableChoice, TableName};
+pub use laws::{names_are_read, statements_about_chosen_tables_name_them, words_are_found_exactly};

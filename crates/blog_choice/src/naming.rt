@@ -63,11 +63,7 @@ fn names_table(name: &TableName<'_>, database: Option<&[u8]>, text: &[u8]) -> bo
 }
 
 /// Whether a text names one of some tables.
-pub(crate) fn is_any_named(
-    names: &[TableName<'_>],
-    database: Option<&[u8]>,
-    text: &[u8],
-) -> bool
+pub(crate) fn is_any_named(names: &[TableName<'_>], database: Option<&[u8]>, text: &[u8]) -> bool
     ensures { result ≡ list_any (names_table (option_copied database.entry) text.now) (map name_value names.now) }
 {
     names.iter().any(|name| names_table(name, database, text))

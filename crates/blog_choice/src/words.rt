@@ -32,7 +32,7 @@ pub(crate) fn is_same_word(word: &[u8], other: &[u8]) -> bool
     word.eq_ignore_ascii_case(other)
 }
 
-/// Whether a text has a word at a place, and no longer word that has it.
+/// Whether a text has a word at a place.
 fn is_at(word: &[u8], text: &[u8], place: usize) -> bool
     requires { place ≤ length text.now }
     ensures { result ≡ (goes_on_with word.now text.now place && stands_apart word.now text.now place) }

@@ -16,7 +16,7 @@ use Rattle.blog_gtid.proofs.Spellings.{integer-found, integer-again}
 -- ---- steps
 
 -- a step that gave something
-step-found : {A B : Type 0} (o : Option A) (f : A → Option B) (y : B) → (o >>= f) ≡ Some y → (x : A) × (o ≡ Some x) × (f x ≡ Some y)
+pub step-found : {A B : Type 0} (o : Option A) (f : A → Option B) (y : B) → (o >>= f) ≡ Some y → (x : A) × (o ≡ Some x) × (f x ≡ Some y)
 step-found None f y e = absurd (none-some y e)
 step-found (Some x) f y e = (x, refl, e)
 
@@ -140,7 +140,7 @@ record Reads (vs bytes rest : List ℕ) : Type 0 where
   are : AreBytes rest
   more : (ws end : List ℕ) → BeginWith ws end rest → BeginWith (vs ++ ws) end bytes
 
-some-parts : {A : Type 0} (x y : A) → Some x ≡ Some y → x ≡ y
+pub some-parts : {A : Type 0} (x y : A) → Some x ≡ Some y → x ≡ y
 some-parts x y e = ap (λ o. unwrap_or o x) e
 
 are-after : (first rest : List ℕ) → AreBytes (first ++ rest) → AreBytes rest
@@ -244,16 +244,16 @@ tag-found (first ∷ bytes) tag are e =
 
 -- ---- the steps of a body
 
-abbrev from_tag : ℕ → List ℕ → ℕ × List ℕ → Option TaggedId
+abbrev pub from_tag : ℕ → List ℕ → ℕ × List ℕ → Option TaggedId
 from_tag flags server number = tag_of number.1 >>= (λ tag. Some (record { flags = flags; server = server; number = number.0; tag = tag }))
 
-abbrev from_number : ℕ → List ℕ × List ℕ → Option TaggedId
+abbrev pub from_number : ℕ → List ℕ × List ℕ → Option TaggedId
 from_number flags server = (after_id 2 server.1 >>= signed_front) >>= from_tag flags server.0
 
-abbrev from_server : ℕ × List ℕ → Option TaggedId
+abbrev pub from_server : ℕ × List ℕ → Option TaggedId
 from_server flags = (after_id 1 flags.1 >>= bytes_front 16) >>= from_number flags.0
 
-abbrev from_flags : List ℕ → Option TaggedId
+abbrev pub from_flags : List ℕ → Option TaggedId
 from_flags fields = (after_id 0 fields >>= byte_front) >>= from_server
 
 -- the fields, one after the other

@@ -84,10 +84,15 @@ tagged_of body = do
 abbrev pub ReadsTagged : List ℕ → TaggedId → Type 0
 ReadsTagged body id = (tagged_of body ≡ Some id) ↔ HasTagged body id
 
--- the body of the Gtid event: flags, UUID and number
-abbrev pub gtid_text : TaggedId → List ℕ
-gtid_text id = id.flags ∷ (id.server ++ little_bytes 8 id.number)
+-- flags, UUID and number: the 25 bytes with which the body of a Gtid event begins
+abbrev pub fixed_text : TaggedId → List ℕ
+fixed_text id = id.flags ∷ (id.server ++ little_bytes 8 id.number)
 
--- the body of the Gtid event that a tagged one becomes; zero bytes where the tagged one can't be read
+-- a tag after these: the byte 42, and the tag. The body that a server writes ends before, or has the byte 2 there.
+abbrev pub tag_text : List ℕ → List ℕ
+tag_text [] = []
+tag_text (first ∷ tag) = 42 ∷ first ∷ tag
+
+-- the body of the Gtid event that a tagged one becomes, with its tag; 25 zero bytes where the tagged one can't be read
 unfoldable pub gtid_body_of : List ℕ → List ℕ
-gtid_body_of body = option_map_or gtid_text (tagged_of body) (replicate 25 0)
+gtid_body_of body = option_map_or (λ id. fixed_text id ++ tag_text id.tag) (tagged_of body) (replicate 25 0)

@@ -2,10 +2,12 @@
 //! "mysql::serialization": the version of the format; the message's size in bytes; the id of the last field that a reader
 //! has to know; the fields, each an id and a value, in the order of their ids.
 
-ghost use Rattle.std.specs.Prelude.{◌≡◌, length, option_map};
-ghost use Rattle.blog_gtid.specs.Tagged.{tagged_value, after_header, after_id, text_front, tag_of, tagged_of, gtid_body_of};
+ghost use Rattle.std.specs.Prelude.{◌≡◌, ◌≤◌, ◌+◌, ◌++◌, length, option_map, IfSome};
+ghost use Rattle.arrayvec.specs.ArrayVec.{array_vec_len};
+ghost use Rattle.blog_gtid.specs.Tagged.{tagged_value, after_header, after_id, text_front, tag_of, tagged_of, fixed_text, tag_text, gtid_body_of};
 
 use crate::integers::{byte_front, integer_front, server_front, signed_front};
+use arrayvec::ArrayVec;
 use byteorder::{ByteOrder, LittleEndian};
 
 /// The version of the message format.
@@ -22,6 +24,12 @@ const SERVER: u64 = 1;
 const NUMBER: u64 = 2;
 
 const TAG: u64 = 3;
+
+/// The greatest length of a body with a tag in bytes: the 25 before the tag, the byte before it, and the tag.
+const LONGEST_BODY: usize = 58;
+
+/// The byte before a tag in the body of a Gtid event.
+const TAG_FOLLOWS: u8 = 42;
 
 /// The global transaction identifier of a tagged GTID event.
 #[derive(Clone, Copy, Debug, PartialEq, Eq)]
@@ -59,7 +67,8 @@ fn after_id(id: u64, bytes: &[u8]) -> Option<&[u8]>
 /// Reads a text of at most 32 bytes.
 #[tactic(auto, unfolding(crate::specs::Tagged::text_front))]
 fn text_front(bytes: &[u8]) -> Option<&[u8]>
-    ensures { option_map (λ text. text.now) result ≡ text_front bytes.now }
+    ensures text { option_map (λ text. text.now) result ≡ text_front bytes.now }
+    ensures few { IfSome result (λ text. length text.now ≤ 32) }
 {
     let (size, rest) = integer_front(bytes)?;
     if size > LONGEST_TAG {
@@ -71,7 +80,8 @@ fn text_front(bytes: &[u8]) -> Option<&[u8]>
 /// Returns the tag, which is empty where the event has none.
 #[tactic(auto, unfolding(crate::specs::Tagged::tag_of))]
 fn tag_of(bytes: &[u8]) -> Option<&[u8]>
-    ensures { option_map (λ tag. tag.now) result ≡ tag_of bytes.now }
+    ensures tag { option_map (λ tag. tag.now) result ≡ tag_of bytes.now }
+    ensures few { IfSome result (λ tag. length tag.now ≤ 32) }
 {
     if bytes.is_empty() {
         return Some(bytes);
@@ -89,7 +99,8 @@ fn tag_of(bytes: &[u8]) -> Option<&[u8]>
 /// than the rest of the body or than 32 bytes.
 #[tactic(auto, unfolding(crate::specs::Tagged::tagged_of))]
 pub fn tagged_id(body: &[u8]) -> Option<TaggedId<'_>>
-    ensures { option_map tagged_value result ≡ tagged_of body.now }
+    ensures id { option_map tagged_value result ≡ tagged_of body.now }
+    ensures few { IfSome result (λ id. length id.tag.now ≤ 32) }
 {
     let rest = after_header(body)?;
     let (flags, rest) = byte_front(after_id(FLAGS, rest)?)?;
@@ -104,17 +115,42 @@ pub fn tagged_id(body: &[u8]) -> Option<TaggedId<'_>>
     })
 }
 
-/// Returns the body of the Gtid event that a tagged GTID event becomes: flags, 1 byte; the UUID, 16; the number, 8 (MySQL
-/// source code documentation, "GTID_LOG_EVENT"). It is 25 zero bytes where `tagged_id` returns `None`.
-#[tactic(auto, unfolding(crate::specs::Tagged::gtid_body_of))]
-pub fn gtid_body(body: &[u8]) -> [u8; 25]
-    ensures { result ≡ gtid_body_of body.now }
+/// Returns the flags, the UUID and the number one after the other.
+fn fixed_part(id: &TaggedId<'_>) -> [u8; 25]
+    ensures { result ≡ fixed_text (tagged_value id.now) }
 {
-    let mut gtid = [0; 25];
-    if let Some(id) = tagged_id(body) {
-        gtid[0] = id.flags;
-        gtid[1..17].copy_from_slice(&id.server);
-        LittleEndian::write_u64(&mut gtid[17..], id.number);
+    let mut fixed = [0; 25];
+    fixed[0] = id.flags;
+    fixed[1..17].copy_from_slice(&id.server);
+    LittleEndian::write_u64(&mut fixed[17..], id.number);
+    fixed
+}
+
+/// Appends a tag, if there is one, after the byte that says so.
+fn put_tag(gtid: &mut ArrayVec<u8, LONGEST_BODY>, tag: &[u8])
+    requires room { array_vec_len gtid.old + (1 + length tag.now) ≤ 58 }
+    ensures { gtid.new.items ≡ gtid.old.items ++ tag_text tag.now }
+{
+    if !tag.is_empty() {
+        gtid.push(TAG_FOLLOWS);
+        gtid.try_extend_from_slice(tag).unwrap();
+    }
+}
+
+/// Returns the body of the Gtid event that a tagged GTID event becomes: flags, 1 byte; the UUID, 16; the number, 8 (MySQL
+/// source code documentation, "GTID_LOG_EVENT"); and if there is a tag, the byte 42 and the tag. It is 25 zero bytes where
+/// `tagged_id` returns `None`.
+#[tactic(auto, unfolding(crate::specs::Tagged::gtid_body_of))]
+pub fn gtid_body(body: &[u8]) -> ArrayVec<u8, 58>
+    ensures { result.items ≡ gtid_body_of body.now }
+{
+    let mut gtid = ArrayVec::new();
+    match tagged_id(body) {
+        Some(id) => {
+            gtid.try_extend_from_slice(&fixed_part(&id)).unwrap();
+            put_tag(&mut gtid, id.tag);
+        }
+        None => gtid.try_extend_from_slice(&[0; 25]).unwrap(),
     }
     gtid
 }

@@ -12,7 +12,7 @@ use Rattle.blog_event.proofs.Openings.{opened-front}
 use Rattle.blog_sum.specs.declared.fault.SumFault.{SumFault}
 use Rattle.blog_sum.specs.declared.fault.SumFault.TheVariants.{Log, UnknownAlgorithm}
 use Rattle.blog_sum.specs.Sums.{unless, sum_check, not_in_use, algorithm_of, has_sums}
-use Rattle.blog_sum.proofs.Plains.{none-first, none-front, none-unless}
+use Rattle.blog_sum.proofs.Summed.{none-first, none-front, none-unless}
 use Rattle.blog_source.specs.Found.{format_check, source_refusal}
 use Rattle.blog_source.proofs.Opened.{read-is}
 

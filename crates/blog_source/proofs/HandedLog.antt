@@ -1,27 +1,26 @@
 -- The log that is handed out: its events, its length, and that it is a log.
-use Rattle.std.proofs.Common.{◌≡◌, ℕ, ◌+◌, ◌-◌, ◌^◌, ◌≤◌, ◌<◌, Bool, true, false, List, [], ◌∷◌, length, take, drop, Option, Some, None, refl, sym, subst, ap, ◌∙◌, arith}
-use Rattle.std.specs.Prelude.{◌&&◌, bytes_eq}
+use Rattle.std.proofs.Common.{◌≡◌, ℕ, ◌+◌, ◌-◌, ◌^◌, ◌≤◌, ◌<◌, Bool, true, false, List, [], ◌∷◌, length, drop, Option, Some, None, refl, sym, subst, ap, ◌∙◌, arith}
+use Rattle.std.specs.Prelude.{◌&&◌, ◌==◌, nat_le}
+use Rattle.std.proofs.lemmas.Bool.{and_parts, leb-true}
 use Rattle.std.specs.List.{flat_map, AllByRecursion}
 use Rattle.std.proofs.lemmas.Bool.Decides.{nat_tests}
 use Rattle.std.proofs.lemmas.List.{length-take-le}
 use borrow.Author.Tests.{eqb-true}
-use Rattle.blog_event.specs.Event.{Event, event_size, event_text, event_at, IsEvent}
-use Rattle.blog_event.specs.Fault.{fault_at}
-use Rattle.blog_event.specs.File.{AreBytes, Placed, magic, file_text, placed_from, end_of, read}
-use Rattle.blog_event.specs.Format.{algorithm, format_fault}
+use Rattle.blog_event.specs.Event.{Event, event_size, event_at, IsEvent}
+use Rattle.blog_event.specs.File.{AreBytes, Placed, file_text, placed_from, end_of, read}
+use Rattle.blog_event.specs.Format.{algorithm, description_fault}
 use Rattle.blog_event.specs.Opening.{opening_fault}
-use Rattle.blog_event.proofs.Framing.{event-again, read-again, texts-length}
-use Rattle.blog_event.proofs.Openings.{opening-format}
 use Rattle.blog_sum.specs.declared.fault.SumFault.{SumFault}
 use Rattle.blog_sum.specs.Sums.{algorithm_of, has_sums}
-use Rattle.blog_sum.specs.Plain.{plain_format}
 use Rattle.blog_sum.proofs.Formats.{described-long, plain-described, plain-none}
-use Rattle.blog_sum.proofs.Plains.{format-accepted, format-event, summed-algorithm}
+use Rattle.blog_sum.proofs.Summed.{format-accepted, format-event, summed-algorithm}
 use Rattle.blog_sum.proofs.Texts.{format-size}
 use Rattle.blog_source.specs.declared.reading.Reading.{Reading}
 use Rattle.blog_source.specs.Found.{begins_right, check_of, found, found_with, is_wrong_sum, source_refusal}
-use Rattle.blog_source.specs.Handed.{bare, handed, handed_events, handed_format, handed_log}
+use Rattle.blog_source.specs.Handed.{bare, handed, handed_events, handed_format, handed_log, is_tagged, known}
 use Rattle.blog_source.proofs.Accepted.{IsAccepted, is-accepted, is-read, later_of}
+use Rattle.blog_gtid.proofs.Lengths.{gtid_fits}
+use Rattle.blog_source.proofs.LogText.{IsText, text-long, text-opens, text-read, text-stands}
 use Rattle.blog_source.proofs.Moving.{has-room}
 
 -- ---- the events behind the format description
@@ -32,7 +31,7 @@ end-past pos [] = omega arith
 end-past pos (e ∷ es) = let later = end-past (pos + event_size e) es in omega arith
 
 -- an event without its sum, where it has one, with another place
-bare-event : (sums : Bool) (pos : ℕ) (e : Event) → pos < 2 ^ 32 → IsEvent e → (sums ≡ true → 23 ≤ event_size e)
+pub bare-event : (sums : Bool) (pos : ℕ) (e : Event) → pos < 2 ^ 32 → IsEvent e → (sums ≡ true → 23 ≤ event_size e)
     → IsEvent (record (bare sums e) { log_pos = pos }) × (event_size (bare sums e) ≤ event_size e)
 bare-event false pos e short event room = (
   record { timestamp = event.timestamp; kind = event.kind; server_id = event.server_id; size = event.size; log_pos = short; flags = event.flags },
@@ -46,8 +45,27 @@ bare-event true pos e short event room =
       omega arith,
     )
 
+-- what it becomes
+known-event : (sums : Bool) (pos : ℕ) (e : Event) → pos < 2 ^ 32 → IsEvent e → (sums ≡ true → 23 ≤ event_size e)
+    → IsEvent (record (known (bare sums e)) { log_pos = pos }) × (event_size (known (bare sums e)) ≤ event_size e)
+known-event sums pos e short event room = by_case (is_tagged (bare sums e)) refl
+  where
+    by_case : (tagged : Bool) → is_tagged (bare sums e) ≡ tagged
+        → IsEvent (record (known (bare sums e)) { log_pos = pos }) × (event_size (known (bare sums e)) ≤ event_size e)
+    by_case true is =
+        let own = bare-event sums pos e short event room in
+        let enough = leb-true 25 (length (bare sums e).body) (and_parts ((bare sums e).kind == 42) (nat_le 25 (length (bare sums e).body)) is).1 in
+        let fits = gtid_fits (bare sums e).body enough in
+        let size = own.0.size in
+        let less = own.1 in
+        rw is (
+          record { timestamp = own.0.timestamp; kind = omega arith; server_id = own.0.server_id; size = omega arith; log_pos = short; flags = own.0.flags },
+          omega arith,
+        )
+    by_case false is = rw is (bare-event sums pos e short event room)
+
 -- events are handed out from a position on, and end no later than another
-abbrev Fit : ℕ → ℕ → List Event → Type 0
+abbrev pub Fit : ℕ → ℕ → List Event → Type 0
 Fit pos end es = AllByRecursion IsEvent es × (end_of pos es ≤ end)
 
 -- what is handed out for events fits where they are, and before it
@@ -55,7 +73,7 @@ handed-fit : (how : Reading) (sums : Bool) (len pos at : ℕ) (es : List Event) 
     → Fit pos (end_of at es) (flat_map (handed sums) (found how sums len at (placed_from at es)).kept)
 handed-fit how sums len pos at [] before events short = (tt, before)
 handed-fit how sums len pos at (e ∷ es) before events short =
-    by_check (check_of sums p) passed refl (handed-fit how sums len (pos + event_size (bare sums e)) (at + event_size e) es) (handed-fit how sums len pos (at + event_size e) es (omega arith) events.1 short)
+    by_check (check_of sums p) passed refl (handed-fit how sums len (pos + event_size (known (bare sums e))) (at + event_size e) es) (handed-fit how sums len pos (at + event_size e) es (omega arith) events.1 short)
   where
     p : Placed
     p = record { pos = at; event = e }
@@ -64,14 +82,14 @@ handed-fit how sums len pos at (e ∷ es) before events short =
     passed = how.skip_damaged && (is_wrong_sum (check_of sums p) && begins_right (placed_from (at + event_size e) es))
 
     by_check : (check : Option SumFault) (passed : Bool) → check_of sums p ≡ check
-        → (pos + event_size (bare sums e) ≤ at + event_size e → AllByRecursion IsEvent es → end_of (at + event_size e) es < 2 ^ 32
-        → Fit (pos + event_size (bare sums e)) (end_of (at + event_size e) es) (flat_map (handed sums) (found how sums len (at + event_size e) (placed_from (at + event_size e) es)).kept))
+        → (pos + event_size (known (bare sums e)) ≤ at + event_size e → AllByRecursion IsEvent es → end_of (at + event_size e) es < 2 ^ 32
+        → Fit (pos + event_size (known (bare sums e))) (end_of (at + event_size e) es) (flat_map (handed sums) (found how sums len (at + event_size e) (placed_from (at + event_size e) es)).kept))
         → Fit pos (end_of (at + event_size e) es) (flat_map (handed sums) (found how sums len (at + event_size e) (placed_from (at + event_size e) es)).kept)
         → Fit pos (end_of (at + event_size e) es)
         (flat_map (handed sums) (found_with check passed p (found how sums len (at + event_size e) (placed_from (at + event_size e) es))).kept)
     by_check None passed fine kept skipped =
         let past = end-past (at + event_size e) es in
-        let own = bare-event sums at e (omega arith) events.0 (has-room sums p fine) in
+        let own = known-event sums at e (omega arith) events.0 (has-room sums p fine) in
         let size = own.1 in
         let later = kept (omega arith) events.1 short in
         ((own.0, later.0), later.1)
@@ -80,28 +98,27 @@ handed-fit how sums len pos at (e ∷ es) before events short =
 
 -- ---- the format description
 
+-- what is known of it, once it says that there are no sums
 pub record HasFormat (sums : Bool) (format : Event) : Type 0 where
   pub event : IsEvent (handed_format sums format)
   pub size : event_size (handed_format sums format) ≡ event_size format
-  pub accepted : format_fault (handed_format sums format) ≡ None
+  pub described : description_fault (handed_format sums format) ≡ None
+  pub none : algorithm (handed_format sums format).body ≡ 0
 
-has-format : (bytes : List ℕ) (log : IsAccepted bytes) (sums : Bool) → has_sums bytes ≡ sums → IsEvent log.format → HasFormat sums log.format
+pub has-format : (bytes : List ℕ) (log : IsAccepted bytes) (sums : Bool) → has_sums bytes ≡ sums → IsEvent log.format → HasFormat sums log.format
 has-format bytes log true is event =
     let long = described-long log.format log.accepted in
     let one : algorithm log.format.body ≡ 1 = sym (summed-algorithm bytes log.format log.stands) ∙ eqb-true (algorithm_of bytes) 1 is in
     record {
       event = format-event log.format (omega arith) event;
       size = format-size _ log.format (omega arith);
-      accepted = format-accepted (plain_format log.format) (plain-described log.format log.accepted one) (plain-none log.format (omega arith));
+      described = plain-described log.format log.accepted one;
+      none = plain-none log.format (omega arith);
     }
 has-format bytes log false is event =
     let known = log.known in
     let none : algorithm_of bytes ≡ 0 = grind (arith, nat_tests) in
-    record {
-      event = event;
-      size = refl;
-      accepted = format-accepted log.format log.accepted (sym (summed-algorithm bytes log.format log.stands) ∙ none);
-    }
+    record { event = event; size = refl; described = log.accepted; none = sym (summed-algorithm bytes log.format log.stands) ∙ none }
 
 -- ---- the whole log
 
@@ -137,41 +154,32 @@ is-handed how bytes are fine =
       ends = subst (λ (size : ℕ). end_of (4 + size) last ≤ length bytes) (sym format.size) ends;
     }
 
--- its text
-pub handed-text : (how : Reading) (bytes : List ℕ) (is : IsHanded how bytes) → handed_log how bytes ≡ file_text (handed_format (has_sums bytes) is.log.format ∷ is.later)
+-- its bytes
+pub handed-text : (how : Reading) (bytes : List ℕ) (is : IsHanded how bytes) → IsText (handed_log how bytes) (handed_format (has_sums bytes) is.log.format) is.later
 unfolding handed_log
-handed-text how bytes is = ap file_text is.are
-
--- it is as long as its events
-handed-length : (how : Reading) (bytes : List ℕ) (is : IsHanded how bytes) → length (handed_log how bytes) ≡ end_of 4 (handed_format (has_sums bytes) is.log.format ∷ is.later)
-handed-length how bytes is =
-    let es : List Event = handed_format (has_sums bytes) is.log.format ∷ is.later in
-    let texts = texts-length 4 es in
-    let long : length (file_text es) ≡ end_of 4 es = omega arith in
-    ap length (handed-text how bytes is) ∙ long
+handed-text how bytes is = record { is = ap file_text is.are; events = is.events }
 
 -- its first event
 pub handed-stands : (how : Reading) (bytes : List ℕ) (is : IsHanded how bytes) → event_at (drop 4 (handed_log how bytes)) ≡ Some (handed_format (has_sums bytes) is.log.format)
-handed-stands how bytes is =
-    ap (λ (text : List ℕ). event_at (drop 4 text)) (handed-text how bytes is) ∙ event-again (handed_format (has_sums bytes) is.log.format) (flat_map event_text is.later) is.events.0
-
-pub handed-marked : (how : Reading) (bytes : List ℕ) (is : IsHanded how bytes) → bytes_eq (take 4 (handed_log how bytes)) magic ≡ true
-handed-marked how bytes is = ap (λ (text : List ℕ). bytes_eq (take 4 text) magic) (handed-text how bytes is)
+handed-stands how bytes is = text-stands (handed_log how bytes) (handed_format (has_sums bytes) is.log.format) is.later (handed-text how bytes is)
 
 -- ---- the laws
 
 pub handed_no_longer : (how : Reading) (bytes : List ℕ) → AreBytes bytes → source_refusal bytes ≡ None → length (handed_log how bytes) ≤ length bytes
-handed_no_longer how bytes are fine = let is = is-handed how bytes are fine in let ends = is.ends in omega (arith, handed-length how bytes is)
+handed_no_longer how bytes are fine =
+    let is = is-handed how bytes are fine in
+    let ends = is.ends in
+    omega (arith, text-long (handed_log how bytes) (handed_format (has_sums bytes) is.log.format) is.later (handed-text how bytes is))
 
 pub handed_opens : (how : Reading) (bytes : List ℕ) → AreBytes bytes → source_refusal bytes ≡ None → opening_fault (handed_log how bytes) ≡ None
 handed_opens how bytes are fine =
     let is = is-handed how bytes are fine in
     let short = is.log.short in
-    opening-format (handed_log how bytes) (handed_format (has_sums bytes) is.log.format) (omega (arith, handed_no_longer how bytes are fine)) (handed-marked how bytes is) (handed-stands how bytes is)
-    ∙ ap (fault_at 4) is.format.accepted
+    text-opens (handed_log how bytes) (handed_format (has_sums bytes) is.log.format) is.later (handed-text how bytes is) (omega (arith, handed_no_longer how bytes are fine))
+    (format-accepted (handed_format (has_sums bytes) is.log.format) is.format.described is.format.none)
 
 pub handed_read_again : (how : Reading) (bytes : List ℕ) → AreBytes bytes → source_refusal bytes ≡ None
     → read (handed_log how bytes) None ≡ handed_events how (has_sums bytes) (length bytes) (read bytes how.stop)
 handed_read_again how bytes are fine =
     let is = is-handed how bytes are fine in
-    ap (λ (text : List ℕ). read text None) (handed-text how bytes is) ∙ read-again (handed_format (has_sums bytes) is.log.format) is.later is.events ∙ sym is.are
+    text-read (handed_log how bytes) (handed_format (has_sums bytes) is.log.format) is.later (handed-text how bytes is) ∙ sym is.are

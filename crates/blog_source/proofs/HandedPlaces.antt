@@ -7,7 +7,7 @@ use Rattle.std.proofs.lemmas.List.{append-nil}
 use Rattle.std.proofs.lemmas.Slice.Eq.{bytes_eq-Decides}
 use Rattle.blog_event.specs.Event.{Event, event_at, event_size, event_text}
 use Rattle.blog_event.specs.File.{AreBytes, Placed, magic, placed_from, events_from, read}
-use Rattle.blog_event.proofs.Framing.{read-again, text-length}
+use Rattle.blog_event.proofs.Framing.{text-length}
 use Rattle.blog_sum.specs.Sums.{has_sums}
 use Rattle.blog_source.specs.declared.reading.Reading.{Reading}
 use Rattle.blog_source.specs.Found.{Found, found, found_of, source_refusal}
@@ -15,7 +15,8 @@ use Rattle.blog_source.specs.Handed.{handed, handed_format, handed_log}
 use Rattle.blog_source.specs.Places.{first_of, place_of, position_of}
 use Rattle.blog_source.specs.Laws.{HandedOut, handed_from, handed_out, placed_of}
 use Rattle.blog_source.proofs.Accepted.{IsAccepted, is-accepted, is-read, later_of}
-use Rattle.blog_source.proofs.HandedLog.{IsHanded, is-handed, handed-marked, handed-stands, handed-text}
+use Rattle.blog_source.proofs.HandedLog.{IsHanded, is-handed, handed-stands, handed-text}
+use Rattle.blog_source.proofs.LogText.{text-marked, text-read}
 use Rattle.blog_source.proofs.Opened.{read-is}
 use Rattle.blog_source.proofs.Placing.{position-first}
 use Rattle.blog_source.proofs.Standing.{IsAtPlace, all-both, all-more, all-unmapped, events-stand, first_at, from-are, from-at-place, from-each, from-first, kept-all, kept-rise}
@@ -52,8 +53,8 @@ handed-left : (how : Reading) (bytes : List ℕ) (is : IsHanded how bytes) (firs
 handed-left how bytes is first first_is =
     let log : List ℕ = handed_log how bytes in
     let format : Event = handed_format (has_sums bytes) is.log.format in
-    let mark : take 4 log ≡ magic = (bytes_eq-Decides (take 4 log) magic).0 (handed-marked how bytes is) in
-    let whole : read log None ≡ format ∷ is.later = ap (λ (text : List ℕ). read text None) (handed-text how bytes is) ∙ read-again format is.later is.events in
+    let mark : take 4 log ≡ magic = (bytes_eq-Decides (take 4 log) magic).0 (text-marked log format is.later (handed-text how bytes is)) in
+    let whole : read log None ≡ format ∷ is.later = text-read log format is.later (handed-text how bytes is) in
     let front : read log None ≡ format ∷ events_from (length log) None (4 + event_size format) (drop (4 + event_size format) log) =
     read-is log None format mark (handed-stands how bytes is) in
     ap (λ (first : ℕ). events_from (length log) None first (drop first log)) (first_is ∙ ap (λ (size : ℕ). 4 + size) (sym is.format.size))
@@ -71,8 +72,7 @@ handed_are how bytes are fine =
     ∙ from-are (has_sums bytes) at (kept_of how bytes is.log)
     ∙ ap (placed_from at) (sym (later-is how bytes is))
     ∙ ap (λ (size : ℕ). placed_from (4 + size) is.later) (sym is.format.size)
-    ∙ ap (λ (es : List Event). drop 1 (placed_from 4 es)) (sym (read-again format is.later is.events))
-    ∙ ap (λ (text : List ℕ). drop 1 (placed_from 4 (read text None))) (sym (handed-text how bytes is))
+    ∙ ap (λ (es : List Event). drop 1 (placed_from 4 es)) (sym (text-read (handed_log how bytes) format is.later (handed-text how bytes is)))
 
 -- ---- the events of the server's log for which they stand
 
@@ -109,7 +109,7 @@ handed_places how bytes are fine =
     let size = is.format.size in
     let parts = length-append magic (event_text format) in
     let whole : log ≡ (magic ++ event_text format) ++ (flat_map event_text is.later ++ []) =
-    handed-text how bytes is ∙ sym (append_assoc magic (event_text format) (flat_map event_text is.later))
+    (handed-text how bytes is).is ∙ sym (append_assoc magic (event_text format) (flat_map event_text is.later))
     ∙ ap (λ (texts : List ℕ). (magic ++ event_text format) ++ texts) (sym (append-nil (flat_map event_text is.later))) in
     let stand : AllByRecursion (λ p. event_at (drop p.pos log) ≡ Some p.event) (placed_from at is.later) =
     events-stand log (magic ++ event_text format) [] at is.later whole (omega arith) is.events.1 in

@@ -2,21 +2,23 @@
 use Rattle.std.proofs.Common.{◌≡◌, ℕ, ◌+◌, ◌≤◌, Bool, true, false, List, [], ◌++◌, length, take, drop, None, refl, sym, subst, ap, ◌∙◌, append_assoc}
 use Rattle.std.proofs.lemmas.List.{append-nil}
 use Rattle.blog_event.specs.declared.event.Header.{Header}
-use Rattle.blog_event.specs.Event.{event_text}
+use Rattle.blog_event.specs.Event.{event_size, event_text}
 use Rattle.blog_event.specs.File.{Placed}
+use Rattle.blog_source.specs.declared.form.Form.{Form}
+use Rattle.blog_source.specs.declared.form.Form.TheVariants.{Places, Plain}
 use Rattle.blog_source.specs.declared.reading.Reading.{Reading}
 use Rattle.blog_source.specs.Found.{Found, found_with}
-use Rattle.blog_source.specs.code.Walk.{IsKept, found_left, handed_text, moved, moved_size}
+use Rattle.blog_source.specs.code.Walk.{IsKept, found_left, moved, put_text}
 use Rattle.blog_source.proofs.Moving.{has-room, kept-text}
 
 -- nothing is handed out for no events
-pub none-text : (ends sums : Bool) (pos : ℕ) → handed_text ends sums pos [] ≡ []
-none-text true sums pos = refl
-none-text false sums pos = refl
+pub none-text : (form : Form) (sums : Bool) (pos : ℕ) → put_text form sums pos [] ≡ []
+none-text Places sums pos = refl
+none-text Plain sums pos = refl
 
-pub ended-text : (ends sums : Bool) (pos : ℕ) (out : List ℕ) (ps : List Placed) → ps ≡ [] → out ++ handed_text ends sums pos ps ≡ out
-ended-text ends sums pos out ps none =
-    ap (λ (ps : List Placed). out ++ handed_text ends sums pos ps) none ∙ ap (λ (text : List ℕ). out ++ text) (none-text ends sums pos) ∙ append-nil out
+pub ended-text : (form : Form) (sums : Bool) (pos : ℕ) (out : List ℕ) (ps : List Placed) → ps ≡ [] → out ++ put_text form sums pos ps ≡ out
+ended-text form sums pos out ps none =
+    ap (λ (ps : List Placed). out ++ put_text form sums pos ps) none ∙ ap (λ (text : List ℕ). out ++ text) (none-text form sums pos) ∙ append-nil out
 
 -- ---- an event that is kept
 
@@ -32,17 +34,17 @@ kept-found how sums bytes new at h kept long behind =
     ∙ (λ i. found_with None false p (found_left how sums (sym long i) (at + h.size) (sym behind i)))
 
 -- what is handed out with it
-pub kept-put : (how : Reading) (ends sums : Bool) (bytes new : List ℕ) (at to next : ℕ) (h : Header) (kept : IsKept how sums bytes at h) → length new ≡ length bytes
-    → drop (at + h.size) new ≡ drop (at + h.size) bytes → next ≡ to + moved_size sums h.size
-    → take next new ≡ take to bytes ++ event_text (moved ends sums to at h bytes)
-    → take next new ++ handed_text ends sums next (found_left how sums (length new) (at + h.size) (drop (at + h.size) new)).kept
-    ≡ take to bytes ++ handed_text ends sums to (found_left how sums (length bytes) at (drop at bytes)).kept
-kept-put how ends sums bytes new at to next h kept long behind next_is put =
+pub kept-put : (how : Reading) (form : Form) (sums : Bool) (bytes new : List ℕ) (at to next : ℕ) (h : Header) (kept : IsKept how sums bytes at h) → length new ≡ length bytes
+    → drop (at + h.size) new ≡ drop (at + h.size) bytes → next ≡ to + event_size (moved form sums to at h bytes)
+    → take next new ≡ take to bytes ++ event_text (moved form sums to at h bytes)
+    → take next new ++ put_text form sums next (found_left how sums (length new) (at + h.size) (drop (at + h.size) new)).kept
+    ≡ take to bytes ++ put_text form sums to (found_left how sums (length bytes) at (drop at bytes)).kept
+kept-put how form sums bytes new at to next h kept long behind next_is put =
     let later : List Placed = (found_left how sums (length new) (at + h.size) (drop (at + h.size) new)).kept in
-    let one : List ℕ = event_text (moved ends sums to at h bytes) in
+    let one : List ℕ = event_text (moved form sums to at h bytes) in
     let room : sums ≡ true → 23 ≤ h.size = λ is. subst (λ (size : ℕ). 23 ≤ size) (sym kept.header.size) (has-room sums (record { pos = at; event = kept.event }) kept.passes is) in
-    ap (λ (out : List ℕ). out ++ handed_text ends sums next later) put
-    ∙ ap (λ (next : ℕ). (take to bytes ++ one) ++ handed_text ends sums next later) next_is
-    ∙ append_assoc (take to bytes) one (handed_text ends sums (to + moved_size sums h.size) later)
-    ∙ ap (λ (text : List ℕ). take to bytes ++ text) (sym (kept-text ends sums bytes at to h kept.event later kept.stands kept.header room))
-    ∙ ap (λ (f : Found). take to bytes ++ handed_text ends sums to f.kept) (sym (kept-found how sums bytes new at h kept long behind))
+    ap (λ (out : List ℕ). out ++ put_text form sums next later) put
+    ∙ ap (λ (next : ℕ). (take to bytes ++ one) ++ put_text form sums next later) next_is
+    ∙ append_assoc (take to bytes) one (put_text form sums (to + event_size (moved form sums to at h bytes)) later)
+    ∙ ap (λ (text : List ℕ). take to bytes ++ text) (sym (kept-text form sums bytes at to h kept.event later kept.stands kept.header room))
+    ∙ ap (λ (f : Found). take to bytes ++ put_text form sums to f.kept) (sym (kept-found how sums bytes new at h kept long behind))

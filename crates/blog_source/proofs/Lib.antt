@@ -4,9 +4,13 @@ pub mod Handing
 pub mod Tails
 pub mod Opened
 pub mod Placing
-mod Accepted
+pub mod Accepted
+pub mod LogText
+pub mod Plained
 mod HandedLog
-mod WholeReading
+pub mod WholeReading
+mod PlainLog
 mod Standing
 mod HandedPlaces
 mod Unmoved
+pub mod Gtids

@@ -1,36 +1,48 @@
 -- Moving an event to the front of the bytes in which it stands.
 use Rattle.std.proofs.Common.{◌≡◌, ℕ, ◌+◌, ◌-◌, ◌≤◌, Bool, List, ◌++◌, length, take, drop, true, false, Some, None, [], ◌∷◌, refl, sym, ap, ◌∙◌, arith, append_assoc}
-use Rattle.std.proofs.lemmas.List.{drop-drop, drop_at, length-append, length-drop, length-take-le, take-append-le, take-take, take_at}
-use Rattle.std.specs.Prelude.{if◌then◌else◌, nat_le}
+use Rattle.std.proofs.lemmas.List.{drop-drop, drop_at, length-append, length-drop, length-take-le, take-append-drop, take-append-le, take-take, take_at}
+use Rattle.std.specs.Prelude.{nat_le, ◌==◌, ◌&&◌}
+use Rattle.std.proofs.lemmas.Bool.Decides.{nat_tests}
 use Rattle.std.proofs.lemmas.Bool.{leb-true}
 use Rattle.std.proofs.lemmas.Option.{none-some}
 use Rattle.blog_event.specs.declared.fault.Fault.TheVariants.{CutEvent}
 use Rattle.blog_sum.specs.declared.fault.SumFault.{SumFault}
 use Rattle.blog_sum.specs.declared.fault.SumFault.TheVariants.{Log, WrongSum}
 use Rattle.blog_sum.specs.Sums.{ends_in_its_sum, unless}
-use Rattle.blog_sum.proofs.Plains.{none-first}
+use Rattle.blog_sum.proofs.Summed.{none-first}
 use Rattle.blog_source.specs.Found.{check_of}
 use Rattle.blog_event.specs.declared.event.Header.{Header}
 use Rattle.byteorder.specs.Endian.{little_number}
 use Rattle.blog_event.specs.Event.{Event, event_at, event_size, event_text}
 use Rattle.blog_event.specs.File.{Placed}
 use Rattle.blog_event.proofs.Framing.{event-at-gives}
-use Rattle.blog_source.specs.Handed.{bare}
+use Rattle.blog_source.specs.declared.form.Form.{Form}
+use Rattle.blog_source.specs.declared.form.Form.TheVariants.{Places, Plain}
+use Rattle.blog_source.specs.Handed.{bare, is_tagged}
 use Rattle.blog_event.specs.Writing.{header_text}
-use Rattle.blog_source.specs.code.Walk.{IsHeaderOf, handed_text, moved, moved_size}
+use Rattle.blog_source.specs.code.Walk.{IsHeaderOf, formed, moved, moved_bare, moved_size, pos_as, put_text}
 use borrow.Rule.Slice.PartMut.{put_mid}
 use lib.Seq.{paste}
 
+-- a part that was moved to the front, or is there already
+pub part-moved : (old new : List ℕ) (at to n : ℕ) → new ≡ paste old to (drop at old) ((at + n) - at) → new ≡ take to old ++ (take n (drop at old) ++ drop (to + n) old)
+part-moved old new at to n is =
+    let len : (at + n) - at ≡ n = omega arith in
+    is ∙ ap (λ (n : ℕ). paste old to (drop at old) n) len ∙ append_assoc (take to old) (take n (drop at old)) (drop (to + n) old)
+
+pub part-there : (old : List ℕ) (at to n : ℕ) → to ≡ at → old ≡ take to old ++ (take n (drop at old) ++ drop (to + n) old)
+part-there old at to n same =
+    sym (take-append-drop to old) ∙ ap (λ (rest : List ℕ). take to old ++ rest) (sym (take-append-drop n (drop to old)))
+    ∙ ap (λ (rest : List ℕ). take to old ++ (take n (drop to old) ++ rest)) (drop-drop n to old)
+    ∙ ap (λ (at : ℕ). take to old ++ (take n (drop at old) ++ drop (to + n) old)) same
+
 -- bytes whose part behind a header's place is moved, and then the header, are their front, the header, the part, and their rest
-pub moved-bytes : (old body h : List ℕ) (at to n k : ℕ) → body ≡ paste old (to + 19) (drop (at + 19) old) ((at + 19 + n) - (at + 19)) → length h ≡ 19 → k ≡ 19 → to ≤ at
-    → at + (19 + n) ≤ length old
-    → put_mid to k body h ≡ (take to old ++ (h ++ take n (drop (at + 19) old))) ++ drop (to + (19 + n)) old
-moved-bytes old body h at to n k body_is long k_is order within =
+pub moved-bytes : (old body h : List ℕ) (at to n k : ℕ) → body ≡ take (to + 19) old ++ (take n (drop (at + 19) old) ++ drop (to + 19 + n) old) → length h ≡ 19 → k ≡ 19
+    → to ≤ at → at + (19 + n) ≤ length old → put_mid to k body h ≡ (take to old ++ (h ++ take n (drop (at + 19) old))) ++ drop (to + (19 + n)) old
+moved-bytes old body h at to n k is long k_is order within =
     let part : List ℕ = take n (drop (at + 19) old) in
     let front : List ℕ = take (to + 19) old in
     let rest : List ℕ = drop (to + 19 + n) old in
-    let len : (at + 19 + n) - (at + 19) ≡ n = omega arith in
-    let is : body ≡ front ++ (part ++ rest) = body_is ∙ ap (λ (n : ℕ). paste old (to + 19) (drop (at + 19) old) n) len ∙ append_assoc front part rest in
     let front_long : length front ≡ to + 19 = length-take-le (to + 19) old (omega arith) in
     let before : take to body ≡ take to old = ap (take to) is ∙ take-append-le to front (part ++ rest) (omega arith) ∙ take-take to (to + 19) old (omega arith) in
     let behind : drop (to + k) body ≡ part ++ rest = ap (λ (k : ℕ). drop (to + k) body) k_is ∙ ap (drop (to + 19)) is ∙ drop_at front (part ++ rest) (to + 19) front_long in
@@ -51,13 +63,13 @@ moved-long old h at to n long order within =
     let part = length-take-le n (drop (at + 19) old) (omega arith) in
     omega arith
 
-pub moved-front : (old body h : List ℕ) (at to n k : ℕ) → body ≡ paste old (to + 19) (drop (at + 19) old) ((at + 19 + n) - (at + 19)) → length h ≡ 19 → k ≡ 19 → to ≤ at
+pub moved-front : (old body h : List ℕ) (at to n k : ℕ) → body ≡ take (to + 19) old ++ (take n (drop (at + 19) old) ++ drop (to + 19 + n) old) → length h ≡ 19 → k ≡ 19 → to ≤ at
     → at + (19 + n) ≤ length old → take (to + (19 + n)) (put_mid to k body h) ≡ take to old ++ (h ++ take n (drop (at + 19) old))
 moved-front old body h at to n k body_is long k_is order within =
     ap (take (to + (19 + n))) (moved-bytes old body h at to n k body_is long k_is order within)
     ∙ take_at _ (drop (to + (19 + n)) old) (to + (19 + n)) (moved-long old h at to n long order within)
 
-pub moved-behind : (old body h : List ℕ) (at to n k : ℕ) → body ≡ paste old (to + 19) (drop (at + 19) old) ((at + 19 + n) - (at + 19)) → length h ≡ 19 → k ≡ 19 → to ≤ at
+pub moved-behind : (old body h : List ℕ) (at to n k : ℕ) → body ≡ take (to + 19) old ++ (take n (drop (at + 19) old) ++ drop (to + 19 + n) old) → length h ≡ 19 → k ≡ 19 → to ≤ at
     → at + (19 + n) ≤ length old → drop (to + (19 + n)) (put_mid to k body h) ≡ drop (to + (19 + n)) old
 moved-behind old body h at to n k body_is long k_is order within =
     ap (drop (to + (19 + n))) (moved-bytes old body h at to n k body_is long k_is order within)
@@ -71,24 +83,62 @@ part-long body h to k n is k_is fits =
 
 -- ---- an event that is moved
 
--- a header with this size and log_pos, and the first bytes of a body, are the text of the event that is moved
-moved-text : (old : List ℕ) (at to size log_pos : ℕ) (h : Header) (sums ends : Bool) → size ≡ moved_size sums h.size
-    → log_pos ≡ (if ends then to + moved_size sums h.size else at) → 19 ≤ size → at + size ≤ length old
-    → header_text (record h { size = size; log_pos = log_pos }) ++ take (size - 19) (drop (at + 19) old) ≡ event_text (moved ends sums to at h old)
+-- a header and a body are the text of the event with these fields
+pub header-body : (h : Header) (size log_pos kind : ℕ) (e : Event) → size ≡ event_size e → log_pos ≡ e.log_pos → kind ≡ e.kind
+    → h.timestamp ≡ e.timestamp → h.server_id ≡ e.server_id → h.flags ≡ e.flags
+    → header_text (record h { kind = kind; size = size; log_pos = log_pos }) ++ e.body ≡ event_text e
 unfolding header_text event_text
-moved-text old at to size log_pos h sums ends size_is pos_is least within =
-    let left = length-drop (at + 19) old in
-    let part = length-take-le (moved_size sums h.size - 19) (drop (at + 19) old) (omega arith) in
-    let long : event_size (moved ends sums to at h old) ≡ moved_size sums h.size = omega arith in
-    rw (long, size_is, pos_is) refl
+header-body h size log_pos kind e size_is pos_is kind_is time_is server_is flags_is = rw (size_is, pos_is, kind_is, time_is, server_is, flags_is) refl
 
-pub put-front : (new old : List ℕ) (at to size log_pos : ℕ) (h : Header) (sums ends : Bool) → size ≡ moved_size sums h.size
-    → log_pos ≡ (if ends then to + moved_size sums h.size else at) → 19 ≤ size → at + size ≤ length old
-    → take (to + (19 + (size - 19))) new ≡ take to old ++ (header_text (record h { size = size; log_pos = log_pos }) ++ take (size - 19) (drop (at + 19) old))
-    → take (to + size) new ≡ take to old ++ event_text (moved ends sums to at h old)
-put-front new old at to size log_pos h sums ends size_is pos_is least within put =
-    let on : to + size ≡ to + (19 + (size - 19)) = omega arith in
-    ap (λ (n : ℕ). take n new) on ∙ put ∙ ap (λ (text : List ℕ). take to old ++ text) (moved-text old at to size log_pos h sums ends size_is pos_is least within)
+-- an event of the bytes is one that is tagged by its type and size
+pub tagged-is : (sums : Bool) (at : ℕ) (h : Header) (bytes : List ℕ) (size : ℕ) (tagged : Bool) → size ≡ moved_size sums h.size → 19 ≤ size → at + size ≤ length bytes
+    → ((h.kind == 42) && nat_le 44 size) ≡ tagged → is_tagged (moved_bare sums at h bytes) ≡ tagged
+tagged-is sums at h bytes size tagged is least within tested =
+    let left = length-drop (at + 19) bytes in
+    let part = length-take-le (moved_size sums h.size - 19) (drop (at + 19) bytes) (omega arith) in
+    let same : nat_le 25 (length (moved_bare sums at h bytes).body) ≡ nat_le 44 size = grind (arith, nat_tests) in
+    ap (λ (test : Bool). (h.kind == 42) && test) same ∙ tested
+
+-- a header and a body, put one after the other
+pub two-parts : (old h b : List ℕ) (to k m n : ℕ) → length h ≡ 19 → length b ≡ n → k ≡ 19 → m ≡ n → to + (19 + n) ≤ length old
+    → put_mid (to + 19) m (put_mid to k old h) b ≡ (take to old ++ (h ++ b)) ++ drop (to + (19 + n)) old
+two-parts old h b to k m n header body k_is m_is within =
+    let one : List ℕ = put_mid to k old h in
+    let front_long : length (take to old) ≡ to = length-take-le to old (omega arith) in
+    let both = length-append (take to old) h in
+    let rest : drop k (drop to old) ≡ drop (to + 19) old = drop-drop k to old ∙ ap (λ (k : ℕ). drop (to + k) old) k_is in
+    let is : one ≡ (take to old ++ h) ++ drop (to + 19) old =
+    ap (λ (rest : List ℕ). take to old ++ (h ++ rest)) rest ∙ sym (append_assoc (take to old) h (drop (to + 19) old)) in
+    let before : take (to + 19) one ≡ take to old ++ h = ap (take (to + 19)) is ∙ take_at (take to old ++ h) (drop (to + 19) old) (to + 19) (omega arith) in
+    let behind : drop (to + 19) one ≡ drop (to + 19) old = ap (drop (to + 19)) is ∙ drop_at (take to old ++ h) (drop (to + 19) old) (to + 19) (omega arith) in
+    let on : to + 19 + m ≡ to + (19 + n) = omega arith in
+    let left : drop m (drop (to + 19) one) ≡ drop (to + (19 + n)) old = ap (drop m) behind ∙ drop-drop m (to + 19) old ∙ ap (λ (n : ℕ). drop n old) on in
+    (λ i. before i ++ (b ++ left i)) ∙ ap (λ (front : List ℕ). front) (sym (append_assoc (take to old ++ h) b (drop (to + (19 + n)) old)))
+    ∙ ap (λ (front : List ℕ). front ++ drop (to + (19 + n)) old) (append_assoc (take to old) h b)
+
+pub put-long : (old h : List ℕ) (to k : ℕ) → length h ≡ 19 → k ≡ 19 → to + 19 ≤ length old → length (put_mid to k old h) ≡ length old
+put-long old h to k header k_is within =
+    let front = length-take-le to old (omega arith) in
+    let one = length-append h (drop k (drop to old)) in
+    let all = length-append (take to old) (h ++ drop k (drop to old)) in
+    let left = length-drop to old in
+    let rest = length-drop k (drop to old) in
+    omega arith
+
+pub two-long : (old h b : List ℕ) (to n : ℕ) → length h ≡ 19 → length b ≡ n → to + (19 + n) ≤ length old → length (take to old ++ (h ++ b)) ≡ to + (19 + n)
+two-long old h b to n header body within =
+    let front = length-take-le to old (omega arith) in
+    let later = length-append h b in
+    let whole = length-append (take to old) (h ++ b) in
+    omega arith
+
+-- how long the event is that is moved
+pub bare-long : (sums : Bool) (at : ℕ) (h : Header) (bytes : List ℕ) (size : ℕ) → size ≡ moved_size sums h.size → 19 ≤ size → at + size ≤ length bytes
+    → size ≡ event_size (moved_bare sums at h bytes)
+bare-long sums at h bytes size is least within =
+    let left = length-drop (at + 19) bytes in
+    let part = length-take-le (moved_size sums h.size - 19) (drop (at + 19) bytes) (omega arith) in
+    omega arith
 
 -- what is the same from a position on is so from a later one on
 pub drops-more : (new old : List ℕ) (m n : ℕ) → drop m new ≡ drop m old → m ≤ n → drop n new ≡ drop n old
@@ -133,32 +183,37 @@ moved-body true bytes at size e found is room =
     ∙ ap (λ (n : ℕ). take n (drop (at + 19) bytes)) n
 moved-body false bytes at size e found is room = body-is bytes at e found ∙ ap (λ (size : ℕ). take (size - 19) (drop (at + 19) bytes)) (sym is)
 
-moved-long-as : (sums : Bool) (size : ℕ) (e : Event) → size ≡ event_size e → (sums ≡ true → 23 ≤ size) → event_size (bare sums e) ≡ moved_size sums size
-moved-long-as true size e is room = let enough = room refl in let part = length-take-le (length e.body - 4) e.body (omega arith) in omega arith
-moved-long-as false size e is room = sym is
-
--- it is the event that is moved, with that log_pos
-moved-is : (ends sums : Bool) (bytes : List ℕ) (at to pos : ℕ) (h : Header) (e : Event) → event_at (drop at bytes) ≡ Some e → IsHeaderOf e h
-    → (sums ≡ true → 23 ≤ h.size) → pos ≡ (if ends then to + moved_size sums h.size else at)
-    → record (bare sums e) { log_pos = pos } ≡ moved ends sums to at h bytes
-moved-is ends true bytes at to pos h e found is room pos_is =
+-- it is the event that is moved, without a log_pos
+bare-is : (sums : Bool) (bytes : List ℕ) (at : ℕ) (h : Header) (e : Event) → event_at (drop at bytes) ≡ Some e → IsHeaderOf e h
+    → (sums ≡ true → 23 ≤ h.size) → record (bare sums e) { log_pos = 0 } ≡ moved_bare sums at h bytes
+bare-is true bytes at h e found is room =
     let body = moved-body true bytes at h.size e found is.size room in
-    λ i. record { timestamp = sym is.timestamp i; kind = sym is.kind i; server_id = sym is.server_id i; log_pos = pos_is i; flags = sym is.flags i; body = body i }
-moved-is ends false bytes at to pos h e found is room pos_is =
+    λ i. record { timestamp = sym is.timestamp i; kind = sym is.kind i; server_id = sym is.server_id i; log_pos = 0; flags = sym is.flags i; body = body i }
+bare-is false bytes at h e found is room =
     let body = moved-body false bytes at h.size e found is.size room in
-    λ i. record { timestamp = sym is.timestamp i; kind = sym is.kind i; server_id = sym is.server_id i; log_pos = pos_is i; flags = sym is.flags i; body = body i }
+    λ i. record { timestamp = sym is.timestamp i; kind = sym is.kind i; server_id = sym is.server_id i; log_pos = 0; flags = sym is.flags i; body = body i }
 
--- what is handed out for it, and for those behind it
-pub kept-text : (ends sums : Bool) (bytes : List ℕ) (at to : ℕ) (h : Header) (e : Event) (ps : List Placed) → event_at (drop at bytes) ≡ Some e → IsHeaderOf e h
+-- what is put for an event, which doesn't go by its own log_pos
+abbrev put_as : Form → ℕ → ℕ → Event → Event
+put_as form at to e = record (formed form e) { log_pos = pos_as form at (to + event_size (formed form e)) }
+
+placed-same : (form : Form) (at to : ℕ) (e : Event) → put_as form at to (record e { log_pos = 0 }) ≡ put_as form at to e
+placed-same form at to e = by_case (is_tagged e) refl
+  where
+    by_case : (tagged : Bool) → is_tagged e ≡ tagged → put_as form at to (record e { log_pos = 0 }) ≡ put_as form at to e
+    by_case true is = rw is refl
+    by_case false is = rw is refl
+
+-- what is put for it, and for those behind it
+pub kept-text : (form : Form) (sums : Bool) (bytes : List ℕ) (at to : ℕ) (h : Header) (e : Event) (ps : List Placed) → event_at (drop at bytes) ≡ Some e → IsHeaderOf e h
     → (sums ≡ true → 23 ≤ h.size)
-    → handed_text ends sums to (record { pos = at; event = e } ∷ ps) ≡ event_text (moved ends sums to at h bytes) ++ handed_text ends sums (to + moved_size sums h.size) ps
-kept-text true sums bytes at to h e ps found is room =
-    let long = moved-long-as sums h.size e is.size room in
-    let same = moved-is true sums bytes at to (to + event_size (bare sums e)) h e found is room (ap (λ (size : ℕ). to + size) long) in
-    ap (λ (m : Event). event_text m ++ handed_text true sums (to + event_size (bare sums e)) ps) same
-    ∙ ap (λ (size : ℕ). event_text (moved true sums to at h bytes) ++ handed_text true sums (to + size) ps) long
-kept-text false sums bytes at to h e ps found is room =
-    ap (λ (m : Event). event_text m ++ handed_text false sums (to + moved_size sums h.size) ps) (moved-is false sums bytes at to at h e found is room refl)
+    → put_text form sums to (record { pos = at; event = e } ∷ ps) ≡ event_text (moved form sums to at h bytes) ++ put_text form sums (to + event_size (moved form sums to at h bytes)) ps
+kept-text Places sums bytes at to h e ps found is room =
+    let moves = sym (placed-same Places at to (bare sums e)) ∙ ap (put_as Places at to) (bare-is sums bytes at h e found is room) in
+    (λ i. event_text (moves i) ++ put_text Places sums (to + event_size (moves i)) ps)
+kept-text Plain sums bytes at to h e ps found is room =
+    let moves = sym (placed-same Plain at to (bare sums e)) ∙ ap (put_as Plain at to) (bare-is sums bytes at h e found is room) in
+    (λ i. event_text (moves i) ++ put_text Plain sums (to + event_size (moves i)) ps)
 
 -- ---- the checks of an event
 

@@ -1,5 +1,5 @@
 -- What is found of a log, and what is handed out for it, behind its front.
-use Rattle.std.proofs.Common.{◌≡◌, ℕ, ◌+◌, false, List, [], ◌∷◌, ◌++◌, length, take, drop, Some, sym, ap, ◌∙◌, append_assoc, arith}
+use Rattle.std.proofs.Common.{◌≡◌, ℕ, ◌+◌, List, [], ◌∷◌, ◌++◌, length, take, drop, Some, sym, ap, ◌∙◌, append_assoc, arith}
 use Rattle.std.specs.Prelude.{Option}
 use Rattle.std.specs.List.{flat_map}
 use Rattle.std.proofs.lemmas.List.{append-nil, drop_all, drop-drop, take_all}
@@ -8,11 +8,12 @@ use Rattle.blog_event.specs.File.{magic, file_text, events_from, placed_from, re
 use Rattle.blog_event.proofs.Framing.{read-first}
 use Rattle.blog_sum.specs.Sums.{has_sums}
 use Rattle.blog_source.specs.declared.front.Front.{Front}
+use Rattle.blog_source.specs.declared.form.Form.TheVariants.{Places}
 use Rattle.blog_source.specs.declared.reading.Reading.{Reading}
 use Rattle.blog_source.specs.Found.{Found, found, found_behind, found_of}
 use Rattle.blog_source.specs.Handed.{handed, handed_events, handed_format, handed_log}
 use Rattle.blog_source.specs.code.Fronts.{HasFront, IsFront}
-use Rattle.blog_source.specs.code.Walk.{found_left, handed_text}
+use Rattle.blog_source.specs.code.Walk.{found_left, put_text}
 
 -- what is read of a log: the format description, and the events behind it
 pub read-is : (bytes : List ℕ) (stop : Option ℕ) (e : Event) → take 4 bytes ≡ magic → event_at (drop 4 bytes) ≡ Some e
@@ -49,10 +50,10 @@ handed-front how front old is =
     ∙ sym (append_assoc magic (event_text (handed_format front.sums is.format)) (flat_map event_text (flat_map (handed front.sums) (found_left how front.sums (length old) front.first (drop front.first old)).kept)))
 
 pub handed-is : (how : Reading) (front : Front) (old new : List ℕ) → HasFront front old new
-    → take front.first new ++ handed_text false front.sums front.first (found_left how front.sums (length new) front.first (drop front.first new)).kept ≡ handed_log how old
+    → take front.first new ++ put_text Places front.sums front.first (found_left how front.sums (length new) front.first (drop front.first new)).kept ≡ handed_log how old
 handed-is how front old new has =
-    ap (λ (text : List ℕ). text ++ handed_text false front.sums front.first (found_left how front.sums (length new) front.first (drop front.first new)).kept) has.text
-    ∙ ap (λ (f : Found). (magic ++ event_text (handed_format front.sums has.is.format)) ++ handed_text false front.sums front.first f.kept) (left-same how front old new has)
+    ap (λ (text : List ℕ). text ++ put_text Places front.sums front.first (found_left how front.sums (length new) front.first (drop front.first new)).kept) has.text
+    ∙ ap (λ (f : Found). (magic ++ event_text (handed_format front.sums has.is.format)) ++ put_text Places front.sums front.first f.kept) (left-same how front old new has)
     ∙ sym (handed-front how front old has.is)
 
 -- bytes that were written over as a whole, and then cut

@@ -11,7 +11,7 @@ use Rattle.blog_event.specs.Opening.{front_fault}
 use Rattle.blog_sum.specs.declared.fault.SumFault.{SumFault}
 use Rattle.blog_sum.specs.declared.fault.SumFault.TheVariants.{Log, UnknownAlgorithm}
 use Rattle.blog_sum.specs.Sums.{unless, sum_check, summed, not_in_use, algorithm_of, has_sums, sum_fault}
-use Rattle.blog_sum.proofs.Plains.{none-front}
+use Rattle.blog_sum.proofs.Summed.{none-front}
 use Rattle.blog_sum.proofs.Walk.{fault-unsummed, last-decides, start-fault, start-refused}
 use Rattle.blog_source.specs.declared.reading.Reading.{Reading}
 use Rattle.blog_source.specs.Found.{Found, format_check, found, found_behind, found_of, found_with, source_refusal}
@@ -96,3 +96,11 @@ whole_refused bytes fault is =
     (λ front sum.
     let fails = format-fails (has_sums bytes) (event_at (drop 4 bytes)) fault sum in
     start-refused bytes fails.1 fault (none-front (front_fault bytes) front) fails.2 fails.0 fails.3)
+
+-- so a log in which no fault is found opens
+pub whole_opens : (bytes : List ℕ) → sum_fault bytes ≡ None → source_refusal bytes ≡ None
+whole_opens bytes fine = by_case (source_refusal bytes) refl
+  where
+    by_case : (refusal : Option SumFault) → source_refusal bytes ≡ refusal → source_refusal bytes ≡ None
+    by_case None is = is
+    by_case (Some fault) is = absurd (none-some fault (sym fine ∙ whole_refused bytes fault is))

@@ -1,11 +1,12 @@
 -- What the laws of a source speak of.
-use Rattle.std.specs.Prelude.{◌≡◌, ℕ, Bool, false, List, [], ◌∷◌, ◌++◌, map, None}
-use Rattle.blog_event.specs.Event.{Event, unplaced}
+use Rattle.std.specs.Prelude.{◌≡◌, ℕ, ◌+◌, Bool, false, List, [], ◌∷◌, ◌++◌, map, drop, None}
+use Rattle.std.specs.List.{AllByRecursion}
+use Rattle.blog_event.specs.Event.{Event, event_size, unplaced}
 use Rattle.blog_event.specs.File.{Placed, placed_from, end_of}
 use Rattle.blog_sum.specs.Sums.{has_sums}
 use Rattle.blog_source.specs.declared.reading.Reading.{Reading}
 use Rattle.blog_source.specs.Found.{found_of}
-use Rattle.blog_source.specs.Handed.{handed}
+use Rattle.blog_source.specs.Handed.{handed, is_tagged}
 use Rattle.blog_source.specs.Places.{first_of}
 
 -- a log is read to its end, or to its first fault
@@ -40,3 +41,11 @@ placed_of h = record { pos = h.at; event = h.event }
 -- it begins at the same position in both logs, and is the same event but for log_pos
 abbrev pub IsUnmoved : HandedOut → Type 0
 IsUnmoved h = (h.at ≡ h.source.pos) × (unplaced h.event ≡ unplaced h.source.event)
+
+-- none of the events that are read is a tagged GTID event
+abbrev pub NoneTagged : List Event → Type 0
+NoneTagged es = AllByRecursion (λ e. is_tagged e ≡ false) (drop 1 es)
+
+-- its log_pos is where it ends
+abbrev pub IsEnded : Placed → Type 0
+IsEnded p = p.event.log_pos ≡ p.pos + event_size p.event

@@ -1,5 +1,6 @@
 pub mod Found
 pub mod Handed
+pub mod Plain
 pub mod Places
 pub mod Laws
 pub mod code

@@ -6,6 +6,7 @@ ghost use Rattle.blog_source.specs.Found.{found_of, source_refusal};
 ghost use Rattle.blog_source.specs.Handed.{handed_log};
 ghost use Rattle.blog_source.specs.Places.{first_of, place_of, position_of};
 
+use crate::form::Form;
 use crate::front::open_front;
 use crate::reading::Reading;
 use crate::walk::{Walked, hand_out};
@@ -34,7 +35,7 @@ fn read_in_place(bytes: &mut [u8], how: Reading) -> Result<Walked, SumFault>
     ensures len { IfOk result (λ _. length bytes.new ≡ length bytes.old) }
 {
     let front = open_front(bytes)?;
-    Ok(hand_out(bytes, front.first, front.sums, false, how))
+    Ok(hand_out(bytes, front.first, front.sums, Form::Places, how))
 }
 
 impl<A: Allocator> Source<A> {

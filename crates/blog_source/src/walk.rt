@@ -1,17 +1,17 @@
 //! Going through the events of a log in place: each is checked, and moved to where it is handed out.
 
-ghost use Rattle.std.specs.Prelude.{◌≡◌, ◌≤◌, ◌<◌, ◌+◌, ◌-◌, ◌^◌, ◌++◌, ◌||◌, not, true, false, length, take, drop, Some, None, IfOk, IfSome};
+ghost use Rattle.std.specs.Prelude.{◌≡◌, ◌≤◌, ◌<◌, ◌+◌, ◌^◌, ◌++◌, true, length, take, drop, Some, IfOk};
 ghost use Rattle.std.specs.Result.{result_err};
-ghost use Rattle.blog_event.specs.Event.{event_of, event_at, event_size, event_text};
+ghost use Rattle.blog_event.specs.Event.{event_of, event_at, event_size};
 ghost use Rattle.blog_event.specs.File.{is_below};
-ghost use Rattle.blog_event.specs.Writing.{header_text};
-ghost use Rattle.blog_sum.specs.Sums.{sum_check};
 ghost use Rattle.blog_source.specs.Found.{begins_right, is_wrong_sum};
-ghost use Rattle.blog_source.specs.code.Walk.{IsStep, found_left, handed_text, left, moved, moved_size, next_check};
+ghost use Rattle.blog_source.specs.code.Walk.{IsStep, found_left, left, next_check, put_text};
 
+use crate::form::Form;
+use crate::putting::put_kept;
 use crate::reading::Reading;
-use blog_event::{Event, Fault, HEADER_LEN, Header, event_at, header_bytes};
-use blog_sum::{SUM_LEN, SumFault, summed_event};
+use blog_event::{Event, Fault, Header, event_at};
+use blog_sum::{SumFault, summed_event};
 
 /// What is said of the event at a position.
 #[derive(Clone, Copy, Debug)]
@@ -111,60 +111,12 @@ fn step_at_fault(bytes: &[u8], at: u32, sums: bool, how: Reading, fault: SumFaul
     Step::Refuse(fault)
 }
 
-/// Moves an event to the front, from `at` to `to`: this header, and the first bytes of its body.
-fn move_event(bytes: &mut [u8], at: usize, to: usize, header: Header, body_len: usize)
-    requires order { to ≤ at }
-    requires within { at + (19 + body_len) ≤ length bytes.old }
-    ensures front { take (to + (19 + body_len)) bytes.new ≡ take to bytes.old ++ (header_text header ++ take body_len (drop (at + 19) bytes.old)) }
-    ensures behind { drop (to + (19 + body_len)) bytes.new ≡ drop (to + (19 + body_len)) bytes.old }
-    ensures len { length bytes.new ≡ length bytes.old }
-{
-    let body = at + HEADER_LEN;
-    bytes.copy_within(body..body + body_len, to + HEADER_LEN);
-    bytes[to..to + HEADER_LEN].copy_from_slice(&header_bytes(header));
-}
-
-/// Puts the event at `at`, whose header this is, at `to`, without its sum: its log_pos is where it ends then, or where it began.
-/// Returns where it ends.
-fn put_handed(bytes: &mut [u8], at: u32, to: u32, header: Header, sums: bool, ends: bool) -> u32
-    requires short { length bytes.old < 2 ^ 32 }
-    requires order { to ≤ at }
-    requires least { 19 ≤ header.size }
-    requires room { sums ≡ true → 23 ≤ header.size }
-    requires within { at + header.size ≤ length bytes.old }
-    ensures front { take result bytes.new ≡ take to bytes.old ++ event_text (moved ends sums to at header bytes.old) }
-    ensures behind { drop (at + header.size) bytes.new ≡ drop (at + header.size) bytes.old }
-    ensures len { length bytes.new ≡ length bytes.old }
-    ensures end { result ≡ to + moved_size sums header.size }
-{
-    let size = if sums {
-        header.size - SUM_LEN as u32
-    } else {
-        header.size
-    };
-    let log_pos = if ends { to + size } else { at };
-    let moved = Header {
-        size,
-        log_pos,
-        ..header
-    };
-    move_event(
-        bytes,
-        at as usize,
-        to as usize,
-        moved,
-        size as usize - HEADER_LEN,
-    );
-    to + size
-}
-
-/// Goes through the events from `first` on, and moves what is handed out for each to the front. The log_pos of each is where it
-/// ends then if `ends` is given, else where the event of the log begins that it stands for.
-pub(crate) fn hand_out(bytes: &mut [u8], first: u32, sums: bool, ends: bool, how: Reading) -> Walked
+/// Goes through the events from `first` on, and puts what each becomes behind what stands in front of `first`.
+pub(crate) fn hand_out(bytes: &mut [u8], first: u32, sums: bool, form: Form, how: Reading) -> Walked
     requires short { length bytes.old < 2 ^ 32 }
     requires within { first ≤ length bytes.old }
     ensures text { take result.len bytes.new ≡ take first bytes.old
-        ++ handed_text ends sums first (found_left how sums (length bytes.old) first (drop first bytes.old)).kept }
+        ++ put_text form sums first (found_left how sums (length bytes.old) first (drop first bytes.old)).kept }
     ensures fault { result.fault ≡ (found_left how sums (length bytes.old) first (drop first bytes.old)).fault }
     ensures end { result.end ≡ (found_left how sums (length bytes.old) first (drop first bytes.old)).end }
     ensures damaged { result.damaged ≡ (found_left how sums (length bytes.old) first (drop first bytes.old)).damaged }
@@ -177,7 +129,7 @@ pub(crate) fn hand_out(bytes: &mut [u8], first: u32, sums: bool, ends: bool, how
     'events: while is_below(at, how.stop) && (at as usize) < bytes.len() {
         match step_at(bytes, at, sums, how) {
             Step::Keep(header) => {
-                to = put_handed(bytes, at, to, header, sums, ends);
+                to = put_kept(bytes, at, to, header, sums, form);
                 at += header.size;
             }
             Step::PassOver(size) => {

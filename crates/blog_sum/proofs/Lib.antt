@@ -4,5 +4,5 @@ pub mod Bytes
 pub mod Texts
 pub mod Walk
 pub mod Formats
-pub mod Plains
+pub mod Summed
 pub mod Faults

@@ -2,8 +2,7 @@
 use Rattle.std.proofs.Common.{◌≡◌, ℕ, ◌+◌, ◌-◌, ◌/◌, ◌%◌, ◌≤◌, Bool, List, [], ◌∷◌, ◌++◌, length, take, drop, Some, refl, sym, ap, ◌∙◌, arith, append_assoc, length-append}
 use Rattle.std.specs.Prelude.{◌==◌}
 use Rattle.std.specs.List.{between}
-use Rattle.std.proofs.lemmas.List.{append-nil, length-take-le, take-append-drop, take-append-le, take_at}
-use Rattle.std.proofs.lemmas.Slice.{between_to_end}
+use Rattle.std.proofs.lemmas.List.{length-take-le, take-append-drop, take-append-le, take_at}
 use Rattle.std.proofs.Math.Seq.{take-append-add, drop-append-add}
 use Rattle.byteorder.specs.Endian.{little_bytes, little_number}
 use Rattle.blog_event.specs.Event.{Event, event_size, event_text, event_at}
@@ -11,8 +10,8 @@ use Rattle.blog_event.specs.File.{AreBytes, magic}
 use Rattle.blog_event.proofs.Framing.{bytes-drop, event-found, text-length}
 use Rattle.blog_sum.specs.Crc.{crc32_of}
 use Rattle.blog_sum.specs.Sums.{ends_in_its_sum, not_in_use}
-use Rattle.blog_sum.specs.Plain.{without_sum, format_with, plain_format}
-use Rattle.blog_sum.specs.code.Left.{flag_cleared, plain_text}
+use Rattle.blog_sum.specs.Plain.{format_with, plain_format}
+use Rattle.blog_sum.specs.code.Left.{flag_cleared}
 
 -- ---- headers
 
@@ -140,31 +139,3 @@ format-put bytes front e are mark found room is =
     ∙ append_assoc (magic ++ text) (0 ∷ []) (little_bytes 4 sum)
     ∙ ap (λ (text : List ℕ). magic ++ text) (sym (format-text sum e room))
     ∙ ap (λ (summed : List ℕ). magic ++ event_text (format_with (crc32_of summed) e)) (sym (format-summed e room))
-
--- the same, piece by piece
-pub format-written : (bytes old one two three sum_bytes : List ℕ) (n sum : ℕ) (e : Event) → AreBytes bytes → take 4 bytes ≡ magic → event_at (drop 4 bytes) ≡ Some e
-    → 5 ≤ length e.body → n ≡ 4 + (event_size e - 5) → old ≡ [] → one ≡ old ++ take n bytes → two ≡ one ++ (0 ∷ []) → three ≡ two ++ sum_bytes
-    → sum_bytes ≡ little_bytes 4 sum → sum ≡ crc32_of (flag_cleared (between 4 (length (take n bytes)) (take n bytes)) ++ (0 ∷ []))
-    → three ≡ magic ++ event_text (plain_format e)
-format-written bytes old one two three sum_bytes n sum e are mark found room place empty one_is two_is three_is bytes_are sum_is =
-    let front : List ℕ = take n bytes in
-    let summed : sum ≡ crc32_of (flag_cleared (drop 4 front) ++ (0 ∷ [])) =
-    sum_is ∙ ap (λ (rest : List ℕ). crc32_of (flag_cleared rest ++ (0 ∷ []))) (between_to_end front 4 (length front) (omega arith)) in
-    let last : sum_bytes ≡ little_bytes 4 (crc32_of (flag_cleared (drop 4 front) ++ (0 ∷ []))) = bytes_are ∙ ap (little_bytes 4) summed in
-    let first : one ≡ front = one_is ∙ ap (λ (old : List ℕ). old ++ front) empty in
-    three_is
-    ∙ ap (λ (two : List ℕ). two ++ sum_bytes) (two_is ∙ ap (λ (one : List ℕ). one ++ (0 ∷ [])) first)
-    ∙ ap (λ (last : List ℕ). (front ++ (0 ∷ [])) ++ last) last
-    ∙ format-put bytes front e are mark found room (ap (λ (n : ℕ). take n bytes) place)
-
--- ---- the other events
-
--- an event that is appended without its sum, and those behind it
-pub text-more : (out new : List ℕ) (at : ℕ) (e : Event) (es : List Event) → 4 ≤ length e.body → new ≡ out ++ plain_text at (e ∷ [])
-    → new ++ plain_text (at + (15 + length e.body)) es ≡ out ++ plain_text at (e ∷ es)
-text-more out new at e es room is =
-    let size : at + event_size (without_sum e) ≡ at + (15 + length e.body) = omega (arith, length-take-le (length e.body - 4) e.body) in
-    let text : List ℕ = event_text (record (without_sum e) { log_pos = at + event_size (without_sum e) }) in
-    ap (λ (new : List ℕ). new ++ plain_text (at + (15 + length e.body)) es) (is ∙ ap (λ (last : List ℕ). out ++ last) (append-nil text))
-    ∙ ap (λ (next : ℕ). (out ++ text) ++ plain_text next es) (sym size)
-    ∙ append_assoc out text (plain_text (at + event_size (without_sum e)) es)

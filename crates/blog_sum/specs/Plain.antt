@@ -1,10 +1,9 @@
--- The same log without sums.
-use Rattle.std.specs.Prelude.{ℕ, ◌+◌, ◌-◌, if◌then◌else◌, List, [], ◌∷◌, ◌++◌, map, length, take, None}
+-- Events without their sums, and the format description that says so.
+use Rattle.std.specs.Prelude.{ℕ, ◌+◌, ◌-◌, List, [], ◌∷◌, ◌++◌, length, take}
 use Rattle.byteorder.specs.Endian.{little_bytes}
 use Rattle.blog_event.specs.Event.{Event, event_size, event_text}
-use Rattle.blog_event.specs.File.{file_text, read}
 use Rattle.blog_sum.specs.Crc.{crc32_of}
-use Rattle.blog_sum.specs.Sums.{not_in_use, has_sums}
+use Rattle.blog_sum.specs.Sums.{not_in_use}
 
 -- an event without its last four bytes
 abbrev pub without_sum : Event → Event
@@ -22,12 +21,3 @@ plain_format e = format_with (crc32_of (take (event_size e - 4) (event_text (not
 abbrev pub ended_from : ℕ → List Event → List Event
 ended_from pos [] = []
 ended_from pos (e ∷ es) = record e { log_pos = pos + event_size e } ∷ ended_from (pos + event_size e) es
-
--- the events of a log with sums, without them
-abbrev pub plain_events : List Event → List Event
-plain_events [] = []
-plain_events (format ∷ later) = plain_format format ∷ ended_from (4 + event_size format) (map without_sum later)
-
--- a log without sums: of one that has them the same events without, and any other as it is
-unfoldable pub plain_of : List ℕ → List ℕ
-plain_of bytes = if has_sums bytes then file_text (plain_events (read bytes None)) else bytes

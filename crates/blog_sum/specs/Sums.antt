@@ -1,5 +1,5 @@
 -- The sums of a log (MySQL Internals manual, "Event checksum"): with the checksum algorithm 1 each event ends in the CRC-32
--- of its bytes before; and why a log has no plain copy.
+-- of its bytes before; and why a log has no plain log.
 use Rattle.std.specs.Prelude.{ℕ, ◌-◌, ◌%◌, ◌==◌, Bool, true, false, if◌then◌else◌, List, [], ◌∷◌, ◌++◌, map, length, take, drop, nat_le, Option, Some, None, option_map}
 use Rattle.std.specs.Option.{option_map_or}
 use Rattle.byteorder.specs.Endian.{little_number}

@@ -1,13 +1,12 @@
-//! Why a log has no plain copy.
+//! Why a log has no plain log.
 
 ghost use Rattle.std.specs.Prelude.{◌≡◌};
-ghost use Rattle.blog_sum.specs.declared.fault.SumFault.TheVariants.{Log, OutOfMemory};
+ghost use Rattle.blog_sum.specs.declared.fault.SumFault.TheVariants.{Log};
 
 use blog_event::Fault;
-use std::alloc::{AllocError, AllocFailed};
 use thiserror::Error;
 
-/// Why a log has no plain copy. Each fault but the last has a byte position from the file's start.
+/// Why a log has no plain log. Each fault but the last has a byte position from the file's start.
 #[derive(Clone, Copy, Debug, PartialEq, Eq, Error)]
 pub enum SumFault {
     /// It is no log: `TooLong` and `NotABinlog` at 0, `BadFormat` and `OldServer` at 4; or `CutEvent` where fewer than 19
@@ -20,7 +19,7 @@ pub enum SumFault {
     /// The last four bytes of an event aren't the CRC-32 of those before them; at the event.
     #[error("WrongSum at {pos}")]
     WrongSum { pos: u32 },
-    /// The memory for the plain copy was refused.
+    /// Memory was refused.
     #[error("OutOfMemory")]
     OutOfMemory,
 }
@@ -31,21 +30,5 @@ impl From<Fault> for SumFault {
 
     fn from(fault: Fault) -> SumFault {
         SumFault::Log(fault)
-    }
-}
-
-impl From<AllocError> for SumFault {
-    ghost from_gives = { λ _ fault. fault ≡ OutOfMemory };
-
-    fn from(_refused: AllocError) -> SumFault {
-        SumFault::OutOfMemory
-    }
-}
-
-impl<T: Drop> From<AllocFailed<T>> for SumFault {
-    ghost from_gives = { λ _ fault. fault ≡ OutOfMemory };
-
-    fn from(_refused: AllocFailed<T>) -> SumFault {
-        SumFault::OutOfMemory
     }
 }

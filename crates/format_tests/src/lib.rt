@@ -37,3 +37,5 @@ mod source_tests;
 mod sum_tests;
 #[cfg(test)]
 mod table_map_tests;
+#[cfg(test)]
+mod tagged_tests;

@@ -1,11 +1,15 @@
-//! Plain copies of logs that a server wrote, and of changed ones.
+//! Plain logs of logs that a server wrote, and of changed ones.
 
-use crate::bytes::{part_of, with_bytes};
+use crate::bytes::{joined, part_of, with_bytes};
+use crate::source_logs::{HANDED_INSERT, SUMMED_INSERT};
 use blog_event::Fault;
-use blog_sum::{SumFault, crc32, plain};
+use blog_source::plain;
+use blog_sum::{SumFault, crc32};
 use linked_list_allocator::LocalHeap;
 use refusing::Refusing;
+use sample_logs::small::{INSERT_ONE_ROW, PLAIN, SUMMED};
 use sample_logs::summed::{CLOSED, CLOSED_PLAIN, IN_USE, IN_USE_PLAIN};
+use sample_logs::tagged::{TAGGED, TAGGED_PLAIN};
 use std::process::Abort;
 use std::test::Fail;
 
@@ -49,28 +53,40 @@ fn cut_at(pos: u32) -> SumFault {
     SumFault::Log(Fault::CutEvent { pos })
 }
 
-/// The plain copy of a log is this.
+/// The plain log of a log is this.
 fn check_plain<R: AllocGlobal + Abort>(rt: &R, log: &[u8], wanted: &[u8]) {
-    let copy = plain(rt.alloc(), log).expect(rt, "a plain copy");
-    assert!(rt; copy.as_slice() == wanted);
+    let made = plain(joined(rt, &[log])).expect(rt, "a plain log");
+    assert!(rt; made.as_slice() == wanted);
 }
 
 #[test]
 fn gives_the_samples(rt: HostRuntime) {
     check_plain(&rt, &CLOSED, &CLOSED_PLAIN);
     check_plain(&rt, &IN_USE, &IN_USE_PLAIN);
+    check_plain(&rt, &SUMMED, &PLAIN);
+    check_plain(&rt, &TAGGED, &TAGGED_PLAIN);
 }
 
-/// A log has no plain copy, for this fault, or it has one.
+#[test]
+fn sets_each_log_pos(rt: HostRuntime) {
+    // of the same events, each with the position where it ends
+    let front = part_of(&rt, &HANDED_INSERT, 0, 120);
+    let ended = joined(&rt, &[front, part_of(&rt, &INSERT_ONE_ROW, 120, 259)]);
+    check_plain(&rt, &SUMMED_INSERT, &ended);
+    check_plain(&rt, &HANDED_INSERT, &ended);
+}
+
+/// A log has no plain log, for this fault, or it has one.
 fn check_fault<R: AllocGlobal + Abort>(rt: &R, log: &[u8], wanted: Option<SumFault>) {
-    let fault = plain(rt.alloc(), log).err();
+    let fault = plain(joined(rt, &[log])).err();
     assert!(rt; fault == wanted, "{fault:?} of {} bytes", log.len());
 }
 
 #[test]
-fn copies_plain_logs(rt: HostRuntime) {
+fn leaves_plain_logs(rt: HostRuntime) {
     check_plain(&rt, &CLOSED_PLAIN, &CLOSED_PLAIN);
     check_plain(&rt, &IN_USE_PLAIN, &IN_USE_PLAIN);
+    check_plain(&rt, &TAGGED_PLAIN, &TAGGED_PLAIN);
     // A server below 5.6.1 has no algorithm, whatever stands in its place.
     let renamed = with_bytes(&rt, &CLOSED, 25, b"5.5.62");
     let old = with_bytes(&rt, &renamed, 102, &[8, 8, 8]);
@@ -93,11 +109,11 @@ fn is_told(fault: SumFault, start: u32, offset: usize) -> bool {
     }
 }
 
-/// A log that is `CLOSED` but for the byte at a position, in the event at `start`, is refused as it is to be, or copied
-/// where no check sees this byte.
+/// A log that is `CLOSED` but for the byte at a position, in the event at `start`, is refused as it is to be, or has a plain
+/// log where no check sees this byte.
 fn check_changed<R: AllocGlobal + Abort>(rt: &R, log: &[u8], start: u32, at: usize, seen: bool) {
     let offset = at.saturating_sub(start as usize);
-    let right = match plain(rt.alloc(), log) {
+    let right = match plain(joined(rt, &[log])) {
         Ok(_) => !seen,
         Err(fault) => seen && is_told(fault, start, offset),
     };
@@ -191,24 +207,23 @@ fn refuses_events_without_room_for_a_sum(rt: HostRuntime) {
     }
 }
 
-/// A heap with room for a plain copy, in bytes.
+/// A heap with room for a log, in bytes.
 const ROOM: usize = 1 << 16;
 
-/// The memory for a plain copy is asked for once, and given back; where it is refused there is no copy.
-fn asks_once(rt: &HostRuntime, log: &[u8]) -> Result<bool, Fail> {
+/// Whether the plain log of a log is this, and takes no memory but the log's own.
+fn is_in_place(rt: &HostRuntime, log: &[u8], wanted: &[u8]) -> Result<bool, Fail> {
     let heap = LocalHeap::new(rt.alloc(), ROOM)?;
-    let first = Refusing::new(&heap, 1);
-    let refused = plain(&first, log).err();
-    let second = Refusing::new(&heap, 2);
-    let copied = plain(&second, log).is_ok();
-    let is_asked_once = first.has_refused() && copied && !second.has_refused();
-    Ok(is_asked_once && refused == Some(SumFault::OutOfMemory) && heap.used() == 0)
+    // the log is the first request
+    let alloc = Refusing::new(&heap, 2);
+    let made = plain(log.to_vec(&alloc)?).ok().ok_or("a plain log")?;
+    Ok(made.as_slice() == wanted && !alloc.has_refused())
 }
 
 #[test]
-fn want_of_memory_is_answered(rt: HostRuntime) -> Result<(), Fail> {
-    assert!(rt; asks_once(&rt, &CLOSED)?);
-    assert!(rt; asks_once(&rt, &CLOSED_PLAIN)?);
+fn takes_no_memory(rt: HostRuntime) -> Result<(), Fail> {
+    assert!(rt; is_in_place(&rt, &CLOSED, &CLOSED_PLAIN)?);
+    assert!(rt; is_in_place(&rt, &CLOSED_PLAIN, &CLOSED_PLAIN)?);
+    assert!(rt; is_in_place(&rt, &TAGGED, &TAGGED_PLAIN)?);
     Ok(())
 }
 

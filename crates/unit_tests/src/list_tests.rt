@@ -12,6 +12,7 @@ use sample_logs::builder::{
 };
 use sample_logs::samples::{ALTER_BETWEEN, INSERT, MULTI_TABLE, SAVEPOINT_KEPT, UPDATE};
 use sample_logs::summed::{CLOSED, CLOSED_PLAIN, IN_USE, IN_USE_PLAIN};
+use sample_logs::tagged::TAGGED;
 use std::process::Abort;
 use std::test::Fail;
 
@@ -184,6 +185,15 @@ units 1, not undoable 1, rows 0
 {\"units\":1,\"not_undoable\":1,\"rows\":0}
 ";
     check_json(&rt, &IN_USE, &wanted, line)
+}
+
+#[test]
+fn a_transaction_with_a_tagged_gtid_is_a_unit(rt: HostRuntime) -> Result<(), Fail> {
+    let lines =
+        "       198        464  2026-11-26 00:52:14  9dc90577-e933-11f1-9db2-02fc00000001:1  `d`.`t` inserts 1
+units 1, not undoable 0, rows 1
+";
+    check_all(&rt, &TAGGED, lines)
 }
 
 #[test]

@@ -1,5 +1,5 @@
 -- Going through the events of a log in place: what is left to be found, and what has been handed out.
-use Rattle.std.specs.Prelude.{◌≡◌, ℕ, ◌+◌, ◌-◌, ◌≤◌, if◌then◌else◌, Bool, true, false, List, [], length, take, drop, Option, Some, None}
+use Rattle.std.specs.Prelude.{◌≡◌, ℕ, ◌+◌, ◌-◌, ◌≤◌, if◌then◌else◌, Bool, true, false, List, [], length, map, take, drop, Option, Some, None}
 use Rattle.std.specs.List.{flat_map}
 use Rattle.std.specs.Option.{option_map_or}
 use Rattle.blog_event.specs.declared.event.Header.{Header}
@@ -9,11 +9,15 @@ use Rattle.blog_event.specs.File.{Placed, placed_from, events_from}
 use Rattle.blog_sum.specs.declared.fault.SumFault.{SumFault}
 use Rattle.blog_sum.specs.declared.fault.SumFault.TheVariants.{Log}
 use Rattle.blog_sum.specs.Plain.{ended_from}
+use Rattle.blog_gtid.specs.Tagged.{gtid_body_of}
+use Rattle.blog_source.specs.declared.form.Form.{Form}
+use Rattle.blog_source.specs.declared.form.Form.TheVariants.{Places, Plain}
 use Rattle.blog_source.specs.declared.reading.Reading.{Reading}
 use Rattle.blog_source.specs.declared.walk.Step.{Step}
 use Rattle.blog_source.specs.declared.walk.Step.TheVariants.{Keep, PassOver, Refuse}
 use Rattle.blog_source.specs.Found.{Found, check_of, found, found_with}
-use Rattle.blog_source.specs.Handed.{handed}
+use Rattle.blog_source.specs.Handed.{bare, handed, is_tagged}
+use Rattle.blog_source.specs.Plain.{untagged}
 
 -- the events that follow each other from a position on, where these bytes are left of a log
 abbrev pub left : Option ℕ → ℕ → ℕ → List ℕ → List Placed
@@ -27,14 +31,28 @@ found_left how sums len at rest = found how sums len at (left how.stop len at re
 abbrev pub next_check : Bool → List ℕ → ℕ → Option SumFault
 next_check sums bytes at = option_map_or (λ e. check_of sums (record { pos = at; event = e })) (event_at (drop at bytes)) (Some (Log (CutEvent at)))
 
--- the events of a log that follow each other from a position on, the log_pos of each where it ends, or as it is
-abbrev pub numbered : Bool → ℕ → List Event → List Event
-numbered true pos es = ended_from pos es
-numbered false pos es = es
+-- the body of a Gtid event in a form: with its tag, or its first 25 bytes
+abbrev pub cut_as : Form → List ℕ → List ℕ
+cut_as Places body = body
+cut_as Plain body = take 25 body
 
--- the text of what is handed out for events, from a position on
-abbrev pub handed_text : Bool → Bool → ℕ → List Placed → List ℕ
-handed_text ends sums pos ps = flat_map event_text (numbered ends pos (flat_map (handed sums) ps))
+-- the log_pos of an event, which was at a position of the log, and ends at another now
+abbrev pub pos_as : Form → ℕ → ℕ → ℕ
+pos_as Places at end = at
+pos_as Plain at end = end
+
+-- what an event becomes
+abbrev pub formed : Form → Event → Event
+formed form e = if is_tagged e then record e { kind = 33; body = cut_as form (gtid_body_of e.body) } else e
+
+-- what is put for events, from a position on
+abbrev pub put_from : Form → Bool → ℕ → List Placed → List Event
+put_from Places sums pos ps = flat_map (handed sums) ps
+put_from Plain sums pos ps = ended_from pos (map {A = Placed} (λ p. untagged (bare sums p.event)) ps)
+
+-- its text
+abbrev pub put_text : Form → Bool → ℕ → List Placed → List ℕ
+put_text form sums pos ps = flat_map event_text (put_from form sums pos ps)
 
 -- the header of an event
 pub record IsHeaderOf (e : Event) (h : Header) : Type 0 where
@@ -49,16 +67,21 @@ abbrev pub moved_size : Bool → ℕ → ℕ
 moved_size true size = size - 4
 moved_size false size = size
 
--- the event at a position, whose header this is, moved to another position, without its sum
-abbrev pub moved : Bool → Bool → ℕ → ℕ → Header → List ℕ → Event
-moved ends sums to at h bytes = record {
+-- the event at a position, whose header this is, without its sum and its log_pos
+abbrev pub moved_bare : Bool → ℕ → Header → List ℕ → Event
+moved_bare sums at h bytes = record {
   timestamp = h.timestamp;
   kind = h.kind;
   server_id = h.server_id;
-  log_pos = if ends then to + moved_size sums h.size else at;
+  log_pos = 0;
   flags = h.flags;
   body = take (moved_size sums h.size - 19) (drop (at + 19) bytes);
 }
+
+-- what is put for it at another position
+abbrev pub moved : Form → Bool → ℕ → ℕ → Header → List ℕ → Event
+moved form sums to at h bytes =
+    let e = formed form (moved_bare sums at h bytes) in record e { log_pos = pos_as form at (to + event_size e) }
 
 -- an event at a position passes its check; this is its header
 pub record IsKept (how : Reading) (sums : Bool) (bytes : List ℕ) (at : ℕ) (h : Header) : Type 0 where

@@ -3,19 +3,18 @@ use Rattle.std.proofs.Common.{◌+◌, ◌∙◌, sym, ap, arith, inl, inr}
 use Rattle.blog_source.specs.Found.{Found}
 use Rattle.blog_source.proofs.Left.{found-whole}
 use Rattle.blog_source.proofs.Handing.{ended-text, kept-found, kept-put}
-use Rattle.blog_source.proofs.Moving.{moved-less}
 use Rattle.blog_source.proofs.walk.hand_out.Goals as goal
 
 pub events-preserved-in-Keep : goal.events-preserved-in-Keep
 events-preserved-in-Keep c =
     let kept = c.in-Keep.ensures in
-    let put = c.put_handed-to.ensures in
+    let put = c.put_kept-to.ensures in
     let old = c.events.invariant in
-    let same = kept-found c.args.how c.args.sums c.events.bytes c.put_handed-to.new.bytes c.events.at c.in-Keep.header kept put.len put.behind in record {
-      order = omega (arith, put.end, old.order, moved-less c.args.sums c.in-Keep.header.size);
+    let same = kept-found c.args.how c.args.sums c.events.bytes c.put_kept-to.new.bytes c.events.at c.in-Keep.header kept put.len put.behind in record {
+      order = put.before;
       within = omega (arith, put.len, kept.within);
       len = put.len ∙ old.len;
-      text = kept-put c.args.how c.args.ends c.args.sums c.events.bytes c.put_handed-to.new.bytes c.events.at c.events.to c.put_handed-to.result c.in-Keep.header kept put.len put.behind put.end
+      text = kept-put c.args.how c.args.form c.args.sums c.events.bytes c.put_kept-to.new.bytes c.events.at c.events.to c.put_kept-to.result c.in-Keep.header kept put.len put.behind put.end
           put.front ∙ old.text;
       fault = ap (λ (f : Found). f.fault) (sym same) ∙ old.fault;
       end = ap (λ (f : Found). f.end) (sym same) ∙ old.end;
@@ -26,7 +25,7 @@ events-preserved-in-Keep c =
 pub returns-else-at-bytes-clause-text : goal.returns-else-at-bytes-clause-text
 returns-else-at-bytes-clause-text c =
     let end = found-whole c.args.how c.args.sums c.events.bytes c.events.at (inr (omega (arith, c.events.invariant.within, c.if-at-bytes.false))) in
-    sym (ended-text c.args.ends c.args.sums c.events.to _ _ (ap (λ (f : Found). f.kept) end)) ∙ c.events.invariant.text
+    sym (ended-text c.args.form c.args.sums c.events.to _ _ (ap (λ (f : Found). f.kept) end)) ∙ c.events.invariant.text
 
 pub returns-else-at-bytes-clause-fault : goal.returns-else-at-bytes-clause-fault
 returns-else-at-bytes-clause-fault c =
@@ -47,7 +46,7 @@ returns-else-at-bytes-clause-damaged c =
 pub returns-after-events-clause-text : goal.returns-after-events-clause-text
 returns-after-events-clause-text c =
     let end = found-whole c.args.how c.args.sums c.events.bytes c.events.at (inl (sym c.events-test.ensures)) in
-    sym (ended-text c.args.ends c.args.sums c.events.to _ _ (ap (λ (f : Found). f.kept) end)) ∙ c.events.invariant.text
+    sym (ended-text c.args.form c.args.sums c.events.to _ _ (ap (λ (f : Found). f.kept) end)) ∙ c.events.invariant.text
 
 pub returns-after-events-clause-fault : goal.returns-after-events-clause-fault
 returns-after-events-clause-fault c =

@@ -1,0 +1,214 @@
+-- The plain log of a log: its events, its length, that it is a log without sums, and its own plain log.
+use Rattle.std.proofs.Common.{◌≡◌, ℕ, ◌+◌, ◌^◌, ◌≤◌, ◌<◌, Bool, true, false, List, [], ◌∷◌, ◌++◌, length, drop, None, refl, sym, subst, ap, ◌∙◌, arith}
+use Rattle.std.specs.Prelude.{◌==◌, map, nat_le}
+use Rattle.std.specs.List.{AllByRecursion}
+use Rattle.std.proofs.lemmas.Bool.{and_parts, leb-true}
+use Rattle.std.proofs.lemmas.List.{append-nil, length-append, length-take-le}
+use Rattle.blog_event.specs.Event.{Event, event_size, IsEvent}
+use Rattle.blog_event.specs.Fault.{fault_at}
+use Rattle.blog_event.specs.File.{AreBytes, BeginsWith, Placed, file_text, placed_from, end_of, read}
+use Rattle.blog_event.specs.Opening.{front_fault, opening_fault}
+use Rattle.blog_event.proofs.Framing.{texts-length}
+use Rattle.blog_event.proofs.Openings.{front-format}
+use Rattle.blog_gtid.specs.Tagged.{gtid_body_of}
+use Rattle.blog_gtid.proofs.Lengths.{gtid_least}
+use Rattle.blog_sum.specs.Plain.{ended_from}
+use Rattle.blog_sum.specs.Sums.{algorithm_of, has_sums, sum_fault}
+use Rattle.blog_sum.proofs.Summed.{format-accepted, is-summed, no-fault, summed-algorithm}
+use Rattle.blog_source.specs.Found.{check_of, found, source_refusal}
+use Rattle.blog_source.specs.Handed.{bare, handed_format, is_tagged}
+use Rattle.blog_source.specs.Laws.{IsEnded, NoneTagged, whole_reading}
+use Rattle.blog_source.specs.Plain.{plain_events, plain_log, untagged}
+use Rattle.blog_source.proofs.Accepted.{IsAccepted, is-accepted, is-read, later_of}
+use Rattle.blog_source.proofs.HandedLog.{Fit, HasFormat, bare-event, end-past, has-format}
+use Rattle.blog_source.proofs.LogText.{IsText, text-long, text-marked, text-opens, text-read, text-stands}
+use Rattle.blog_source.proofs.Moving.{has-room}
+use Rattle.blog_source.proofs.Plained.{none-with}
+use Rattle.blog_source.proofs.WholeReading.{found-is, whole_fault, whole_opens}
+
+-- ---- an event of a plain log
+
+-- what an event becomes
+abbrev plain_of : Bool → Event → Event
+plain_of sums e = untagged (bare sums e)
+
+-- it is an event, and no longer
+plain-event : (sums : Bool) (pos : ℕ) (e : Event) → pos < 2 ^ 32 → IsEvent e → (sums ≡ true → 23 ≤ event_size e)
+    → IsEvent (record (plain_of sums e) { log_pos = pos }) × (event_size (plain_of sums e) ≤ event_size e)
+plain-event sums pos e short event room = by_case (is_tagged (bare sums e)) refl
+  where
+    by_case : (tagged : Bool) → is_tagged (bare sums e) ≡ tagged → IsEvent (record (plain_of sums e) { log_pos = pos }) × (event_size (plain_of sums e) ≤ event_size e)
+    by_case true is =
+        let own = bare-event sums pos e short event room in
+        let enough = leb-true 25 (length (bare sums e).body) (and_parts ((bare sums e).kind == 42) (nat_le 25 (length (bare sums e).body)) is).1 in
+        let long = length-take-le 25 (gtid_body_of (bare sums e).body) (gtid_least (bare sums e).body) in
+        let size = own.0.size in
+        let less = own.1 in
+        rw is (
+          record { timestamp = own.0.timestamp; kind = omega arith; server_id = own.0.server_id; size = omega arith; log_pos = short; flags = own.0.flags },
+          omega arith,
+        )
+    by_case false is = rw is (bare-event sums pos e short event room)
+
+-- it is no tagged one
+never-tagged : (e : Event) → is_tagged (untagged e) ≡ false
+never-tagged e = by_case (is_tagged e) refl
+  where
+    by_case : (tagged : Bool) → is_tagged e ≡ tagged → is_tagged (untagged e) ≡ false
+    by_case true is = rw is refl
+    by_case false is = rw is is
+
+-- one that is none is as it is
+untagged-same : (e : Event) → is_tagged e ≡ false → untagged e ≡ e
+untagged-same e plain = rw plain refl
+
+-- ---- those behind the format description
+
+-- they fit where the events of the log are, and before it
+plain-fit : (sums : Bool) (len pos at : ℕ) (es : List Event) → pos ≤ at → AllByRecursion IsEvent es → end_of at es < 2 ^ 32
+    → (found whole_reading sums len at (placed_from at es)).fault ≡ None → Fit pos (end_of at es) (ended_from pos (map (plain_of sums) es))
+plain-fit sums len pos at [] before events short none = (tt, before)
+plain-fit sums len pos at (e ∷ es) before events short none =
+    let p : Placed = record { pos = at; event = e } in
+    let first = none-with (check_of sums p) p (found whole_reading sums len (at + event_size e) (placed_from (at + event_size e) es)) none in
+    let past = end-past (at + event_size e) es in
+    let room = has-room sums p first.0 in
+    let less = (plain-event sums 0 e (omega arith) events.0 room).1 in
+    let own = plain-event sums (pos + event_size (plain_of sums e)) e (omega arith) events.0 room in
+    let later = plain-fit sums len (pos + event_size (plain_of sums e)) (at + event_size e) es (omega arith) events.1 short first.1 in
+    ((own.0, later.0), later.1)
+
+-- those of a plain log stay as they are
+plain-twice : (sums : Bool) (pos : ℕ) (es : List Event)
+    → ended_from pos (map (plain_of false) (ended_from pos (map (plain_of sums) es))) ≡ ended_from pos (map (plain_of sums) es)
+plain-twice sums pos [] = refl
+plain-twice sums pos (e ∷ es) =
+    let f : Event = record (plain_of sums e) { log_pos = pos + event_size (plain_of sums e) } in
+    let same : untagged f ≡ f = untagged-same f (never-tagged (bare sums e)) in
+    ap (λ (first : Event). record first { log_pos = pos + event_size first } ∷ ended_from (pos + event_size first) (map (plain_of false) (ended_from (pos + event_size f) (map (plain_of sums) es)))) same
+    ∙ ap (λ (later : List Event). f ∷ later) (plain-twice sums (pos + event_size f) es)
+
+-- so do others that are not tagged, and say where they end
+ended-same : (pos : ℕ) (es : List Event) → AllByRecursion (λ e. is_tagged e ≡ false) es → AllByRecursion IsEnded (placed_from pos es)
+    → ended_from pos (map (plain_of false) es) ≡ es
+ended-same pos [] plain ended = refl
+ended-same pos (e ∷ es) plain ended =
+    let same : untagged e ≡ e = untagged-same e plain.0 in
+    ap (λ (first : Event). record first { log_pos = pos + event_size first } ∷ ended_from (pos + event_size first) (map (plain_of false) es)) same
+    ∙ ap (λ (log_pos : ℕ). record e { log_pos = log_pos } ∷ ended_from (pos + event_size e) (map (plain_of false) es)) (sym ended.0)
+    ∙ ap (λ (later : List Event). e ∷ later) (ended-same (pos + event_size e) es plain.1 ended.1)
+
+-- ---- the whole log
+
+-- what is known of it
+record IsPlain (bytes : List ℕ) : Type 0 where
+  log : IsAccepted bytes
+  format : HasFormat (has_sums bytes) log.format
+  later : List Event
+  later_is : later ≡ ended_from (4 + event_size log.format) (map (plain_of (has_sums bytes)) (later_of bytes None log))
+  are : plain_events (has_sums bytes) (read bytes None) ≡ handed_format (has_sums bytes) log.format ∷ later
+  text : IsText (plain_log bytes) (handed_format (has_sums bytes) log.format) later
+  ends : length (plain_log bytes) ≤ length bytes
+
+is-plain : (bytes : List ℕ) → AreBytes bytes → sum_fault bytes ≡ None → IsPlain bytes
+unfolding plain_log
+is-plain bytes are fine =
+    let opened : source_refusal bytes ≡ None = whole_opens bytes fine in
+    let log = is-accepted bytes opened in
+    let reads = is-read bytes None log are in
+    let short = log.short in
+    let within = reads.ends in
+    let sums : Bool = has_sums bytes in
+    let at : ℕ = 4 + event_size log.format in
+    let es : List Event = later_of bytes None log in
+    let format = has-format bytes log sums refl reads.events.0 in
+    let none = ap (λ f. f.fault) (sym (found-is whole_reading bytes log)) ∙ whole_fault bytes opened ∙ fine in
+    let fit = plain-fit sums (length bytes) at at es (omega arith) reads.events.1 (omega arith) none in
+    let last : List Event = ended_from at (map (plain_of sums) es) in
+    let first : Event = handed_format sums log.format in
+    let are : plain_events sums (read bytes None) ≡ first ∷ last = ap (plain_events sums) reads.is in
+    let text : IsText (plain_log bytes) first last = record { is = ap file_text are; events = (format.event, fit.0) } in
+    let ends : end_of (4 + event_size first) last ≤ length bytes = subst (λ (size : ℕ). end_of (4 + size) last ≤ length bytes) (sym format.size) (omega (arith, fit.1)) in
+    record { log = log; format = format; later = last; later_is = refl; are = are; text = text; ends = omega (arith, ends, text-long (plain_log bytes) first last text) }
+
+-- ---- the laws
+
+pub plain_no_longer : (bytes : List ℕ) → AreBytes bytes → sum_fault bytes ≡ None → length (plain_log bytes) ≤ length bytes
+plain_no_longer bytes are fine = (is-plain bytes are fine).ends
+
+pub plain_opens : (bytes : List ℕ) → AreBytes bytes → sum_fault bytes ≡ None → opening_fault (plain_log bytes) ≡ None
+plain_opens bytes are fine =
+    let is = is-plain bytes are fine in
+    let short = is.log.short in
+    let format : Event = handed_format (has_sums bytes) is.log.format in
+    text-opens (plain_log bytes) format is.later is.text (omega (arith, is.ends)) (format-accepted format is.format.described is.format.none)
+
+pub plain_read_again : (bytes : List ℕ) → AreBytes bytes → sum_fault bytes ≡ None → read (plain_log bytes) None ≡ plain_events (has_sums bytes) (read bytes None)
+plain_read_again bytes are fine =
+    let is = is-plain bytes are fine in
+    text-read (plain_log bytes) (handed_format (has_sums bytes) is.log.format) is.later is.text ∙ sym is.are
+
+-- its algorithm
+plain-none : (bytes : List ℕ) → IsPlain bytes → algorithm_of (plain_log bytes) ≡ 0
+plain-none bytes is =
+    let format : Event = handed_format (has_sums bytes) is.log.format in
+    summed-algorithm (plain_log bytes) format (text-stands (plain_log bytes) format is.later is.text) ∙ is.format.none
+
+pub plain_unsummed : (bytes : List ℕ) → AreBytes bytes → sum_fault bytes ≡ None → has_sums (plain_log bytes) ≡ false
+plain_unsummed bytes are fine = ap (λ (n : ℕ). n == 1) (plain-none bytes (is-plain bytes are fine))
+
+pub plain_fine : (bytes : List ℕ) → AreBytes bytes → sum_fault bytes ≡ None → sum_fault (plain_log bytes) ≡ None
+plain_fine bytes are fine =
+    let is = is-plain bytes are fine in
+    let text : List ℕ = plain_log bytes in
+    let format : Event = handed_format (has_sums bytes) is.log.format in
+    let short = is.log.short in
+    let front : front_fault text ≡ None =
+    front-format text format (omega (arith, is.ends)) (text-marked text format is.later is.text) (text-stands text format is.later is.text) ∙ ap (fault_at 4) is.format.described in
+    let whole : end_of 4 (read text None) ≡ length text = ap (end_of 4) (text-read text format is.later is.text) ∙ sym (text-long text format is.later is.text) in
+    no-fault text front (plain-none bytes is) whole
+
+pub plain_same : (bytes : List ℕ) → AreBytes bytes → sum_fault bytes ≡ None → plain_log (plain_log bytes) ≡ plain_log bytes
+unfolding plain_log
+plain_same bytes are fine =
+    let is = is-plain bytes are fine in
+    let sums : Bool = has_sums bytes in
+    let text : List ℕ = plain_log bytes in
+    let format : Event = handed_format sums is.log.format in
+    let at : ℕ = 4 + event_size is.log.format in
+    let es : List Event = later_of bytes None is.log in
+    ap (λ (none : Bool). file_text (plain_events none (read text None))) (plain_unsummed bytes are fine)
+    ∙ ap (λ (es : List Event). file_text (plain_events false es)) (text-read text format is.later is.text)
+    ∙ ap (λ (size : ℕ). file_text (format ∷ ended_from (4 + size) (map (plain_of false) is.later))) is.format.size
+    ∙ ap (λ (later : List Event). file_text (format ∷ ended_from at (map (plain_of false) later))) is.later_is
+    ∙ ap (λ (later : List Event). file_text (format ∷ later)) (plain-twice sums at es ∙ sym is.later_is)
+    ∙ sym is.text.is
+
+-- bytes that begin with events, and are no longer
+none-behind : (bytes : List ℕ) (es : List Event) → BeginsWith bytes (file_text es) → end_of 4 es ≡ length bytes → file_text es ≡ bytes
+none-behind bytes es begins ends =
+    let texts = texts-length 4 es in
+    let whole : length bytes ≡ length (file_text es ++ begins.0) = ap length begins.1 in
+    let parts = length-append (file_text es) begins.0 in
+    let none : begins.0 ≡ [] = no-more begins.0 (omega arith) in
+    sym (begins.1 ∙ ap (λ (rest : List ℕ). file_text es ++ rest) none ∙ append-nil (file_text es))
+  where
+    no-more : (rest : List ℕ) → length rest ≡ 0 → rest ≡ []
+    no-more [] none = refl
+    no-more (x ∷ rest) none = absurd (omega arith)
+
+pub plain_kept : (bytes : List ℕ) → AreBytes bytes → sum_fault bytes ≡ None → has_sums bytes ≡ false → NoneTagged (read bytes None)
+    → AllByRecursion IsEnded (drop 1 (placed_from 4 (read bytes None))) → plain_log bytes ≡ bytes
+unfolding plain_log
+plain_kept bytes are fine none plain ended =
+    let log = is-accepted bytes (whole_opens bytes fine) in
+    let reads = is-read bytes None log are in
+    let at : ℕ = 4 + event_size log.format in
+    let es : List Event = later_of bytes None log in
+    let whole : end_of 4 (log.format ∷ es) ≡ length bytes = ap (end_of 4) (sym reads.is) ∙ (is-summed bytes fine).whole in
+    let same : ended_from at (map (plain_of false) es) ≡ es = ended-same at es (subst NoneTagged reads.is plain)
+    (subst (λ (es : List Event). AllByRecursion IsEnded (drop 1 (placed_from 4 es))) reads.is ended) in
+    ap (λ (sums : Bool). file_text (plain_events sums (read bytes None))) none
+    ∙ ap (λ (es : List Event). file_text (plain_events false es)) reads.is
+    ∙ ap (λ (later : List Event). file_text (log.format ∷ later)) same
+    ∙ none-behind bytes (log.format ∷ es) reads.begins whole
