@@ -19,7 +19,7 @@ use crate::log_file::{LogFault, open_log};
 use blog_device::{RunFault, Watched, put, read_log};
 use blog_event::Fault;
 use blog_list::list;
-use blog_source::{Reading, Source, plain};
+use blog_source::{Source, plain};
 use blog_split::{SplitFault, SplitRunFault, split_to};
 use blog_sum::SumFault;
 use result_file::{FileFault, ResultFile, Wanted};
