@@ -1,11 +1,9 @@
 -- The events between two positions, one by one.
-use Rattle.std.proofs.Common.{◌≡◌, ℕ, ◌+◌, ◌&&◌, ◌||◌, Bool, true, false, not, List, [], ◌∷◌, length, drop, Option, Some, None, ap, sym, ◌∙◌, inl, inr, nat_lt, arith, ◌≤◌, ◌<◌}
-use Rattle.std.specs.Prelude.{◌⊎◌}
+use Rattle.std.proofs.Common.{◌≡◌, ℕ, ◌+◌, ◌&&◌, ◌||◌, Bool, true, false, List, [], ◌∷◌, drop, Some, None, ap, sym, ◌∙◌, inl, inr, ◌≤◌, ◌<◌}
 use Rattle.std.specs.List.{list_any, list_all}
 use Rattle.std.proofs.lemmas.Bool.{le-ltb, lt-ltb}
 use Rattle.blog_event.specs.declared.event.Event as told
-use Rattle.blog_event.specs.Event.{Event, event_at, event_of, event_size}
-use Rattle.blog_event.specs.File.{Placed}
+use Rattle.blog_event.specs.Event.{event_at, event_of, event_size}
 use Rattle.blog_trans.specs.Places.{placed}
 use Rattle.blog_source.proofs.Left.{left-first, left-ends}
 use Rattle.blog_request.specs.Passing.{unit_events}

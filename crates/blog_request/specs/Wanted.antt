@@ -1,5 +1,5 @@
 -- Which units of a log are wanted.
-use Rattle.std.specs.Prelude.{ℕ, ◌==◌, ◌&&◌, ◌||◌, Bool, true, false, nat_le, nat_lt, if◌then◌else◌, List, [], ◌∷◌, Option, Some, None, Result, Ok, Err}
+use Rattle.std.specs.Prelude.{ℕ, ◌==◌, ◌&&◌, ◌||◌, Bool, true, false, nat_le, nat_lt, if◌then◌else◌, List, Option, Result, Ok, Err}
 use Rattle.std.specs.Option.{option_map_or}
 use Rattle.std.specs.List.{list_any}
 use Rattle.blog_event.specs.declared.fault.Fault.{Fault}
@@ -8,6 +8,7 @@ use Rattle.blog_trans.specs.declared.groups.Index.{Index}
 use Rattle.blog_trans.specs.Changes.{TableCount, counts_of}
 use Rattle.blog_trans.specs.Groups.{groups}
 use Rattle.blog_trans.specs.code.IndexView.{index_bytes, index_selection}
+use Rattle.blog_units.specs.Units.{Facts}
 use Rattle.blog_choice.specs.Choice.{Choice, chooses, chooses_all, is_nil}
 use Rattle.blog_choice.specs.code.Views.{choice_value}
 use Rattle.blog_request.specs.Passing.{is_passed_over, unit_events}
@@ -36,18 +37,26 @@ changes_told (Err fault) = Err fault
 abbrev pub has_chosen : Choice → List TableCount → Bool
 has_chosen choice counts = list_any (λ c. chooses choice c.table.schema c.table.name) counts
 
--- a unit starts within the wanted positions, and is of the wanted times and threads
-abbrev pub is_in_range : Wanted → ℕ → ℕ → Option ℕ → Bool
-is_in_range w start time thread =
-    (((is_from start w.start && is_before start w.stop) && is_from time w.from_time) && is_before time w.to_time) && is_of_threads w.threads.now thread
+-- a unit with these facts starts within the wanted positions, and is of the wanted times and threads
+abbrev pub is_in_range : Wanted → Facts → Bool
+is_in_range w u =
+    (((is_from u.start w.start && is_before u.start w.stop) && is_from u.time w.from_time) && is_before u.time w.to_time) && is_of_threads w.threads.now u.thread
 
 -- by its tables: it changes a chosen one; it is refused for a statement, and passed over; or it is refused, and may change one
-abbrev pub by_tables : Choice → List ℕ → ℕ → ℕ → Result (List TableCount) Fault → Concern
-by_tables choice bytes start stop (Ok counts) = if has_chosen choice counts then IsWanted else Other
-by_tables choice bytes start stop (Err (Statement pos)) = if is_passed_over choice (unit_events bytes start stop) then PassedOver else IsWanted
-by_tables choice bytes start stop (Err fault) = IsWanted
+abbrev pub by_tables : Choice → List ℕ → Facts → Result (List TableCount) Fault → Concern
+by_tables choice log u (Ok counts) = if has_chosen choice counts then IsWanted else Other
+by_tables choice log u (Err (Statement pos)) = if is_passed_over choice (unit_events log u.start u.stop) then PassedOver else IsWanted
+by_tables choice log u (Err fault) = IsWanted
 
--- whether a unit of a log is wanted, by where it starts and stops, its time and thread, and its changes
-abbrev pub concern_of : Wanted → List ℕ → ℕ → ℕ → ℕ → Option ℕ → Result (List TableCount) Fault → Concern
-concern_of w bytes start stop time thread changes =
-    if is_in_range w start time thread then (if chooses_all (choice_value w.choice) then IsWanted else by_tables (choice_value w.choice) bytes start stop changes) else Other
+-- whether a unit of a log with these facts and changes is wanted
+abbrev pub concern_of : Wanted → List ℕ → Facts → Result (List TableCount) Fault → Concern
+concern_of w log u changes =
+    if is_in_range w u then (if chooses_all (choice_value w.choice) then IsWanted else by_tables (choice_value w.choice) log u changes) else Other
+
+abbrev pub is_wanted : Concern → Bool
+is_wanted IsWanted = true
+is_wanted PassedOver = false
+is_wanted Other = false
+
+abbrev pub is_wanted_unit : Wanted → List ℕ → Facts → Result (List TableCount) Fault → Bool
+is_wanted_unit w log u changes = is_wanted (concern_of w log u changes)

@@ -5,8 +5,9 @@ ghost use Rattle.blog_event.specs.code.LogView.{log_bytes};
 ghost use Rattle.blog_trans.specs.Changes.{counts_of};
 ghost use Rattle.blog_trans.specs.Groups.{groups};
 ghost use Rattle.blog_trans.specs.code.IndexView.{index_bytes, index_selection, table_counted};
+ghost use Rattle.blog_units.specs.code.UnitsView.{facts_told};
 ghost use Rattle.blog_choice.specs.code.Views.{choice_value};
-ghost use Rattle.blog_request.specs.Wanted.{by_tables, changes_told, concern_of, has_chosen, is_before, is_from, is_in_range, is_of_threads};
+ghost use Rattle.blog_request.specs.Wanted.{by_tables, changes_told, concern_of, has_chosen, is_before, is_from, is_in_range, is_of_threads, is_wanted, is_wanted_unit};
 
 use crate::passing::is_passed_over;
 use blog_choice::TableChoice;
@@ -45,9 +46,19 @@ pub enum Concern {
 }
 
 impl Wanted<'_> {
-    /// Returns whether a unit of a log is wanted.
+    /// Returns whether a unit of a log is wanted, and not passed over.
+    pub fn has<A: Allocator>(&self, log: &Log<'_>, unit: &Unit<'_, A>) -> bool
+        ensures { result ≡ is_wanted_unit self.now (log_bytes log.now) (facts_told unit.now) (changes_told unit.now.groups) }
+    {
+        match self.concern(log, unit) {
+            Concern::Wanted => true,
+            Concern::PassedOver | Concern::Other => false,
+        }
+    }
+
+    /// Returns whether a unit of a log is wanted, or passed over.
     pub fn concern<A: Allocator>(&self, log: &Log<'_>, unit: &Unit<'_, A>) -> Concern
-        ensures { result ≡ concern_of self.now (log_bytes log.now) unit.now.start unit.now.stop unit.now.time unit.now.thread (changes_told unit.now.groups) }
+        ensures { result ≡ concern_of self.now (log_bytes log.now) (facts_told unit.now) (changes_told unit.now.groups) }
     {
         if !self.has_in_range(unit) {
             Concern::Other
@@ -60,7 +71,7 @@ impl Wanted<'_> {
 
     /// Whether a unit starts within the wanted positions, and is of the wanted times and threads.
     fn has_in_range<A: Allocator>(&self, unit: &Unit<'_, A>) -> bool
-        ensures { result ≡ is_in_range self.now unit.now.start unit.now.time unit.now.thread }
+        ensures { result ≡ is_in_range self.now (facts_told unit.now) }
     {
         is_from(unit.start, self.start)
             && is_before(unit.start, self.stop)
@@ -72,7 +83,7 @@ impl Wanted<'_> {
 
 /// Whether a unit is wanted, by its tables.
 fn by_tables<A: Allocator>(choice: &TableChoice<'_>, log: &Log<'_>, unit: &Unit<'_, A>) -> Concern
-    ensures { result ≡ by_tables (choice_value choice.now) (log_bytes log.now) unit.now.start unit.now.stop (changes_told unit.now.groups) }
+    ensures { result ≡ by_tables (choice_value choice.now) (log_bytes log.now) (facts_told unit.now) (changes_told unit.now.groups) }
 {
     match &unit.groups {
         Ok(groups) if changes_chosen(choice, groups) => Concern::Wanted,
