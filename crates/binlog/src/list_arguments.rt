@@ -148,9 +148,11 @@ fn read_threads<'a, A: Allocator + Copy>(
     let mut threads = Vec::new(alloc);
     if let Some(values) = found.get_strs(THREAD) {
         for text in values {
-            match position_of(text) {
-                Some(number) => threads.push(number)?,
-                None => return Err(wrong_thread(alloc, command, text)?),
+            let Some(number) = position_of(text) else {
+                return Err(wrong_thread(alloc, command, text)?);
+            };
+            if threads.push(number).is_err() {
+                return Err(ArgumentsFault::OutOfMemory);
             }
         }
     }

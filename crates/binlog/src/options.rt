@@ -117,7 +117,7 @@ Times, printed and given, are local: those of this machine's time zone, which is
 found, they are in UTC. When clocks are set back, they show an hour twice: a TIME in it is the
 earlier one for --start-datetime, and the later one for --stop-datetime.
 Names are compared byte by byte. With -d or -T units that can't be undone are listed too, since what
-they change isn't known, but for statements that name no chosen table: the last line counts these.
+they change isn't known, but for statements that name no chosen table, such as ALTER TABLE of another.
 
 Examples:
   binlog list plain.000042
