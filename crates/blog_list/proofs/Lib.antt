@@ -1,2 +1,5 @@
 mod Asking
+mod Ending
+mod Growing
 mod Marking
+mod OnTheWay

@@ -7,7 +7,6 @@ use Rattle.bstr.specs.Utf8.{decoded}
 use Rattle.bstr.proofs.lemmas.PieceLemmas.{piece-bounds}
 use Rattle.blog_list.specs.declared.marks.Marks.{Marks}
 use Rattle.blog_list.specs.code.MarksView.{bytes_left}
-use Rattle.blog_list.specs.declared.marks.Mark.{Mark}
 use Rattle.blog_list.specs.declared.marks.Mark.TheVariants.{Character, Byte}
 use Rattle.blog_list.specs.Escapes.{mark_of, marks_behind, marks, more_of}
 

@@ -1,7 +1,6 @@
 -- The column of times in a list.
 use Rattle.std.specs.Prelude.{◌≡◌, ◌++◌, ◌-◌, ℕ, List, Option, Some, None, codes, if◌then◌else◌, length, replicate, string_bytes}
 use Rattle.std.specs.Str.{bytes_eq}
-use Rattle.std.specs.String.{string_len}
 use Rattle.jiff.specs.Types.{TimeZone}
 use Rattle.jiff.specs.Words.{IsInfoAt, abbreviation_text, plain_zone, zone_name}
 use Rattle.jiff_tz.specs.declared.info.OffsetInfo.{OffsetInfo}
@@ -42,4 +41,4 @@ IsPadded width old text new = new ≡ old ++ text ++ replicate (width - length t
 -- what the clock shows was appended, and blanks up to the width of the heading
 abbrev pub PutsTime : {A : Type 0} → TimeColumn A → ℕ → List ℕ → List ℕ → Type 0
 PutsTime column seconds old new = (text : List ℕ) × IsTimeText (plain_zone column.zone) seconds text
-    × IsPadded (string_len column.heading) old text new
+    × IsPadded (length (string_bytes column.heading)) old text new

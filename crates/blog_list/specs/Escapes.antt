@@ -1,8 +1,8 @@
 -- How bytes of a log are printed for people: control characters, and bytes that aren't UTF-8, are written as escapes.
-use Rattle.std.specs.Prelude.{ℕ, zero, suc, ◌+◌, ◌-◌, ◌==◌, nat_le, false, if◌then◌else◌, List, [], ◌∷◌, ◌++◌, length, Option, Some, None, unwrap_or, codes, ◌*◌, encode_utf8}
+use Rattle.std.specs.Prelude.{ℕ, zero, suc, ◌-◌, ◌==◌, nat_le, false, if◌then◌else◌, List, [], ◌∷◌, ◌++◌, length, Option, Some, None, unwrap_or, codes, ◌*◌, encode_utf8}
 use Rattle.std.specs.Char.{is_control}
 use Rattle.std.specs.List.{flat_map}
-use Rattle.bstr.specs.Utf8.{Decoded, decoded}
+use Rattle.bstr.specs.Utf8.{decoded}
 use Rattle.hex.specs.Hex.{encode_lower}
 use Rattle.unicode_width.specs.Width.{char_width}
 use Rattle.blog_list.specs.declared.marks.Mark.{Mark}

@@ -1,5 +1,9 @@
 pub mod Columns
 pub mod Escapes
+pub mod Laws
+pub mod Lines
 pub mod Lists
+pub mod Shown
+pub mod Texts
 pub mod Times
 pub mod code

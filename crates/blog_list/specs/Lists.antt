@@ -29,3 +29,8 @@ fault_or_unended None whole end = unended whole end
 -- whole and the reading came to the stop
 abbrev pub early_end : Option SumFault → ℕ → Bool → Option ℕ → Option SumFault
 early_end fault end whole stop = if whole && not (is_before end stop) then None else fault_or_unended fault whole end
+
+-- the same by whether the last unit is whole, where that counts: not if a unit starts at the stop or behind it
+abbrev pub list_end : Option SumFault → ℕ → Option ℕ → Option Bool → Option SumFault
+list_end fault end stop None = None
+list_end fault end stop (Some whole) = early_end fault end whole stop

@@ -1,3 +1,6 @@
 -- What only contracts of code need: its structs as values, and running states.
-pub mod Wanted
+pub mod Held
 pub mod MarksView
+pub mod Told
+pub mod Totals
+pub mod Wanted

@@ -1,8 +1,5 @@
 //! The beginning of a statement's text.
 
-use blog_event::constants::QUERY_EVENT;
-use blog_event::{Fault, Log};
-use blog_trans::query_text;
 use bstr::ByteSlice;
 use std::fmt;
 use unicode_width::UnicodeWidthChar;
@@ -27,19 +24,5 @@ impl<'t> fmt::Display for Beginning<'t> {
             f.write_char(shown)?;
         }
         Ok(())
-    }
-}
-
-/// The text of the Query event of a fault, where it speaks of one below a position.
-pub(crate) fn statement_of<'a>(log: &Log<'a>, fault: &Fault, below: u32) -> Option<&'a [u8]> {
-    let pos = fault.at()?;
-    if pos >= below {
-        return None;
-    }
-    let event = log.event_at(pos).ok()?;
-    if event.header.kind == QUERY_EVENT {
-        query_text(event.body)
-    } else {
-        None
     }
 }

@@ -52,7 +52,7 @@ impl<'z, A: Allocator + Copy> TimeColumn<'z, A> {
         put_padded(
             out,
             time_text(self.zone, seconds).as_str(),
-            self.heading.len(),
+            self.heading.as_str().len(),
         )
     }
 }

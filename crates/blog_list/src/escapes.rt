@@ -2,7 +2,7 @@
 
 ghost use Rattle.std.specs.Prelude.{◌≡◌, ◌++◌, ◌∷◌, [], OnOk, true, false, encode_utf8};
 ghost use Rattle.std.specs.List.{flat_map};
-ghost use Rattle.blog_list.specs.Escapes.{beginning, byte_escape, char_columns, char_shown, columns_of, marks, quoted, quoted_mark, quoted_table, shown};
+ghost use Rattle.blog_list.specs.Escapes.{beginning, byte_escape, char_columns, char_shown, columns_of, escaped, marks, quoted, quoted_mark, quoted_table, shown};
 
 use crate::marks::{Mark, Marks};
 use crate::texts::{put_byte, put_text};
@@ -49,6 +49,16 @@ fn put_mark<A: Allocator>(out: &mut Vec<u8, A>, mark: Mark) -> Result<(), AllocE
         Mark::Character(c) => put_char(out, c),
         Mark::Byte(byte) => put_escape(out, byte),
     }
+}
+
+/// Appends a text, escaped.
+pub(crate) fn put_escaped<A: Allocator>(out: &mut Vec<u8, A>, text: &[u8]) -> Result<(), AllocError>
+    ensures { OnOk result (out.new.items ≡ out.old.items ++ escaped text.now) }
+{
+    for mark in Marks::new(text) {
+        put_mark(out, mark)?;
+    }
+    Ok(())
 }
 
 /// Appends a name, escaped, between backticks, with those in it doubled.

@@ -1,14 +1,15 @@
 //! Units as lines of JSON.
 
-use crate::beginning::{Beginning, statement_of};
-use crate::lines::Id;
+use crate::beginning::Beginning;
+use crate::fault_events::{statement_of, words_of};
+use crate::lines::put_id;
 use crate::places::at_place;
 use crate::times::rfc_3339_text;
 use crate::totals::Totals;
 use blog_event::Log;
 use blog_source::Source;
 use blog_trans::TableCount;
-use blog_units::Unit;
+use blog_units::{GlobalId, Unit};
 use bstr::ByteSlice;
 use jiff::tz::TimeZone;
 use serde::Serialize;
@@ -37,6 +38,7 @@ struct UnitLine {
     stop: u32,
     time: String,
     timestamp: u32,
+    thread: Option<u32>,
     gtid: Option<String>,
     #[serde(skip_serializing_if = "Option::is_none")]
     tables: Option<Vec<TableLine>>,
@@ -46,6 +48,8 @@ struct UnitLine {
     position: Option<u32>,
     #[serde(skip_serializing_if = "Option::is_none")]
     statement: Option<String>,
+    #[serde(skip_serializing_if = "Option::is_none")]
+    event: Option<&'static str>,
 }
 
 #[derive(Drop, Serialize)]
@@ -65,7 +69,7 @@ pub(crate) fn put_unit<A: Allocator + Copy, B: Allocator>(
     unit: &Unit<'_, B>,
 ) -> Result<(), AllocError> {
     let gtid = match unit.id {
-        Some(id) => Some(format!(in global; "{}", Id(id))?),
+        Some(id) => Some(id_text(global, &id)?),
         None => None,
     };
     let mut line = UnitLine {
@@ -73,11 +77,13 @@ pub(crate) fn put_unit<A: Allocator + Copy, B: Allocator>(
         stop: source.place(unit.stop),
         time: String::from_str(global, rfc_3339_text(zone, unit.time).as_str())?,
         timestamp: unit.time,
+        thread: unit.thread,
         gtid,
         tables: None,
         fault: None,
         position: None,
         statement: None,
+        event: None,
     };
     match &unit.groups {
         Ok(groups) => {
@@ -97,6 +103,7 @@ pub(crate) fn put_unit<A: Allocator + Copy, B: Allocator>(
                 }
                 None => None,
             };
+            line.event = words_of(log, fault, unit.stop);
         }
     }
     put_line(global, out, &line)
@@ -138,6 +145,13 @@ fn table_line(global: Global, count: &TableCount<'_>) -> Result<TableLine, Alloc
         updates: count.updates,
         deletes: count.deletes,
     })
+}
+
+/// A global transaction id as text.
+fn id_text(global: Global, id: &GlobalId<'_>) -> Result<String, AllocError> {
+    let mut text = Vec::new(global);
+    put_id(&mut text, id)?;
+    lossy(global, text.as_slice())
 }
 
 /// The text of bytes, with U+FFFD for what is no character.

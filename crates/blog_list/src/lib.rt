@@ -5,7 +5,9 @@
 mod beginning;
 mod column;
 mod escapes;
+mod fault_events;
 mod json;
+mod laws;
 mod lines;
 mod listing;
 mod marks;
@@ -15,6 +17,7 @@ mod times;
 mod totals;
 mod wanted;
 
-pub use listing::{Form, list};
+pub use laws::short_texts_are_whole;
+pub use listing::{Form, Style, list};
 pub use times::{Side, TimeFault, rfc_3339_text, seconds_of, time_text};
 pub use wanted::Wanted;

@@ -1,147 +1,254 @@
 //! Units as lines of text.
 
-use crate::beginning::statement_of;
+ghost use Rattle.std.specs.Prelude.{◌≡◌, ◌++◌, ◌≤◌, ◌-◌, OnOk, codes, option_map, string_bytes};
+ghost use Rattle.std.specs.Fmt.{decimal};
+ghost use Rattle.blog_event.specs.Fault.{name_of, position_of as fault_position};
+ghost use Rattle.blog_event.specs.code.LogView.{log_bytes};
+ghost use Rattle.blog_trans.specs.Changes.{counts_of};
+ghost use Rattle.blog_trans.specs.Groups.{groups};
+ghost use Rattle.blog_trans.specs.code.IndexView.{index_bytes, index_selection, table_counted};
+ghost use Rattle.blog_units.specs.code.UnitsView.{id_told};
+ghost use Rattle.blog_list.specs.Lines.{changes_text, count_text, counts_text, fault_text, header, id_column, id_text, is_unknown, next_count, padded, positions_text, refusal_text, rest_text, rows_text, tag_text, thread_text, unit_line};
+ghost use Rattle.blog_list.specs.Shown.{changes_shown, refusal_of};
+ghost use Rattle.blog_list.specs.code.Told.{PutsLine, shown_told, source_place};
+ghost use Rattle.blog_list.specs.code.Wanted.{changes_told};
+
 use crate::column::TimeColumn;
-use crate::escapes::{put_beginning, put_table};
+use crate::escapes::{put_beginning, put_escaped, put_table};
+use crate::fault_events::{statement_of, words_of};
 use crate::places::at_place;
-use crate::totals::Totals;
+use crate::texts::{put_number, put_padded, put_server, put_text};
 use blog_event::{Fault, Log};
 use blog_source::Source;
 use blog_trans::{Index, TableCount};
 use blog_units::{GlobalId, Unit};
 use std::alloc::{AllocError, Allocator};
-use std::fmt;
 
 /// How many columns of a statement's text are printed.
 const TEXT_COLUMNS: usize = 60;
 
-/// The headings in front of the times.
-const POSITIONS: &str = "     start       stop  ";
-
-/// A global transaction id, as MySQL prints it.
-#[derive(Clone, Copy, Debug)]
-pub(crate) struct Id<'i>(pub(crate) GlobalId<'i>);
-
-impl<'i> fmt::Display for Id<'i> {
-    fn fmt<W: fmt::Write>(&self, f: &mut fmt::Formatter<W>) -> fmt::Result {
-        let mut n = 0_usize;
-        for byte in self.0.server {
-            if n == 4 || n == 6 || n == 8 || n == 10 {
-                f.write_str("-")?;
-            }
-            write!(f, "{byte:02x}")?;
-            n = n.wrapping_add(1);
-        }
-        write!(f, ":{}", self.0.number)
-    }
-}
-
-/// Appends the line above all others.
+/// Appends the line above all others, with a heading of global transaction ids or without.
+#[tactic(auto, unfolding(crate::specs::Lines::header))]
 pub(crate) fn put_header<A: Allocator + Copy>(
     out: &mut Vec<u8, A>,
     times: &TimeColumn<'_, A>,
-) -> Result<(), AllocError> {
-    out.extend_from_slice(POSITIONS.as_bytes())?;
+    gtids: bool,
+) -> Result<(), AllocError>
+    ensures { OnOk result (out.new.items ≡ out.old.items ++ header gtids (string_bytes times.now.heading)) }
+{
+    put_text(out, b"     start       stop  ")?;
     times.put_heading(out)?;
-    out.extend_from_slice(b"  rows\n")
+    put_text(out, b"      thread  ")?;
+    if gtids {
+        put_text(out, b"gtid  rows\n")
+    } else {
+        put_text(out, b"rows\n")
+    }
 }
 
-/// Appends the line of a unit, with positions of the server's log.
+/// Appends the line of a unit, with positions of the server's log, and with its global transaction id or without.
+#[tactic(auto, unfolding(crate::specs::Lines::unit_line))]
 pub(crate) fn put_unit<A: Allocator + Copy>(
     out: &mut Vec<u8, A>,
     times: &TimeColumn<'_, A>,
+    gtids: bool,
     source: &Source<A>,
     log: &Log<'_>,
     unit: &Unit<'_, A>,
-) -> Result<(), AllocError> {
-    let alloc = *out.allocator();
-    let (start, stop) = (source.place(unit.start), source.place(unit.stop));
-    let front = format!(in alloc; "{start:>10} {stop:>10}  ")?;
-    out.extend_from_slice(front.as_bytes())?;
+) -> Result<(), AllocError>
+    ensures { OnOk result (PutsLine times.now gtids (shown_told (log_bytes log.now) (source_place source.now) unit.now) out.old.items out.new.items) }
+{
+    put_positions(out, source.place(unit.start), source.place(unit.stop))?;
     times.put_time(out, unit.time)?;
-    out.extend_from_slice(b"  ")?;
-    if let Some(id) = unit.id {
-        let id = format!(in alloc; "{}  ", Id(id))?;
-        out.extend_from_slice(id.as_bytes())?;
+    put_rest(out, gtids, source, log, unit)
+}
+
+/// Appends where a unit starts and stops.
+#[tactic(auto, unfolding(crate::specs::Lines::positions_text))]
+fn put_positions<A: Allocator>(
+    out: &mut Vec<u8, A>,
+    start: u32,
+    stop: u32,
+) -> Result<(), AllocError>
+    ensures { OnOk result (out.new.items ≡ out.old.items ++ positions_text start stop) }
+{
+    put_padded(out, start)?;
+    put_text(out, b" ")?;
+    put_padded(out, stop)?;
+    put_text(out, b"  ")
+}
+
+/// Appends what the line of a unit has behind its time.
+#[tactic(auto, unfolding(crate::specs::Lines::rest_text))]
+fn put_rest<A: Allocator>(
+    out: &mut Vec<u8, A>,
+    gtids: bool,
+    source: &Source<A>,
+    log: &Log<'_>,
+    unit: &Unit<'_, A>,
+) -> Result<(), AllocError>
+    ensures { OnOk result (out.new.items ≡ out.old.items ++ rest_text gtids (shown_told (log_bytes log.now) (source_place source.now) unit.now)) }
+{
+    put_text(out, b"  ")?;
+    put_thread(out, unit.thread)?;
+    put_text(out, b"  ")?;
+    put_id_column(out, gtids, unit.id)?;
+    put_changes(out, source, log, unit)?;
+    put_text(out, b"\n")
+}
+
+/// Appends the thread of a unit, or as many blanks.
+fn put_thread<A: Allocator>(out: &mut Vec<u8, A>, thread: Option<u32>) -> Result<(), AllocError>
+    ensures { OnOk result (out.new.items ≡ out.old.items ++ thread_text thread) }
+{
+    match thread {
+        Some(thread) => put_padded(out, thread),
+        None => put_text(out, b"          "),
     }
+}
+
+/// Appends a global transaction id and two blanks, where ids are asked for and there is one.
+fn put_id_column<A: Allocator>(
+    out: &mut Vec<u8, A>,
+    gtids: bool,
+    id: Option<GlobalId<'_>>,
+) -> Result<(), AllocError>
+    ensures { OnOk result (out.new.items ≡ out.old.items ++ id_column gtids (option_map id_told id.entry)) }
+{
+    if !gtids {
+        return Ok(());
+    }
+    match id {
+        Some(id) => {
+            put_id(out, &id)?;
+            put_text(out, b"  ")
+        }
+        None => Ok(()),
+    }
+}
+
+/// Appends a global transaction id, as MySQL prints it, or `?` for one of zeros.
+#[tactic(auto, unfolding(crate::specs::Lines::id_text))]
+pub(crate) fn put_id<A: Allocator>(
+    out: &mut Vec<u8, A>,
+    id: &GlobalId<'_>,
+) -> Result<(), AllocError>
+    ensures { OnOk result (out.new.items ≡ out.old.items ++ id_text (id_told id.now)) }
+{
+    if is_unknown(id) {
+        return put_text(out, b"?");
+    }
+    put_server(out, id.server)?;
+    put_text(out, b":")?;
+    put_tag(out, id.tag)?;
+    put_number(out, id.number)
+}
+
+/// Whether an id is of zeros.
+fn is_unknown(id: &GlobalId<'_>) -> bool
+    ensures { result ≡ is_unknown (id_told id.now) }
+{
+    id.server == [0; 16].as_slice() && id.number == 0
+}
+
+/// Appends a tag, escaped, and a colon, where there is one.
+fn put_tag<A: Allocator>(out: &mut Vec<u8, A>, tag: &[u8]) -> Result<(), AllocError>
+    ensures { OnOk result (out.new.items ≡ out.old.items ++ tag_text tag.now) }
+{
+    if tag.is_empty() {
+        return Ok(());
+    }
+    put_escaped(out, tag)?;
+    put_text(out, b":")
+}
+
+/// Appends what a unit changes, or why it can't be undone.
+fn put_changes<A: Allocator>(
+    out: &mut Vec<u8, A>,
+    source: &Source<A>,
+    log: &Log<'_>,
+    unit: &Unit<'_, A>,
+) -> Result<(), AllocError>
+    ensures { OnOk result (out.new.items ≡ out.old.items ++ changes_text (changes_shown (log_bytes log.now) (source_place source.now) unit.now.stop (changes_told unit.now.groups))) }
+{
     match &unit.groups {
-        Ok(groups) => put_rows(out, groups)?,
-        Err(fault) => put_fault(out, source, log, fault, unit.stop)?,
+        Ok(groups) => put_rows(out, groups),
+        Err(fault) => put_refusal(out, source, log, fault, unit.stop),
     }
-    out.extend_from_slice(b"\n")
 }
 
 /// Appends why a unit can't be undone that stops at a position.
-fn put_fault<A: Allocator + Copy>(
+fn put_refusal<A: Allocator>(
     out: &mut Vec<u8, A>,
     source: &Source<A>,
     log: &Log<'_>,
     fault: &Fault,
     stop: u32,
-) -> Result<(), AllocError> {
-    let alloc = *out.allocator();
-    let shown = at_place(source, fault);
-    let line = format!(in alloc; "{shown}")?;
-    out.extend_from_slice(line.as_bytes())?;
-    match statement_of(log, fault, stop) {
-        Some(text) => {
-            out.extend_from_slice(b": ")?;
-            put_beginning(out, text, TEXT_COLUMNS)
+) -> Result<(), AllocError>
+    ensures { OnOk result (out.new.items ≡ out.old.items ++ refusal_text (refusal_of (log_bytes log.now) (source_place source.now) stop fault.now)) }
+{
+    put_fault(out, &at_place(source, fault))?;
+    if let Some(text) = statement_of(log, fault, stop) {
+        put_text(out, b": ")?;
+        put_beginning(out, text, TEXT_COLUMNS)?;
+    }
+    if let Some(words) = words_of(log, fault, stop) {
+        put_text(out, b": ")?;
+        put_text(out, words.as_bytes())?;
+    }
+    Ok(())
+}
+
+/// Appends a fault.
+#[tactic(auto, unfolding(crate::specs::Lines::fault_text))]
+fn put_fault<A: Allocator>(out: &mut Vec<u8, A>, fault: &Fault) -> Result<(), AllocError>
+    ensures { OnOk result (out.new.items ≡ out.old.items ++ fault_text (name_of fault.now) (fault_position fault.now)) }
+{
+    put_text(out, fault.name().as_bytes())?;
+    match fault.at() {
+        Some(pos) => {
+            put_text(out, b" at ")?;
+            put_number(out, u64::from(pos))
         }
         None => Ok(()),
     }
 }
 
 /// Appends the numbers of rows by table.
-fn put_rows<A: Allocator + Copy>(
+fn put_rows<A: Allocator, B: Allocator>(
     out: &mut Vec<u8, A>,
-    groups: &Index<'_, '_, A>,
-) -> Result<(), AllocError> {
-    if groups.tables() == 0 {
-        return out.extend_from_slice(b"no rows");
+    index: &Index<'_, '_, B>,
+) -> Result<(), AllocError>
+    ensures { OnOk result (out.new.items ≡ out.old.items ++ counts_text (counts_of (groups (index_bytes index.now) (index_selection index.now)))) }
+{
+    if index.tables() == 0 {
+        return put_text(out, b"no rows");
     }
-    for n in 0..groups.tables() {
-        if n > 0 {
-            out.extend_from_slice(b"; ")?;
-        }
-        put_count(out, &groups.table(n))?;
+    put_count(out, &index.table(0))?;
+    for n in 1..index.tables() {
+        put_text(out, b"; ")?;
+        put_count(out, &index.table(n))?;
     }
     Ok(())
 }
 
-fn put_count<A: Allocator + Copy>(
-    out: &mut Vec<u8, A>,
-    count: &TableCount<'_>,
-) -> Result<(), AllocError> {
+/// Appends the numbers of a table's rows.
+fn put_count<A: Allocator>(out: &mut Vec<u8, A>, count: &TableCount<'_>) -> Result<(), AllocError>
+    ensures { OnOk result (out.new.items ≡ out.old.items ++ count_text (table_counted count.now)) }
+{
     put_table(out, count.schema, count.table)?;
-    put_number(out, " inserts ", count.inserts)?;
-    put_number(out, " updates ", count.updates)?;
-    put_number(out, " deletes ", count.deletes)
+    put_some(out, b" inserts ", count.inserts)?;
+    put_some(out, b" updates ", count.updates)?;
+    put_some(out, b" deletes ", count.deletes)
 }
 
 /// Appends words and a number, where it isn't 0.
-fn put_number<A: Allocator + Copy>(
-    out: &mut Vec<u8, A>,
-    words: &str,
-    n: u64,
-) -> Result<(), AllocError> {
+fn put_some<A: Allocator>(out: &mut Vec<u8, A>, words: &[u8], n: u64) -> Result<(), AllocError>
+    ensures { OnOk result (out.new.items ≡ out.old.items ++ rows_text words.now n) }
+{
     if n == 0 {
         return Ok(());
     }
-    let alloc = *out.allocator();
-    let text = format!(in alloc; "{words}{n}")?;
-    out.extend_from_slice(text.as_bytes())
-}
-
-/// Appends the last line.
-pub(crate) fn put_totals<A: Allocator + Copy>(
-    out: &mut Vec<u8, A>,
-    totals: &Totals,
-) -> Result<(), AllocError> {
-    let alloc = *out.allocator();
-    let line = format!(in alloc;
-        "units {}, not undoable {}, rows {}\n",
-        totals.units, totals.refused, totals.rows
-    )?;
-    out.extend_from_slice(line.as_bytes())
+    put_text(out, words)?;
+    put_number(out, n)
 }

@@ -1,9 +1,10 @@
 //! Positions of a server's log, which people give and see, beside those of the log without checksums that is handed out for it.
 
 ghost use Rattle.std.specs.Prelude.{◌≡◌, option_map};
+ghost use Rattle.blog_list.specs.code.Told.{inside, source_place};
 ghost use Rattle.blog_event.specs.Fault.{name_of, position_of as fault_position};
-ghost use Rattle.blog_source.specs.Places.{place_of, position_of};
-ghost use Rattle.blog_source.specs.code.SourceView.{end_of, log_of};
+ghost use Rattle.blog_source.specs.Places.{position_of};
+ghost use Rattle.blog_source.specs.code.SourceView.{log_of};
 
 use crate::wanted::Wanted;
 use blog_event::Fault;
@@ -13,7 +14,7 @@ use std::alloc::Allocator;
 /// Returns a fault of the log without checksums at its place in the server's log.
 pub(crate) fn at_place<A: Allocator>(source: &Source<A>, fault: &Fault) -> Fault
     ensures name { name_of result ≡ name_of fault.now }
-    ensures place { fault_position result ≡ option_map (place_of (log_of source.now) (end_of source.now)) (fault_position fault.now) }
+    ensures place { fault_position result ≡ option_map (source_place source.now) (fault_position fault.now) }
 {
     match fault.at() {
         Some(pos) => fault.moved_to(source.place(pos)),
@@ -33,11 +34,7 @@ fn position<A: Allocator>(source: &Source<A>, place: Option<u32>) -> Option<u32>
 
 /// Returns which units of the log without checksums are wanted, where positions of the server's log are given.
 pub(crate) fn wanted_inside<'w, A: Allocator>(source: &Source<A>, wanted: &Wanted<'w>) -> Wanted<'w>
-    ensures start { result.start ≡ option_map (position_of (log_of source.now)) wanted.now.start }
-    ensures stop { result.stop ≡ option_map (position_of (log_of source.now)) wanted.now.stop }
-    ensures times { (result.from_time ≡ wanted.now.from_time) × (result.to_time ≡ wanted.now.to_time) }
-    ensures names { (option_map (λ name. name.now) result.database ≡ option_map (λ name. name.now) wanted.now.database)
-        × (option_map (λ name. name.now) result.table ≡ option_map (λ name. name.now) wanted.now.table) }
+    ensures { result ≡ inside (log_of source.now) wanted.now }
 {
     Wanted {
         start: position(source, wanted.start),

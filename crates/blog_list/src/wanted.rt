@@ -6,7 +6,8 @@ ghost use Rattle.blog_trans.specs.Changes.{counts_of};
 ghost use Rattle.blog_trans.specs.Groups.{groups};
 ghost use Rattle.blog_trans.specs.code.IndexView.{index_bytes, index_selection, table_counted};
 ghost use Rattle.blog_trans.specs.Selection.{is_wanted};
-ghost use Rattle.blog_list.specs.code.Wanted.{has_names, is_before, is_from, is_of_wanted_tables, is_wanted_unit};
+ghost use Rattle.blog_units.specs.code.UnitsView.{facts_told};
+ghost use Rattle.blog_list.specs.code.Wanted.{changes_told, has_names, is_before, is_from, is_of_wanted_tables, is_wanted_unit};
 
 use blog_trans::{Index, TableCount};
 use blog_units::Unit;
@@ -33,7 +34,7 @@ pub struct Wanted<'w> {
 impl Wanted<'_> {
     /// Whether a unit is wanted.
     pub(crate) fn has<A: Allocator>(&self, unit: &Unit<'_, A>) -> bool
-        ensures { result ≡ is_wanted_unit self.now unit.now }
+        ensures { result ≡ is_wanted_unit self.now (facts_told unit.now) (changes_told unit.now.groups) }
     {
         is_from(unit.start, self.start)
             && is_before(unit.start, self.stop)
@@ -43,7 +44,7 @@ impl Wanted<'_> {
     }
 
     fn has_its_tables<A: Allocator>(&self, unit: &Unit<'_, A>) -> bool
-        ensures { result ≡ is_of_wanted_tables self.now unit.now.groups }
+        ensures { result ≡ is_of_wanted_tables self.now (changes_told unit.now.groups) }
     {
         if self.database.is_none() && self.table.is_none() {
             return true;

@@ -1,4 +1,4 @@
-use Rattle.std.proofs.Common.{sym, ◌∙◌, arith, length, length-drop}
+use Rattle.std.proofs.Common.{sym, ◌∙◌, arith, length-drop}
 use Rattle.bstr.proofs.lemmas.PieceLemmas.{size-within, piece-bounds}
 use Rattle.blog_list.proofs.Marking.{none-left, character-first, byte-first, goes}
 use Rattle.blog_list.proofs.marks.MarksIterator.next.Goals as goal

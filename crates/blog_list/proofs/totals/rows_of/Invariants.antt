@@ -1,0 +1,14 @@
+use Rattle.std.proofs.Common.{◌≡◌, ◌+◌, ◌≤◌, drop}
+use Rattle.blog_trans.specs.Changes.{counts_of}
+use Rattle.blog_trans.specs.Groups.{groups}
+use Rattle.blog_trans.specs.code.IndexView.{index_bytes, index_selection}
+use Rattle.blog_list.specs.Lines.{at_most, rows_of}
+use Rattle.blog_list.proofs.totals.rows_of.Given as goal
+
+-- the tables are left from number n on
+abbrev pub invariant-loop-n : goal.invariant-loop-n
+invariant-loop-n g l = record {
+  sum_is : at_most (l.rows + rows_of (drop l.n (counts_of (groups (index_bytes l.index) (index_selection l.index)))))
+      ≡ at_most (rows_of (counts_of (groups (index_bytes l.index) (index_selection l.index))));
+  fits : l.rows ≤ 18446744073709551615;
+}

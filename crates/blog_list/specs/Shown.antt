@@ -1,0 +1,108 @@
+-- What is shown of the units of a log, and which of them are wanted.
+use Rattle.std.specs.Prelude.{ℕ, ◌==◌, Bool, false, not, nat_le, nat_lt, if◌then◌else◌, List, [], ◌∷◌, map, filter, drop, Option, Some, None, option_and_then, option_map, Result, Ok, Err, codes}
+use Rattle.std.specs.List.{list_any}
+use Rattle.blog_event.specs.declared.fault.Fault.{Fault}
+use Rattle.blog_event.specs.declared.fault.Fault.TheVariants.{OutOfPlace, UnknownEvent}
+use Rattle.blog_event.specs.Event.{Event, event_at}
+use Rattle.blog_event.specs.Fault.{name_of, position_of}
+use Rattle.blog_row.specs.Kinds.{query_text}
+use Rattle.blog_trans.specs.Acceptance.{fault}
+use Rattle.blog_trans.specs.Changes.{TableCount, counts_of}
+use Rattle.blog_trans.specs.Groups.{groups}
+use Rattle.blog_trans.specs.Selection.{Selection}
+use Rattle.blog_units.specs.Units.{Facts, between, facts_of, units}
+use Rattle.blog_list.specs.declared.wanted.Wanted.{Wanted}
+use Rattle.blog_list.specs.code.Wanted.{is_before, is_wanted_unit}
+use Rattle.blog_list.specs.Lines.{Refusal, Shown}
+
+-- ---- what is shown
+
+-- the event of a fault, where it lies below a position
+abbrev pub event_of_fault : List ℕ → ℕ → Fault → Option Event
+event_of_fault log below fault = option_and_then (λ pos. if nat_lt pos below then event_at (drop pos log) else None) (position_of fault)
+
+-- the text of a Query event
+abbrev pub text_of_query : Event → Option (List ℕ)
+text_of_query e = if e.kind == 2 then query_text e.body else None
+
+-- What an event is, by its type: TRANSACTION_PAYLOAD_EVENT; XA_PREPARE_LOG_EVENT; INCIDENT_EVENT; VIEW_CHANGE_EVENT; and the types
+-- that MariaDB has for itself.
+abbrev pub event_words : ℕ → Option (List ℕ)
+event_words number =
+    if number == 40 then Some (codes "a compressed transaction") else
+    if number == 38 then Some (codes "a prepared XA transaction") else
+    if number == 26 then Some (codes "an incident") else
+    if number == 37 then Some (codes "a change of view in group replication") else
+    if nat_le 160 number then Some (codes "an event of MariaDB") else None
+
+-- what the event of a fault is, where that explains the fault: a second format description (15) comes with a relay log
+abbrev pub words_of : Fault → ℕ → Option (List ℕ)
+words_of (UnknownEvent pos) number = event_words number
+words_of (OutOfPlace pos) number = if number == 15 then Some (codes "a relay log") else event_words number
+words_of _ number = None
+
+-- why a unit is refused that stops here, by its fault, with positions at their places
+abbrev pub refusal_of : List ℕ → (ℕ → ℕ) → ℕ → Fault → Refusal
+refusal_of log place stop fault = record {
+  name = name_of fault;
+  pos = option_map place (position_of fault);
+  statement = option_and_then text_of_query (event_of_fault log stop fault);
+  event = option_and_then (λ e. words_of fault e.kind) (event_of_fault log stop fault);
+}
+
+abbrev pub changes_shown : List ℕ → (ℕ → ℕ) → ℕ → Result (List TableCount) Fault → Result (List TableCount) Refusal
+changes_shown log place stop (Ok counts) = Ok counts
+changes_shown log place stop (Err fault) = Err (refusal_of log place stop fault)
+
+-- the rows by table of a log's range, or the range's fault
+abbrev pub rows_or : List TableCount → Option Fault → Result (List TableCount) Fault
+rows_or counts None = Ok counts
+rows_or counts (Some fault) = Err fault
+
+unfoldable pub changes_in : List ℕ → Selection → Result (List TableCount) Fault
+changes_in log sel = rows_or (counts_of (groups log sel)) (fault log sel)
+
+-- those of a unit
+abbrev pub changes_of : List ℕ → Facts → Result (List TableCount) Fault
+changes_of log u = changes_in log (between u.start u.stop)
+
+-- what is shown of a unit with these changes, with positions at their places
+abbrev pub shown_with : List ℕ → (ℕ → ℕ) → Facts → Result (List TableCount) Fault → Shown
+shown_with log place u changes = record {
+  start = place u.start;
+  stop = place u.stop;
+  time = u.time;
+  thread = u.thread;
+  id = u.id;
+  changes = changes_shown log place u.stop changes;
+}
+
+unfoldable pub shown : List ℕ → (ℕ → ℕ) → Facts → Shown
+shown log place u = shown_with log place u (changes_of log u)
+
+-- ---- which are listed
+
+-- those in front of a stop
+abbrev pub in_front : Option ℕ → List Facts → List Facts
+in_front stop [] = []
+in_front stop (u ∷ us) = if is_before u.start stop then u ∷ in_front stop us else []
+
+-- those that are wanted
+abbrev pub wanted_of : Wanted → List ℕ → List Facts → List Facts
+wanted_of w log us = filter (λ u. is_wanted_unit w u (changes_of log u)) (in_front w.stop us)
+
+-- the units of a log that are wanted, as they are shown
+abbrev pub wanted_shown : Wanted → List ℕ → (ℕ → ℕ) → List Shown
+wanted_shown w log place = map (shown log place) (wanted_of w log (map facts_of (units log)))
+
+-- ---- how they end
+
+-- the last unit isn't whole
+abbrev pub is_open : List Facts → Bool
+is_open [] = false
+is_open (u ∷ []) = not u.whole
+is_open (u ∷ v ∷ us) = is_open (v ∷ us)
+
+-- whether the last unit is whole, where no unit starts at the stop or behind it
+abbrev pub last_whole : Option ℕ → List Facts → Option Bool
+last_whole stop us = if list_any (λ u. not (is_before u.start stop)) us then None else Some (not (is_open us))

@@ -1,0 +1,44 @@
+-- What is shown of a unit of the program, and of the log of a source.
+use Rattle.std.specs.Prelude.{◌≡◌, ℕ, Bool, List, ◌++◌, length, Option, option_map, map, string_bytes}
+use Rattle.jiff.specs.Words.{plain_zone}
+use Rattle.blog_sum.specs.declared.fault.SumFault.{SumFault}
+use Rattle.blog_source.specs.Places.{place_of, position_of}
+use Rattle.blog_source.specs.code.SourceView.{end_of, fault_of, log_of}
+use Rattle.blog_source.specs.declared.source.Source.{Source}
+use Rattle.blog_units.specs.Units.{facts_of, units}
+use Rattle.blog_units.specs.declared.unit.Unit.{Unit}
+use Rattle.blog_units.specs.code.UnitsView.{facts_told}
+use Rattle.blog_list.specs.declared.column.TimeColumn.{TimeColumn}
+use Rattle.blog_list.specs.declared.wanted.Wanted.{Wanted}
+use Rattle.blog_list.specs.Lines.{Shown}
+use Rattle.blog_list.specs.Lists.{list_end}
+use Rattle.blog_list.specs.Shown.{last_whole, shown_with, wanted_shown}
+use Rattle.blog_list.specs.Texts.{IsLine}
+use Rattle.blog_list.specs.code.Wanted.{changes_told}
+
+-- the place in a server's log of a position in the log of a source
+abbrev pub source_place : {A : Type 0} → Source A → ℕ → ℕ
+source_place source = place_of (log_of source) (end_of source)
+
+-- what is shown of a unit
+abbrev pub shown_told : {A : Type 0} → List ℕ → (ℕ → ℕ) → Unit A → Shown
+shown_told log place unit = shown_with log place (facts_told unit) (changes_told unit.groups)
+
+-- its line was appended
+abbrev pub PutsLine : {A : Type 0} → TimeColumn A → Bool → Shown → List ℕ → List ℕ → Type 0
+PutsLine column gtids s old new =
+    (line : List ℕ) × IsLine (plain_zone column.zone) gtids (length (string_bytes column.heading)) s line × (new ≡ old ++ line)
+
+-- what is wanted by positions of the server's log, by those of the log of a source
+abbrev pub inside : List ℕ → Wanted → Wanted
+inside log w = record w { start = option_map (position_of log) w.start; stop = option_map (position_of log) w.stop }
+
+-- what is listed of a source
+abbrev pub listed : {A : Type 0} → Source A → Wanted → List Shown
+listed source w = wanted_shown (inside (log_of source) w) (log_of source) (source_place source)
+
+-- why that list ends early
+abbrev pub end_listed : {A : Type 0} → Source A → Wanted → Option SumFault
+end_listed source w =
+    list_end (fault_of source) (end_of source) w.stop
+    (last_whole (option_map (position_of (log_of source)) w.stop) (map facts_of (units (log_of source))))
