@@ -127,8 +127,13 @@ RefusesPosition value OutOfMemory = ⊤
 
 -- one of these values means no number
 abbrev pub HasWrongNumber : List (List ℕ) → Type 0
-HasWrongNumber [] = ⊥
-HasWrongNumber (value ∷ values) = IsWrongPosition (Some value) ⊎ HasWrongNumber values
+HasWrongNumber values = (n : ℕ) × (value : List ℕ) × (slice_get values n ≡ Some value) × IsWrongPosition (Some value)
+
+-- the arguments are wrong
+abbrev pub IsWrong : {A : Type 0} → ArgumentsFault A → Type 0
+IsWrong (Wrong text) = ⊤
+IsWrong NotText = ⊥
+IsWrong OutOfMemory = ⊥
 
 -- why an option has no numbers: one of its values means none, or memory was refused
 abbrev pub RefusesNumbers : {A : Type 0} → List (List ℕ) → ArgumentsFault A → Type 0

@@ -6,7 +6,7 @@ ghost use Rattle.console.specs.Positions.{IsPositionOf};
 ghost use Rattle.jiff.specs.Words.{plain_zone};
 ghost use Rattle.blog_choice.specs.Choice.{read_name};
 ghost use Rattle.blog_choice.specs.code.Views.{name_value};
-ghost use Rattle.binlog.specs.Request.{AreNumbers, HasTask, IsListTask, IsTimeOf, IsZoneAsked, RefusesList, RefusesNumbers, RefusesTime, all_values, form_of, is_given};
+ghost use Rattle.binlog.specs.Request.{AreNumbers, HasTask, IsWrong, IsListTask, IsTimeOf, IsZoneAsked, RefusesList, RefusesNumbers, RefusesTime, all_values, form_of, is_given};
 ghost use Rattle.binlog.specs.declared.arguments.ArgumentsFault.TheVariants.{OutOfMemory};
 
 use crate::arguments::{ArgumentsFault, read_number};

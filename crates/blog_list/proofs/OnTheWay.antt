@@ -20,7 +20,7 @@ use Rattle.blog_units.specs.declared.unit.Unit.{Unit}
 use Rattle.blog_units.specs.code.UnitsView.{AreGroups, IsJudged, facts_told}
 use Rattle.blog_list.specs.declared.column.TimeColumn.{TimeColumn}
 use Rattle.blog_list.specs.declared.totals.Totals.{Totals}
-use Rattle.blog_list.specs.declared.wanted.Wanted.{Wanted}
+use Rattle.blog_request.specs.declared.wanted.Wanted.{Wanted}
 use Rattle.blog_list.specs.Columns.{IsHeading}
 use Rattle.blog_list.specs.Lines.{Refusal, Shown, all_refused, all_rows, at_most, header, rows_of, rows_shown, totals_line}
 use Rattle.blog_list.specs.Shown.{changes_in, changes_of, changes_shown, rows_or, shown, shown_with, wanted_of}
@@ -28,7 +28,7 @@ use Rattle.blog_list.specs.Texts.{AppendsList, AppendsListBeginning, AreLines, I
 use Rattle.blog_list.specs.code.Held.{HasWritten, has_no_memory}
 use Rattle.blog_list.specs.code.Told.{PutsLine, shown_told}
 use Rattle.blog_list.specs.code.Totals.{HasCounted, totals_text}
-use Rattle.blog_list.specs.code.Wanted.{changes_told, is_before, is_wanted_unit}
+use Rattle.blog_request.specs.Wanted.{changes_told, is_before, is_wanted_unit}
 
 -- ---- one unit more
 
@@ -225,10 +225,10 @@ listing-end-broken sheet all later had has now held totals list none (front, res
 
 -- the first one that is left is wanted
 abbrev is_one_of : Wanted → List ℕ → Facts → Bool
-is_one_of w log u = is_wanted_unit w u (changes_of log u)
+is_one_of w log u = is_wanted_unit w log u (changes_of log u)
 
 wanted-first : (w : Wanted) (log : List ℕ) (place : ℕ → ℕ) (u : Facts) (left rest : List Facts) (s : Shown) → left ≡ u ∷ rest → s ≡ shown log place u
-    → is_before u.start w.stop ≡ true → is_wanted_unit w u (changes_of log u) ≡ true → listed_of w log place left ≡ s ∷ listed_of w log place rest
+    → is_before u.start w.stop ≡ true → is_wanted_unit w log u (changes_of log u) ≡ true → listed_of w log place left ≡ s ∷ listed_of w log place rest
 wanted-first w log place u left rest s first is before wanted =
     ap (listed_of w log place) first
     ∙ ap (λ (us : List Facts). map (shown log place) (filter (is_one_of w log) us)) (cond-true _ _ _ before)
@@ -236,7 +236,7 @@ wanted-first w log place u left rest s first is before wanted =
     ∙ ap (λ (x : Shown). x ∷ listed_of w log place rest) (sym is)
 
 unwanted-first : (w : Wanted) (log : List ℕ) (place : ℕ → ℕ) (u : Facts) (left rest : List Facts) → left ≡ u ∷ rest
-    → is_before u.start w.stop ≡ true → is_wanted_unit w u (changes_of log u) ≡ false → listed_of w log place left ≡ listed_of w log place rest
+    → is_before u.start w.stop ≡ true → is_wanted_unit w log u (changes_of log u) ≡ false → listed_of w log place left ≡ listed_of w log place rest
 unwanted-first w log place u left rest first before wanted =
     ap (listed_of w log place) first
     ∙ ap (λ (us : List Facts). map (shown log place) (filter (is_one_of w log) us)) (cond-true _ _ _ before)
