@@ -1,8 +1,9 @@
 -- What a run is asked to do, by the values of the options.
-use Rattle.std.specs.Prelude.{◌≡◌, ◌⊎◌, ◌&&◌, ℕ, Bool, true, false, List, [], ⊤, IsSome, Option, Some, None, Result, Ok, Err, codes, option_map, slice_get, string_bytes, unwrap_or, String}
+use Rattle.std.specs.Prelude.{◌≡◌, ◌⊎◌, ◌&&◌, ℕ, Bool, true, false, List, [], ⊤, IsSome, map, ◌∷◌, Option, Some, None, Result, Ok, Err, codes, option_map, slice_get, string_bytes, unwrap_or, String}
 use Rattle.std.specs.Option.{option_map_or}
+use Rattle.std.specs.List.{AllByRecursion}
 use Rattle.std.specs.Str.{bytes_eq}
-use Rattle.clap.specs.Words.{first_value, kind_of, one_text, rows_of, subcommand_name_of, subcommand_rows_of}
+use Rattle.clap.specs.Words.{first_value, kind_of, matched_of, one_text, raw_values, rows_of, subcommand_name_of, subcommand_rows_of}
 use Rattle.clap.specs.declared.error.Error.{Error}
 use Rattle.clap.specs.declared.parser.matches.ArgMatches.{ArgMatches}
 use Rattle.clap.specs.declared.parser.matches.Found.{Found}
@@ -15,12 +16,15 @@ use Rattle.blog_list.specs.declared.times.Side.{Side}
 use Rattle.blog_list.specs.declared.times.Side.TheVariants.{Start, Stop}
 use Rattle.blog_list.specs.Times.{IsRead as IsReadTime}
 use Rattle.jiff.specs.Types.{TimeZone}
+use Rattle.blog_choice.specs.Choice.{read_name}
+use Rattle.blog_choice.specs.code.Views.{choice_value, name_value}
+use Rattle.blog_request.specs.declared.wanted.Wanted.{Wanted}
 use Rattle.binlog.specs.Zones.{HasName, IsZoneOf}
 use Rattle.binlog.specs.declared.zones.Zone.{Zone}
 use Rattle.binlog.specs.declared.zones.Zone.TheVariants.{Utc}
 use Rattle.binlog.specs.declared.arguments.Asked.{Asked}
 use Rattle.binlog.specs.declared.arguments.Asked.TheVariants.{Text, NewLog, List as OfList}
-use Rattle.binlog.specs.declared.arguments.ListTask.{ListTask}
+use Rattle.binlog.specs.declared.list_arguments.ListTask.{ListTask}
 use Rattle.binlog.specs.declared.arguments.NewLogTask.{NewLogTask}
 use Rattle.binlog.specs.declared.arguments.Making.TheVariants.{Plain, Split}
 use Rattle.binlog.specs.declared.arguments.ArgumentsFault.{ArgumentsFault}
@@ -81,16 +85,39 @@ abbrev pub form_of : Bool → Form
 form_of true = form.Json
 form_of false = form.Text
 
--- each part of the list is the value of its option
-pub record IsListTask (found : Found) (task : ListTask) : Type 0 where
+-- the values of an option, in order
+abbrev pub all_values : Found → List ℕ → List (List ℕ)
+all_values found name = option_map_or raw_values (matched_of found name) []
+
+-- the numbers that values mean, each of which means one
+abbrev pub AreNumbers : List (List ℕ) → List ℕ → Type 0
+AreNumbers values numbers = AllByRecursion IsPosition values × (numbers ≡ map (digits_value 10) values)
+
+-- each part of the list is the value of its option, or are its values
+pub record IsListTask {A : Type 0} (found : Found) (task : ListTask A) : Type 0 where
   pub log : task.log.now ≡ unwrap_or (first_value found (codes "LOG")) []
   pub form : task.form ≡ form_of (is_given found (codes "json"))
-  pub start : IsPositionOf (first_value found (codes "start-position")) task.wanted.start
-  pub stop : IsPositionOf (first_value found (codes "stop-position")) task.wanted.stop
+  pub gtids : task.gtids ≡ is_given found (codes "gtid")
+  pub reading : task.reading ≡ record { stop = None; skip_damaged = is_given found (codes "skip-damaged") }
+  pub start : IsPositionOf (first_value found (codes "start-position")) task.start
+  pub stop : IsPositionOf (first_value found (codes "stop-position")) task.stop
   pub zone : IsZoneAsked found task.zone
-  pub times : (zone : TimeZone) × IsZoneOf task.zone zone × AreTimes found task.wanted.from_time task.wanted.to_time zone
-  pub database : option_map (λ name. name.now) task.wanted.database ≡ first_value found (codes "database")
-  pub table : option_map (λ name. name.now) task.wanted.table ≡ first_value found (codes "table")
+  pub times : (zone : TimeZone) × IsZoneOf task.zone zone × AreTimes found task.from_time task.to_time zone
+  pub threads : AreNumbers (all_values found (codes "thread")) task.threads.items
+  pub database : option_map (λ name. name.now) task.database ≡ first_value found (codes "database")
+  pub tables : map name_value task.tables.items ≡ map read_name (all_values found (codes "table"))
+  pub excluded : map name_value task.excluded.items ≡ map read_name (all_values found (codes "exclude-table"))
+
+-- which units a task wants
+pub record HasTask {A : Type 0} (task : ListTask A) (wanted : Wanted) : Type 0 where
+  pub start : wanted.start ≡ task.start
+  pub stop : wanted.stop ≡ task.stop
+  pub from_time : wanted.from_time ≡ task.from_time
+  pub to_time : wanted.to_time ≡ task.to_time
+  pub threads : wanted.threads.now ≡ task.threads.items
+  pub database : (choice_value wanted.choice).database ≡ option_map (λ name. name.now) task.database
+  pub tables : (choice_value wanted.choice).tables ≡ map name_value task.tables.items
+  pub excluded : (choice_value wanted.choice).excluded ≡ map name_value task.excluded.items
 
 -- why an option has no position: its value means none, or memory was refused
 abbrev pub RefusesPosition : {A : Type 0} → Option (List ℕ) → ArgumentsFault A → Type 0
@@ -98,17 +125,33 @@ RefusesPosition value (Wrong text) = IsWrongPosition value
 RefusesPosition value NotText = ⊥
 RefusesPosition value OutOfMemory = ⊤
 
+-- one of these values means no number
+abbrev pub HasWrongNumber : List (List ℕ) → Type 0
+HasWrongNumber values = (n : ℕ) × (value : List ℕ) × (slice_get values n ≡ Some value) × IsWrongPosition (Some value)
+
+-- the arguments are wrong
+abbrev pub IsWrong : {A : Type 0} → ArgumentsFault A → Type 0
+IsWrong (Wrong text) = ⊤
+IsWrong NotText = ⊥
+IsWrong OutOfMemory = ⊥
+
+-- why an option has no numbers: one of its values means none, or memory was refused
+abbrev pub RefusesNumbers : {A : Type 0} → List (List ℕ) → ArgumentsFault A → Type 0
+RefusesNumbers values (Wrong text) = HasWrongNumber values
+RefusesNumbers values NotText = ⊥
+RefusesNumbers values OutOfMemory = ⊤
+
 -- the same of a time, or of the name of a zone
 abbrev pub RefusesTime : {A : Type 0} → Option (List ℕ) → ArgumentsFault A → Type 0
 RefusesTime value (Wrong text) = IsSome value
 RefusesTime value NotText = ⊥
 RefusesTime value OutOfMemory = ⊤
 
--- a position is wrong, or a time or the name of a zone may be
+-- a position or a thread is wrong, or a time or the name of a zone may be
 abbrev pub HasWrongValue : Found → Type 0
 HasWrongValue found = IsWrongPosition (first_value found (codes "start-position")) ⊎ IsWrongPosition (first_value found (codes "stop-position"))
     ⊎ IsSome (first_value found (codes "start-datetime")) ⊎ IsSome (first_value found (codes "stop-datetime"))
-    ⊎ IsSome (first_value found (codes "time-zone"))
+    ⊎ IsSome (first_value found (codes "time-zone")) ⊎ HasWrongNumber (all_values found (codes "thread"))
 
 -- why no list is asked for: that, or memory was refused
 abbrev pub RefusesList : {A : Type 0} → Found → ArgumentsFault A → Type 0

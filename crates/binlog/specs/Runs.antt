@@ -131,12 +131,12 @@ whole = record { stop = None; skip_damaged = false }
 
 -- what comes of reading a log for its list: its front was read; or it can't be held, what is handed out for it can't be opened,
 -- or a read or a write failed
-abbrev pub WritesList : {X : Type 0} → Option (List ℕ) → Option (List ℕ) → Result X RunFault → Type 0
-WritesList old new (Ok end) = (log : List ℕ) × ReadsLog old new log × (source_refusal log ≡ None)
-WritesList old new (Err (Log fault)) = (fault ≡ NoMemory) ⊎ ((fault ≡ TooLong 0) × PassesLimit greatest_length old new)
-    ⊎ ((log : List ℕ) × ReadsLog old new log × (source_refusal log ≡ None) × (opening_fault (handed_log whole log) ≡ Some fault))
-WritesList old new (Err Read) = ⊤
-WritesList old new (Err Write) = (log : List ℕ) × ReadsLog old new log × (source_refusal log ≡ None)
+abbrev pub WritesList : {X : Type 0} → Reading → Option (List ℕ) → Option (List ℕ) → Result X RunFault → Type 0
+WritesList how old new (Ok end) = (log : List ℕ) × ReadsLog old new log × (source_refusal log ≡ None)
+WritesList how old new (Err (Log fault)) = (fault ≡ NoMemory) ⊎ ((fault ≡ TooLong 0) × PassesLimit greatest_length old new)
+    ⊎ ((log : List ℕ) × ReadsLog old new log × (source_refusal log ≡ None) × (opening_fault (handed_log how log) ≡ Some fault))
+WritesList how old new (Err Read) = ⊤
+WritesList how old new (Err Write) = (log : List ℕ) × ReadsLog old new log × (source_refusal log ≡ None)
 
 -- this log was read, of which nothing can be read for a list
 abbrev pub LeavesUnread : Option (List ℕ) → Option (List ℕ) → SumFault → Type 0

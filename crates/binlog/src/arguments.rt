@@ -3,20 +3,16 @@
 ghost use Rattle.std.specs.Prelude.{◌≡◌, IfErr, IfOk, Ok, codes, true};
 ghost use Rattle.clap.specs.Words.{first_value, found_of};
 ghost use Rattle.console.specs.Positions.{IsPositionOf};
-ghost use Rattle.jiff.specs.Words.{plain_zone};
-ghost use Rattle.binlog.specs.Request.{IsNewLogTask, IsListTask, IsSizeOf, IsRead, IsTimeOf, IsZoneAsked, RefusesList, RefusesPosition, RefusesTime, asks_for_list, form_of, is_given, is_list};
+ghost use Rattle.binlog.specs.Request.{IsNewLogTask, IsSizeOf, IsRead, RefusesPosition, asks_for_list, is_list};
 ghost use Rattle.binlog.specs.declared.arguments.ArgumentsFault.TheVariants.{OutOfMemory};
 
 use crate::options::{
-    DATABASE, DEFAULT_SIZE, FORCE, JSON, LIST, LOG, PLAIN, RESULT_FILE, SIZE, SPLIT, START,
-    START_TIME, STOP, STOP_TIME, TABLE, TIME_ZONE, UTC, all_arguments,
+    DEFAULT_SIZE, FORCE, LIST, LOG, PLAIN, RESULT_FILE, SIZE, SPLIT, all_arguments,
 };
-use crate::zones::{Zone, named_zone, system_zone};
-use blog_list::{Form, Side, TimeFault, Wanted, seconds_of};
+use crate::list_arguments::{ListTask, read_list};
 use clap::error::ErrorKind;
 use clap::{ArgMatches, Command, Error};
-use console::{POSITION, Told, position_of, read_error, wrong_value};
-use jiff::tz::TimeZone;
+use console::{Told, position_of, read_error, wrong_value};
 use std::alloc::{AllocError, Allocator};
 use std::rt::{Env, Files};
 
@@ -28,7 +24,7 @@ pub enum Asked<'a, A: Allocator> {
     /// A new log, made of a log.
     NewLog(NewLogTask<'a>),
     /// The list of the units of a log.
-    List(ListTask<'a>),
+    List(ListTask<'a, A>),
 }
 
 /// What is made of a log.
@@ -51,19 +47,6 @@ pub struct NewLogTask<'a> {
     pub force: bool,
     /// What the new log is.
     pub making: Making,
-}
-
-/// The list of the units of a log.
-#[derive(Drop)]
-pub struct ListTask<'a> {
-    /// The path of the log.
-    pub log: &'a str,
-    /// Which of its units are wanted.
-    pub wanted: Wanted<'a>,
-    /// In which form they are listed.
-    pub form: Form,
-    /// The time zone that their times are printed in.
-    pub zone: Zone,
 }
 
 /// Why the arguments ask for nothing.
@@ -193,50 +176,11 @@ fn read_task<'a>(found: &ArgMatches<'a>, making: Making) -> NewLogTask<'a>
     }
 }
 
-fn read_list<'a, R: Files + Env + AllocGlobal, A: Allocator + Copy>(
-    rt: &R,
-    alloc: A,
-    command: &mut Command<'a>,
-    found: &ArgMatches<'a>,
-) -> Result<ListTask<'a>, ArgumentsFault<A>>
-    ensures asked { IfOk result (IsListTask (found_of found.now)) }
-    ensures refused { IfErr result (RefusesList (found_of found.now)) }
-{
-    let zone = read_zone(rt, alloc, command, found)?;
-    let clock = zone.time_zone();
-    let wanted = Wanted {
-        start: read_number(alloc, command, found, START, "POS", POSITION)?,
-        stop: read_number(alloc, command, found, STOP, "POS", POSITION)?,
-        from_time: read_time(alloc, command, found, START_TIME, clock, Side::Start)?,
-        to_time: read_time(alloc, command, found, STOP_TIME, clock, Side::Stop)?,
-        database: found.get_str(DATABASE).map(str::as_bytes),
-        table: found.get_str(TABLE).map(str::as_bytes),
-    };
-    Ok(ListTask {
-        // the parser has refused arguments without a LOG
-        log: found.get_str(LOG).unwrap_or(""),
-        wanted,
-        form: read_form(found),
-        zone,
-    })
-}
-
-/// The form of a list.
-fn read_form(found: &ArgMatches<'_>) -> Form
-    ensures { result ≡ form_of (is_given (found_of found.now) (codes "json")) }
-{
-    if found.get_one::<bool>(JSON).unwrap_or(false) {
-        Form::Json
-    } else {
-        Form::Text
-    }
-}
-
 /// What a number of bytes is, as it is told of a value that is none.
 const BYTES: &str = "a number of bytes: decimal digits, 0 to 4294967295";
 
 /// The number that this option has, where it is there: a position, or so many bytes.
-fn read_number<'a, A: Allocator + Copy>(
+pub(crate) fn read_number<'a, A: Allocator + Copy>(
     alloc: A,
     command: &mut Command<'a>,
     found: &ArgMatches<'a>,
@@ -254,67 +198,6 @@ fn read_number<'a, A: Allocator + Copy>(
         return Ok(Some(number));
     }
     let option = format!(in alloc; "{name} <{value}>")?;
-    let told = wrong_value(alloc, command, option.as_str(), text, has_to_be)?;
-    Err(ArgumentsFault::Wrong(told))
-}
-
-/// What a time zone is, as it is told of a name that is none.
-const ZONE: &str =
-    "a time zone that this machine has a file of: give an IANA name such as Europe/Berlin, or install tzdata";
-
-/// The time zone that is asked for: UTC, that of a name, or else the machine's.
-fn read_zone<'a, R: Files + Env + AllocGlobal, A: Allocator + Copy>(
-    rt: &R,
-    alloc: A,
-    command: &mut Command<'a>,
-    found: &ArgMatches<'a>,
-) -> Result<Zone, ArgumentsFault<A>>
-    ensures zone { IfOk result (IsZoneAsked (found_of found.now)) }
-    ensures wrong { IfErr result (RefusesTime (first_value (found_of found.now) (codes "time-zone"))) }
-{
-    if found.get_one::<bool>(UTC).unwrap_or(false) {
-        return Ok(Zone::Utc);
-    }
-    let Some(name) = found.get_str(TIME_ZONE) else {
-        return Ok(system_zone(rt)?);
-    };
-    if let Some(zone) = named_zone(rt, name)? {
-        return Ok(zone);
-    }
-    let option = format!(in alloc; "{TIME_ZONE} <NAME>")?;
-    let told = wrong_value(alloc, command, option.as_str(), name, ZONE)?;
-    Err(ArgumentsFault::Wrong(told))
-}
-
-/// What a time is, as it is told of a value that is none.
-const TIME: &str =
-    "a time: YYYY-MM-DD hh:mm:ss, in UTC from 1970-01-01 00:00:00 to 2106-02-07 06:28:15";
-
-/// The same of a time that a clock never shows.
-const SHOWN_TIME: &str =
-    "a time in this time zone: its clock is put forward past it: give one before or after that";
-
-/// The time that this option has, where it is there, in seconds since 1970 in UTC.
-fn read_time<'a, A: Allocator + Copy>(
-    alloc: A,
-    command: &mut Command<'a>,
-    found: &ArgMatches<'a>,
-    name: &str,
-    zone: TimeZone<'_>,
-    side: Side,
-) -> Result<Option<u32>, ArgumentsFault<A>>
-    ensures found { IfOk result (IsTimeOf (plain_zone zone.entry) side (first_value (found_of found.now) name.now)) }
-    ensures wrong { IfErr result (RefusesTime (first_value (found_of found.now) name.now)) }
-{
-    let Some(text) = found.get_str(name) else {
-        return Ok(None);
-    };
-    let has_to_be = match seconds_of(text, zone, side) {
-        Ok(seconds) => return Ok(Some(seconds)),
-        Err(TimeFault::NotATime) => TIME,
-        Err(TimeFault::Skipped) => SHOWN_TIME,
-    };
-    let option = format!(in alloc; "{name} <TIME>")?;
     let told = wrong_value(alloc, command, option.as_str(), text, has_to_be)?;
     Err(ArgumentsFault::Wrong(told))
 }

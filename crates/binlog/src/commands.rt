@@ -7,18 +7,18 @@ ghost use Rattle.binlog.specs.Request.{asks_for_list};
 ghost use Rattle.binlog.specs.Status.{status_of};
 ghost use Rattle.blog_split.specs.SplittingTo.{ends_before_writing, is_writing_fault};
 ghost use Rattle.blog_source.specs.code.SourceView.{end_of, log_of};
-ghost use Rattle.binlog.specs.Runs.{LeavesUnread, OpensWhole, SplitsSource, MayFollowList, OfNewLog, OfList, WritesNewLog, WritesList, new_log_fault, is_failed_read, is_failed_write, may_list};
+ghost use Rattle.binlog.specs.Runs.{OpensWhole, SplitsSource, MayFollowList, OfNewLog, WritesNewLog, new_log_fault, is_failed_read, is_failed_write, may_list};
 ghost use Rattle.blog_device.specs.Devices.{is_read_fault, is_write_fault};
 ghost use Rattle.binlog.specs.declared.commands.Failure.TheVariants.{Arguments, NewLog, ResultFile};
 ghost use Rattle.binlog.specs.declared.commands.NewLogFault.TheVariants.{Run, Sums, Split};
 ghost use Rattle.binlog.specs.declared.arguments.Making.TheVariants as made;
 
-use crate::arguments::{ArgumentsFault, Asked, ListTask, Making, NewLogTask, read_arguments};
+use crate::arguments::{ArgumentsFault, Asked, Making, NewLogTask, read_arguments};
+use crate::list_runs::run_list;
 use crate::log_file::{LogFault, open_log};
 use blog_device::{RunFault, Watched, put, read_log};
 use blog_event::Fault;
-use blog_list::{Style, list};
-use blog_source::{Reading, Source, plain};
+use blog_source::{Source, plain};
 use blog_split::{SplitFault, SplitRunFault, split_to};
 use blog_sum::SumFault;
 use result_file::{FileFault, ResultFile, Wanted};
@@ -379,42 +379,5 @@ fn new_log_to_file<'a, R: Files, A: Allocator + Copy, D: Read>(
             Some(failed) => Err(Failure::ResultFile(failed)),
             None => Err(Failure::NewLog(fault)),
         },
-    }
-}
-
-/// Writes the list of the log that is read to standard output. One that ends too early has its list written all the same.
-fn run_list<'a, R: AllocGlobal, A: Allocator + Copy, D: Read, O: Write>(
-    rt: &R,
-    alloc: A,
-    reader: &mut Watched<D>,
-    task: &ListTask<'a>,
-    output: &mut Watched<O>,
-) -> Result<(), Failure<'a, A>>
-    ensures status { IfErr result (λ f. status_of f ≡ 1) }
-    ensures begun { IfErr result (λ f. (output.new ≡ output.old) ⊎ MayFollowList f) }
-    ensures writes { OfList (WritesList (D.remaining (device_of reader.old)) (D.remaining (device_of reader.new)))
-        (LeavesUnread (D.remaining (device_of reader.old)) (D.remaining (device_of reader.new))) result }
-    ensures reader_mark { OfList (λ listed. has_failed reader.new ≡ (has_failed reader.old || is_read_fault listed))
-        (λ _. has_failed reader.new ≡ has_failed reader.old) result }
-    ensures writer_mark { OfList (λ listed. has_failed output.new ≡ (has_failed output.old || is_write_fault listed))
-        (λ _. has_failed output.new ≡ has_failed output.old) result }
-{
-    let log = match read_log(alloc, reader) {
-        Ok(log) => log,
-        Err(fault) => return Err(Failure::List(fault)),
-    };
-    let source = match Source::open(log, Reading::ALL) {
-        Ok(source) => source,
-        Err(fault) => return Err(Failure::Unread(fault)),
-    };
-    let style = Style {
-        form: task.form,
-        zone: task.zone.time_zone(),
-        gtids: false,
-    };
-    match list(rt.alloc(), alloc, &source, &task.wanted, &style, output) {
-        Ok(None) => Ok(()),
-        Ok(Some(fault)) => Err(Failure::EndsEarly(fault)),
-        Err(fault) => Err(Failure::List(fault)),
     }
 }

@@ -4,6 +4,8 @@
 mod arguments;
 mod commands;
 mod lines;
+mod list_arguments;
+mod list_runs;
 mod log_file;
 mod options;
 #[cfg(test)]

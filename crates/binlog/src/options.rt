@@ -1,6 +1,6 @@
 //! Every option that the program knows, and the help.
 
-use clap::{Arg, Command};
+use clap::{Arg, ArgAction, Command};
 use console::{VERSION, flag, option};
 use std::alloc::{AllocError, Global};
 
@@ -14,6 +14,14 @@ pub const SPLIT: &str = "split";
 pub const DATABASE: &str = "database";
 /// The name of `-T`.
 pub const TABLE: &str = "table";
+/// The name of `--exclude-table`.
+pub const EXCLUDED_TABLE: &str = "exclude-table";
+/// The name of `--thread`.
+pub const THREAD: &str = "thread";
+/// The name of `--gtid`.
+pub const GTID: &str = "gtid";
+/// The name of `--skip-damaged`.
+pub const SKIP_DAMAGED: &str = "skip-damaged";
 /// The name of `-j`.
 pub const START: &str = "start-position";
 /// The name of `--stop-position`.
@@ -90,16 +98,17 @@ Exit status: 0 done, 1 the log is refused or something failed, 2 the arguments a
 
 const LIST_ABOUT: &str = "\
 Lists the units of LOG: its transactions, and what stands between them and can't be undone.
-A line says where a unit starts and stops, its local time, its GTID if it has one, and how many
-rows of each table it changes, or why it can't be undone. The heading names the time zone.
+A line says where a unit starts and stops, its local time, the thread of the connection that wrote it,
+and how many rows of each table it changes, or why it can't be undone. The heading names the time zone.
 The last line counts units, those that can't be undone, and the rows of the others.
 Each checksum of LOG is checked, if it has checksums. Positions are those of LOG, as mysqlbinlog shows them.
 flashback -B -j START --stop-position STOP undoes a unit, or more of them in a row. It takes no log with
 checksums: list the plain log of binlog plain for it, whose positions are its own.";
 
 const LIST_USAGE: &str = "\
-binlog list [-d NAME] [-T NAME] [-j POS] [--stop-position POS] [--start-datetime TIME]
-                   [--stop-datetime TIME] [--utc | --time-zone NAME] [--json] LOG";
+binlog list [-d NAME] [-T [NAME.]NAME].. [--exclude-table [NAME.]NAME].. [--thread N]..
+                   [-j POS] [--stop-position POS] [--start-datetime TIME] [--stop-datetime TIME]
+                   [--utc | --time-zone NAME] [--gtid] [--skip-damaged] [--json] LOG";
 
 const LIST_AFTER_HELP: &str = "\
 Positions are bytes from the start of the file, decimal, 0 to 4294967295.
@@ -107,8 +116,8 @@ Times, printed and given, are local: those of this machine's time zone, which is
 /etc/localtime; or of the one that you give by --utc or --time-zone. If this machine's zone isn't
 found, they are in UTC. When clocks are set back, they show an hour twice: a TIME in it is the
 earlier one for --start-datetime, and the later one for --stop-datetime.
-Names are compared byte by byte. With -d or -T units that can't be undone are listed too,
-since what they change isn't known.
+Names are compared byte by byte. With -d or -T units that can't be undone are listed too, since what
+they change isn't known, but for statements that name no chosen table, such as ALTER TABLE of another.
 
 Examples:
   binlog list plain.000042
@@ -116,6 +125,10 @@ Examples:
   binlog list -d shop -T orders plain.000042
       those that change one table, with the other tables that they change;
       -d is the same as --database, -T the same as --table
+  binlog list -T shop.orders -T shop.items --exclude-table tmp plain.000042
+      those that change one of two tables
+  binlog list --thread 7 plain.000042
+      those of one connection of a client
   binlog list -j 4021 plain.000042
       those that start at 4021 or later; -j is the same as --start-position
   binlog list --stop-position 9144 plain.000042
@@ -126,6 +139,10 @@ Examples:
       those before this time
   binlog list --utc plain.000042
       times in UTC
+  binlog list --gtid plain.000042
+      with their GTIDs
+  binlog list --skip-damaged plain.000042
+      go on after an event whose checksum is wrong
   binlog list --json plain.000042
       an object of JSON for each, on a line of its own, and one for the totals
 
@@ -221,26 +238,42 @@ fn list_arguments<'a>(alloc: Global) -> Result<Command<'a>, AllocError> {
         .about(LIST_ABOUT)
         .override_usage(LIST_USAGE)
         .after_help(LIST_AFTER_HELP);
-    let database = option(alloc, DATABASE, "NAME").help(
-        "Only the units that change a table of this database",
-    );
-    let table = option(alloc, TABLE, "NAME").help(
-        "Only the units that change a table of this name",
-    );
+    let gtid = flag(alloc, GTID).help("Print GTIDs too");
+    let damaged = flag(alloc, SKIP_DAMAGED).help("Go on after an event whose checksum is wrong");
     let utc = flag(alloc, UTC).help("Read and print times in UTC");
     let zone = option(alloc, TIME_ZONE, "NAME").help(
         "Read and print times in this time zone, such as Europe/Berlin",
     );
     let json = flag(alloc, JSON).help("Write JSON, an object a line");
-    let log = Arg::new(alloc, LOG).help("The binary log, a file without checksums");
-    range_arguments(
-        alloc,
-        command.arg(database.short('d'))?.arg(table.short('T'))?,
-    )?
-    .arg(utc)?
-    .arg(zone.conflicts_with(UTC)?)?
-    .arg(json)?
-    .arg(log.required(true))
+    let log = Arg::new(alloc, LOG).help("The binary log, a file");
+    range_arguments(alloc, table_arguments(alloc, command)?)?
+        .arg(gtid)?
+        .arg(damaged)?
+        .arg(utc)?
+        .arg(zone.conflicts_with(UTC)?)?
+        .arg(json)?
+        .arg(log.required(true))
+}
+
+/// Adds the options that choose tables and threads.
+fn table_arguments<'a>(alloc: Global, command: Command<'a>) -> Result<Command<'a>, AllocError> {
+    let database = option(alloc, DATABASE, "NAME").help(
+        "Only the transactions that change a table of this database",
+    );
+    let table = option(alloc, TABLE, "[NAME.]NAME").help(
+        "Only those that change this table; can be given several times",
+    );
+    let excluded = option(alloc, EXCLUDED_TABLE, "[NAME.]NAME").help(
+        "Don't count this table; can be given several times",
+    );
+    let thread = option(alloc, THREAD, "N").help(
+        "Only those of this thread of the server; can be given several times",
+    );
+    command
+        .arg(database.short('d'))?
+        .arg(table.short('T').action(ArgAction::Append))?
+        .arg(excluded.action(ArgAction::Append))?
+        .arg(thread.action(ArgAction::Append))
 }
 
 /// Adds the options that bound positions and times.

@@ -5,7 +5,7 @@ use Rattle.std.specs.List.{list_any}
 use Rattle.std.proofs.lemmas.Bool.{cond-true, cond-false}
 use Rattle.blog_units.specs.Units.{Facts}
 use Rattle.blog_list.specs.Shown.{is_open, last_whole}
-use Rattle.blog_list.specs.code.Wanted.{is_before}
+use Rattle.blog_request.specs.Wanted.{is_before}
 
 -- the last of these units is whole, or, where there is none, this
 abbrev whole_behind : Bool → List Facts → Bool

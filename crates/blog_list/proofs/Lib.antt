@@ -1,4 +1,3 @@
-mod Asking
 mod Ending
 mod Growing
 mod Marking

@@ -20,7 +20,7 @@ use Rattle.blog_units.specs.declared.unit.Unit.{Unit}
 use Rattle.blog_units.specs.code.UnitsView.{AreGroups, IsJudged, facts_told}
 use Rattle.blog_list.specs.declared.column.TimeColumn.{TimeColumn}
 use Rattle.blog_list.specs.declared.totals.Totals.{Totals}
-use Rattle.blog_list.specs.declared.wanted.Wanted.{Wanted}
+use Rattle.blog_request.specs.declared.wanted.Wanted.{Wanted}
 use Rattle.blog_list.specs.Columns.{IsHeading}
 use Rattle.blog_list.specs.Lines.{Refusal, Shown, all_refused, all_rows, at_most, header, rows_of, rows_shown, totals_line}
 use Rattle.blog_list.specs.Shown.{changes_in, changes_of, changes_shown, rows_or, shown, shown_with, wanted_of}
@@ -28,7 +28,7 @@ use Rattle.blog_list.specs.Texts.{AppendsList, AppendsListBeginning, AreLines, I
 use Rattle.blog_list.specs.code.Held.{HasWritten, has_no_memory}
 use Rattle.blog_list.specs.code.Told.{PutsLine, shown_told}
 use Rattle.blog_list.specs.code.Totals.{HasCounted, totals_text}
-use Rattle.blog_list.specs.code.Wanted.{changes_told, is_before, is_wanted_unit}
+use Rattle.blog_request.specs.Wanted.{changes_told, is_before, is_wanted_unit}
 
 -- ---- one unit more
 
@@ -225,10 +225,10 @@ listing-end-broken sheet all later had has now held totals list none (front, res
 
 -- the first one that is left is wanted
 abbrev is_one_of : Wanted → List ℕ → Facts → Bool
-is_one_of w log u = is_wanted_unit w u (changes_of log u)
+is_one_of w log u = is_wanted_unit w log u (changes_of log u)
 
 wanted-first : (w : Wanted) (log : List ℕ) (place : ℕ → ℕ) (u : Facts) (left rest : List Facts) (s : Shown) → left ≡ u ∷ rest → s ≡ shown log place u
-    → is_before u.start w.stop ≡ true → is_wanted_unit w u (changes_of log u) ≡ true → listed_of w log place left ≡ s ∷ listed_of w log place rest
+    → is_before u.start w.stop ≡ true → is_wanted_unit w log u (changes_of log u) ≡ true → listed_of w log place left ≡ s ∷ listed_of w log place rest
 wanted-first w log place u left rest s first is before wanted =
     ap (listed_of w log place) first
     ∙ ap (λ (us : List Facts). map (shown log place) (filter (is_one_of w log) us)) (cond-true _ _ _ before)
@@ -236,7 +236,7 @@ wanted-first w log place u left rest s first is before wanted =
     ∙ ap (λ (x : Shown). x ∷ listed_of w log place rest) (sym is)
 
 unwanted-first : (w : Wanted) (log : List ℕ) (place : ℕ → ℕ) (u : Facts) (left rest : List Facts) → left ≡ u ∷ rest
-    → is_before u.start w.stop ≡ true → is_wanted_unit w u (changes_of log u) ≡ false → listed_of w log place left ≡ listed_of w log place rest
+    → is_before u.start w.stop ≡ true → is_wanted_unit w log u (changes_of log u) ≡ false → listed_of w log place left ≡ listed_of w log place rest
 unwanted-first w log place u left rest first before wanted =
     ap (listed_of w log place) first
     ∙ ap (λ (us : List Facts). map (shown log place) (filter (is_one_of w log) us)) (cond-true _ _ _ before)
@@ -280,11 +280,11 @@ sheet_of zone gtids column = record { zone = zone; gtids = gtids; heading = stri
 pub listing-wanted : {A B : Type 0} (zone : TimeZone) (gtids : Bool) (column : TimeColumn B) (w : Wanted) (log : List ℕ) (place : ℕ → ℕ) (all : List Shown) (left rest : List Facts)
     → (had has : Option (List ℕ)) (held more : List ℕ) (old new : Totals) (unit : Unit A) → IsListing (sheet_of zone gtids column) all (listed_of w log place left) had has held old
     → left ≡ facts_told unit ∷ rest → changes_told unit.groups ≡ changes_of log (facts_told unit) → is_before unit.start w.stop ≡ true
-    → is_wanted_unit w (facts_told unit) (changes_told unit.groups) ≡ true → HasCounted old new (changes_told unit.groups) → plain_zone column.zone ≡ zone
+    → is_wanted_unit w log (facts_told unit) (changes_told unit.groups) ≡ true → HasCounted old new (changes_told unit.groups) → plain_zone column.zone ≡ zone
     → PutsLine column gtids (shown_told log place unit) held more → IsListing (sheet_of zone gtids column) all (listed_of w log place rest) had has more new
 listing-wanted zone gtids column w log place all left rest had has held more old new unit list first same before wanted counts of (line, is, grown) =
     let s : Shown = shown_told log place unit in
-    let chosen = wanted-first w log place (facts_told unit) left rest s first (told-is-shown log place unit same) before (ap (is_wanted_unit w (facts_told unit)) (sym same) ∙ wanted) in
+    let chosen = wanted-first w log place (facts_told unit) left rest s first (told-is-shown log place unit same) before (ap (is_wanted_unit w log (facts_told unit)) (sym same) ∙ wanted) in
     let shows : IsLine zone gtids (length (string_bytes column.heading)) s line = subst (λ (z : TimeZone). IsLine z gtids (length (string_bytes column.heading)) s line) of is in
     listing-more (sheet_of zone gtids column) all (listed_of w log place left) (listed_of w log place rest) had has held more line old new s list chosen shows grown
     (λ done counted. counted-more log place unit.stop old new done s (changes_told unit.groups) refl counted counts)
@@ -293,7 +293,7 @@ listing-wanted zone gtids column w log place all left rest had has held more old
 pub listing-unwanted : {A : Type 0} (sheet : Sheet) (w : Wanted) (log : List ℕ) (place : ℕ → ℕ) (all : List Shown) (left rest : List Facts)
     → (had has : Option (List ℕ)) (held : List ℕ) (totals : Totals) (unit : Unit A) → IsListing sheet all (listed_of w log place left) had has held totals
     → left ≡ facts_told unit ∷ rest → changes_told unit.groups ≡ changes_of log (facts_told unit) → is_before unit.start w.stop ≡ true
-    → is_wanted_unit w (facts_told unit) (changes_told unit.groups) ≡ false → IsListing sheet all (listed_of w log place rest) had has held totals
+    → is_wanted_unit w log (facts_told unit) (changes_told unit.groups) ≡ false → IsListing sheet all (listed_of w log place rest) had has held totals
 listing-unwanted sheet w log place all left rest had has held totals unit list first same before wanted =
     listing-same sheet all (listed_of w log place left) (listed_of w log place rest) had has held totals list
-    (unwanted-first w log place (facts_told unit) left rest first before (ap (is_wanted_unit w (facts_told unit)) (sym same) ∙ wanted))
+    (unwanted-first w log place (facts_told unit) left rest first before (ap (is_wanted_unit w log (facts_told unit)) (sym same) ∙ wanted))

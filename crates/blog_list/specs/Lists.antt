@@ -6,7 +6,7 @@ use Rattle.blog_device.specs.declared.fault.RunFault.{RunFault}
 use Rattle.blog_device.specs.declared.fault.RunFault.TheVariants.{Log, Read, Write}
 use Rattle.blog_sum.specs.declared.fault.SumFault.{SumFault}
 use Rattle.blog_sum.specs.declared.fault.SumFault.TheVariants as sums
-use Rattle.blog_list.specs.code.Wanted.{is_before}
+use Rattle.blog_request.specs.Wanted.{is_before}
 
 -- they are a log, and all is written, or a write failed; or they can't be opened, or memory was refused
 abbrev pub Lists : {X : Type 0} → List ℕ → Result X RunFault → Type 0

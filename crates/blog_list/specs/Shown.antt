@@ -11,8 +11,8 @@ use Rattle.blog_trans.specs.Changes.{TableCount, counts_of}
 use Rattle.blog_trans.specs.Groups.{groups}
 use Rattle.blog_trans.specs.Selection.{Selection}
 use Rattle.blog_units.specs.Units.{Facts, between, facts_of, units}
-use Rattle.blog_list.specs.declared.wanted.Wanted.{Wanted}
-use Rattle.blog_list.specs.code.Wanted.{is_before, is_wanted_unit}
+use Rattle.blog_request.specs.declared.wanted.Wanted.{Wanted}
+use Rattle.blog_request.specs.Wanted.{is_before, is_wanted_unit}
 use Rattle.blog_list.specs.Lines.{Refusal, Shown}
 
 -- ---- what is shown
@@ -89,7 +89,7 @@ in_front stop (u ∷ us) = if is_before u.start stop then u ∷ in_front stop us
 
 -- those that are wanted
 abbrev pub wanted_of : Wanted → List ℕ → List Facts → List Facts
-wanted_of w log us = filter (λ u. is_wanted_unit w u (changes_of log u)) (in_front w.stop us)
+wanted_of w log us = filter (λ u. is_wanted_unit w log u (changes_of log u)) (in_front w.stop us)
 
 -- the units of a log that are wanted, as they are shown
 abbrev pub wanted_shown : Wanted → List ℕ → (ℕ → ℕ) → List Shown

@@ -3,4 +3,3 @@ pub mod Held
 pub mod MarksView
 pub mod Told
 pub mod Totals
-pub mod Wanted

@@ -15,9 +15,7 @@ mod places;
 mod texts;
 mod times;
 mod totals;
-mod wanted;
 
 pub use laws::short_texts_are_whole;
 pub use listing::{Form, Style, list};
 pub use times::{Side, TimeFault, rfc_3339_text, seconds_of, time_text};
-pub use wanted::Wanted;

@@ -11,7 +11,7 @@ ghost use Rattle.blog_units.specs.code.UnitsView.{id_told};
 ghost use Rattle.blog_list.specs.Lines.{changes_text, count_text, counts_text, fault_text, header, id_column, id_text, is_unknown, next_count, padded, positions_text, refusal_text, rest_text, rows_text, tag_text, thread_text, unit_line};
 ghost use Rattle.blog_list.specs.Shown.{changes_shown, refusal_of};
 ghost use Rattle.blog_list.specs.code.Told.{PutsLine, shown_told, source_place};
-ghost use Rattle.blog_list.specs.code.Wanted.{changes_told};
+ghost use Rattle.blog_request.specs.Wanted.{changes_told};
 
 use crate::column::TimeColumn;
 use crate::escapes::{put_beginning, put_escaped, put_table};

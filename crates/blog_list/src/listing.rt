@@ -22,7 +22,7 @@ ghost use Rattle.blog_list.specs.code.Totals.{totals_text};
 use crate::column::TimeColumn;
 use crate::places::wanted_inside;
 use crate::totals::Totals;
-use crate::wanted::{Wanted, is_before};
+use blog_request::{Wanted, is_before};
 use crate::{json, lines, totals};
 use blog_device::{RunFault, Watched, put, put_part};
 use blog_event::{Fault, Log};
@@ -124,7 +124,7 @@ fn list_units<A: Allocator + Copy, O: Write>(
             return Err(RunFault::Log(Fault::OutOfMemory));
         }
         whole = unit.whole;
-        if wanted.has(&unit) {
+        if wanted.has(log, &unit) {
             totals.add(&unit);
             put_unit(global, &mut text, &times, style, source, log, &unit)?;
             write_full(&mut text, writer)?;

@@ -6,7 +6,7 @@ ghost use Rattle.blog_trans.specs.Groups.{groups};
 ghost use Rattle.blog_trans.specs.code.IndexView.{index_bytes, index_selection};
 ghost use Rattle.blog_list.specs.Lines.{at_most, numbered, rows_of};
 ghost use Rattle.blog_list.specs.code.Totals.{HasCounted, totals_text};
-ghost use Rattle.blog_list.specs.code.Wanted.{changes_told};
+ghost use Rattle.blog_request.specs.Wanted.{changes_told};
 
 use crate::texts::{put_number, put_text};
 use blog_trans::Index;

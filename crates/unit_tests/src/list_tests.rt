@@ -5,7 +5,9 @@ use crate::parts::{MAP, ONE, PAYLOAD, ROLLBACK, TAGGED, event_of};
 use crate::sources::source_of;
 use blog_device::Watched;
 use blog_event::Fault;
-use blog_list::{Style, Wanted, list};
+use blog_choice::TableName;
+use blog_list::{Style, list};
+use blog_request::Wanted;
 use blog_sum::SumFault;
 use sample_logs::builder::{
     BEGIN, DROP_TABLE, GTID, PREVIOUS_GTIDS, Part, ROTATE, XID, build, map_of,
@@ -222,17 +224,31 @@ const ALL_LINES: &[usize] = &[0, 1, 2, 3, 4, 5, 6];
 
 #[test]
 fn names_choose_units(rt: HostRuntime) -> Result<(), Fail> {
-    let all = ALL;
     let last = "units 7, not undoable 3, rows 5\n";
-    check_shop(&rt, &all, ALL_LINES, last)?;
-    let database = Some(b"shop".as_slice());
-    check_shop(&rt, &Wanted { database, ..all }, ALL_LINES, last)?;
-    let table = Some(b"items".as_slice());
+    check_shop(&rt, &ALL, ALL_LINES, last)?;
+    check_shop(&rt, &of_database(b"shop"), ALL_LINES, last)?;
+    let last = "units 1, not undoable 1, rows 0\n";
+    check_shop(&rt, &of_database(b"items"), &[1], last)?;
+    // statements about other tables are passed over
+    let items = [TableName::read(b"items")];
+    let last = "units 3, not undoable 1, rows 3\n";
+    check_shop(&rt, &of_tables(&items, &[]), &[1, 2, 5], last)?;
+    let both = [TableName::read(b"shop.items"), TableName::read(b"t2")];
     let last = "units 5, not undoable 3, rows 3\n";
-    check_shop(&rt, &Wanted { table, ..all }, &[1, 2, 4, 5, 6], last)?;
-    let database = Some(b"items".as_slice());
-    let last = "units 3, not undoable 3, rows 0\n";
-    check_shop(&rt, &Wanted { database, ..all }, &[1, 4, 6], last)
+    check_shop(&rt, &of_tables(&both, &[]), &[1, 2, 4, 5, 6], last)?;
+    let elsewhere = [TableName::read(b"other.orders")];
+    let last = "units 0, not undoable 0, rows 0\n";
+    check_shop(&rt, &of_tables(&elsewhere, &[]), &[], last)?;
+    let last = "units 5, not undoable 3, rows 2\n";
+    check_shop(&rt, &of_tables(&[], &items), &[0, 1, 3, 4, 6], last)
+}
+
+#[test]
+fn threads_choose_units(rt: HostRuntime) -> Result<(), Fail> {
+    let last = "units 4, not undoable 0, rows 5\n";
+    check_shop(&rt, &Wanted { threads: &[3, 16], ..ALL }, &[0, 2, 3, 5], last)?;
+    let last = "units 0, not undoable 0, rows 0\n";
+    check_shop(&rt, &Wanted { threads: &[17], ..ALL }, &[], last)
 }
 
 #[test]

@@ -1,6 +1,8 @@
 //! How the lists of these tests are asked for.
 
-use blog_list::{Form, Style, Wanted};
+use blog_choice::{TableChoice, TableName};
+use blog_list::{Form, Style};
+use blog_request::Wanted;
 use jiff::tz::TimeZone;
 
 /// All units are wanted.
@@ -9,9 +11,36 @@ pub const ALL: Wanted<'static> = Wanted {
     stop: None,
     from_time: None,
     to_time: None,
-    database: None,
-    table: None,
+    threads: &[],
+    choice: TableChoice {
+        database: None,
+        tables: &[],
+        excluded: &[],
+    },
 };
+
+/// The units of these tables of any database, without others.
+pub fn of_tables<'c>(tables: &'c [TableName<'c>], excluded: &'c [TableName<'c>]) -> Wanted<'c> {
+    Wanted {
+        start: None,
+        stop: None,
+        from_time: None,
+        to_time: None,
+        threads: &[],
+        choice: TableChoice {
+            database: None,
+            tables,
+            excluded,
+        },
+    }
+}
+
+/// The units of a database.
+pub fn of_database<'c>(name: &'c [u8]) -> Wanted<'c> {
+    let mut wanted = of_tables(&[], &[]);
+    wanted.choice.database = Some(name);
+    wanted
+}
 
 /// As text, with times in UTC and without global transaction ids.
 pub const TEXT: Style<'static> = Style {

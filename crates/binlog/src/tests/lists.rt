@@ -8,11 +8,13 @@ use std::process::{Abort, ExitCode};
 use std::test::Fail;
 use testkit::runs::Outcome;
 
-const HEADER: &str = "     start       stop  time (UTC)           rows\n";
+const HEADER: &str = "     start       stop  time (UTC)               thread  rows\n";
 
-const INSERT: &str = "       120        259  1970-01-01 00:00:00  `d`.`t` inserts 1\n";
+const INSERT: &str =
+    "       120        259  1970-01-01 00:00:00           0  `d`.`t` inserts 1\n";
 
-const DROP: &str = "       259        305  1970-01-01 00:00:00  Statement at 259: DROP TABLE t\n";
+const DROP: &str =
+    "       259        305  1970-01-01 00:00:00              Statement at 259: DROP TABLE t\n";
 
 /// Whether the run listed these lines and the last one below the header, and printed nothing.
 fn lists(rt: &HostRuntime, arguments: &[&str], lines: &[&str]) -> Result<(), Fail> {
@@ -69,7 +71,7 @@ fn a_time_zone_is_asked_for(rt: HostRuntime) -> Result<(), Fail> {
 #[test]
 fn units_are_listed_as_json(rt: HostRuntime) -> Result<(), Fail> {
     let text =
-        b"{\"start\":259,\"stop\":305,\"time\":\"1970-01-01T00:00:00+00:00\",\"timestamp\":0,\"gtid\":null,\"fault\":\"Statement\",\"position\":259,\"statement\":\"DROP TABLE t\"}
+        b"{\"start\":259,\"stop\":305,\"time\":\"1970-01-01T00:00:00+00:00\",\"timestamp\":0,\"thread\":null,\"gtid\":null,\"fault\":\"Statement\",\"position\":259,\"statement\":\"DROP TABLE t\"}
 {\"units\":1,\"not_undoable\":1,\"rows\":0}
 ";
     let arguments = ["list", "--utc", "--json", "-j", "121"];
@@ -126,7 +128,7 @@ fn a_log_with_checksums_is_listed(rt: HostRuntime) -> Result<(), Fail> {
         &["list", "--utc", "-j", "1215"],
     )?;
     let line =
-        "      1215       1528  2026-11-21 02:03:00  283c105d-e730-11f1-97ff-02fc00000001:7  `shop`.`orders` updates 1\n";
+        "      1215       1528  2026-11-21 02:03:00          13  `shop`.`orders` updates 1\n";
     let text = format!(in rt.alloc(); "{HEADER}{line}units 1, not undoable 0, rows 1\n")?;
     assert!(rt; outcome.is_done(text.as_bytes()));
     let mut damaged = CLOSED;

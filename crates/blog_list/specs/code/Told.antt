@@ -9,12 +9,12 @@ use Rattle.blog_units.specs.Units.{facts_of, units}
 use Rattle.blog_units.specs.declared.unit.Unit.{Unit}
 use Rattle.blog_units.specs.code.UnitsView.{facts_told}
 use Rattle.blog_list.specs.declared.column.TimeColumn.{TimeColumn}
-use Rattle.blog_list.specs.declared.wanted.Wanted.{Wanted}
+use Rattle.blog_request.specs.declared.wanted.Wanted.{Wanted}
 use Rattle.blog_list.specs.Lines.{Shown}
 use Rattle.blog_list.specs.Lists.{list_end}
 use Rattle.blog_list.specs.Shown.{last_whole, shown_with, wanted_shown}
 use Rattle.blog_list.specs.Texts.{IsLine}
-use Rattle.blog_list.specs.code.Wanted.{changes_told}
+use Rattle.blog_request.specs.Wanted.{changes_told}
 
 -- the place in a server's log of a position in the log of a source
 abbrev pub source_place : {A : Type 0} → Source A → ℕ → ℕ

@@ -2,7 +2,7 @@ use Rattle.std.proofs.Common.{List, ℕ, ap₂, subst, ◌∙◌}
 use Rattle.std.proofs.lemmas.Result.{err_from_is_err_and}
 use Rattle.jiff.specs.Words.{plain_zone}
 use Rattle.blog_device.specs.Watched.{device_of}
-use Rattle.blog_list.specs.declared.wanted.Wanted.{Wanted}
+use Rattle.blog_request.specs.declared.wanted.Wanted.{Wanted}
 use Rattle.blog_list.specs.Lines.{Shown}
 use Rattle.blog_list.specs.Shown.{wanted_shown}
 use Rattle.blog_list.specs.Texts.{AppendsList, AppendsListBeginning}
