@@ -1,11 +1,11 @@
 //! Lists of the units of logs, as text and as JSON.
 
-use crate::lists::{ALL, TEXT};
+use crate::lists::{ALL, TEXT, of_database, of_tables};
 use crate::parts::{MAP, ONE, PAYLOAD, ROLLBACK, TAGGED, event_of};
 use crate::sources::source_of;
+use blog_choice::TableName;
 use blog_device::Watched;
 use blog_event::Fault;
-use blog_choice::TableName;
 use blog_list::{Style, list};
 use blog_request::Wanted;
 use blog_sum::SumFault;
@@ -14,7 +14,7 @@ use sample_logs::builder::{
 };
 use sample_logs::samples::{ALTER_BETWEEN, INSERT, MULTI_TABLE, SAVEPOINT_KEPT, UPDATE};
 use sample_logs::summed::{CLOSED, CLOSED_PLAIN, IN_USE, IN_USE_PLAIN};
-use sample_logs::tagged::TAGGED;
+use sample_logs::tagged;
 use std::process::Abort;
 use std::test::Fail;
 
@@ -153,11 +153,10 @@ units 1, not undoable 1, rows 0
 
 #[test]
 fn a_transaction_with_a_tagged_gtid_is_a_unit(rt: HostRuntime) -> Result<(), Fail> {
-    let lines =
-        "       198        464  2026-11-26 00:52:14  9dc90577-e933-11f1-9db2-02fc00000001:1  `d`.`t` inserts 1
+    let lines = "       198        464  2026-11-26 00:52:14          18  `d`.`t` inserts 1
 units 1, not undoable 0, rows 1
 ";
-    check_all(&rt, &TAGGED, lines)
+    check_all(&rt, &tagged::TAGGED, lines)
 }
 
 #[test]
@@ -246,9 +245,25 @@ fn names_choose_units(rt: HostRuntime) -> Result<(), Fail> {
 #[test]
 fn threads_choose_units(rt: HostRuntime) -> Result<(), Fail> {
     let last = "units 4, not undoable 0, rows 5\n";
-    check_shop(&rt, &Wanted { threads: &[3, 16], ..ALL }, &[0, 2, 3, 5], last)?;
+    check_shop(
+        &rt,
+        &Wanted {
+            threads: &[3, 16],
+            ..ALL
+        },
+        &[0, 2, 3, 5],
+        last,
+    )?;
     let last = "units 0, not undoable 0, rows 0\n";
-    check_shop(&rt, &Wanted { threads: &[17], ..ALL }, &[], last)
+    check_shop(
+        &rt,
+        &Wanted {
+            threads: &[17],
+            ..ALL
+        },
+        &[],
+        last,
+    )
 }
 
 #[test]
