@@ -36,6 +36,10 @@ use Rattle.blog_trans.specs.Selection.{all}
 use Rattle.blog_trans.specs.Acceptance.{IsRefusal, fault}
 use Rattle.blog_trans.specs.Groups.{Transaction}
 
+-- a log is read to its end
+abbrev pub whole : Reading
+whole = record { stop = None; skip_damaged = false }
+
 -- this log was read, and it isn't whole: memory was refused, or this is its first fault
 abbrev pub RefusesSums : Option (List ℕ) → Option (List ℕ) → SumFault → Type 0
 RefusesSums old new fault = (fault ≡ OutOfMemory) ⊎ ((log : List ℕ) × ReadsLog old new log × (sum_fault log ≡ Some fault))
@@ -124,10 +128,6 @@ is_failed_write (Err (Cut fault)) = false
 abbrev pub may_list : {A B E : Type 0} → Result (Vec (String A) B) E → Bool
 may_list (Ok arguments) = asks_for_list arguments.items
 may_list (Err error) = false
-
--- a log is read to its end
-abbrev pub whole : Reading
-whole = record { stop = None; skip_damaged = false }
 
 -- what comes of reading a log for its list: its front was read; or it can't be held, what is handed out for it can't be opened,
 -- or a read or a write failed

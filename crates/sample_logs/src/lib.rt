@@ -8,5 +8,4 @@ pub mod printed_logs;
 pub mod samples;
 pub mod small;
 pub mod summed;
-pub mod tagged;
 pub mod undone;
