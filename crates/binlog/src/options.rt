@@ -127,7 +127,7 @@ Examples:
       -d is the same as --database, -T the same as --table
   binlog list -T shop.orders -T shop.items --exclude-table tmp plain.000042
       those that change one of two tables
-  binlog list --thread 7 plain.000042
+  binlog list --thread 13 plain.000042
       those of one connection of a client
   binlog list -j 4021 plain.000042
       those that start at 4021 or later; -j is the same as --start-position
