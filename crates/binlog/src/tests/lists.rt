@@ -35,12 +35,13 @@ fn units_are_listed(rt: HostRuntime) -> Result<(), Fail> {
     let all = [INSERT, DROP, "units 2, not undoable 1, rows 1\n"];
     let insert = [INSERT, "units 1, not undoable 0, rows 1\n"];
     let drop = [DROP, "units 1, not undoable 1, rows 0\n"];
+    let last = ["units 0, not undoable 0, rows 0\n"];
     lists(&rt, &["list", "--utc"], &all)?;
     lists(&rt, &["list", "--utc", "-d", "d", "-T", "t"], &all)?;
     lists(
         &rt,
         &["list", "--utc", "--database", "d", "--table", "u"],
-        &drop,
+        &last,
     )?;
     lists(&rt, &["list", "--utc", "-j", "121"], &drop)?;
     lists(&rt, &["list", "--utc", "--start-position", "120"], &all)?;
@@ -50,12 +51,66 @@ fn units_are_listed(rt: HostRuntime) -> Result<(), Fail> {
         &["list", "--utc", "--start-datetime", "1970-01-01 00:00:00"],
         &all,
     )?;
-    let last = ["units 0, not undoable 0, rows 0\n"];
     lists(
         &rt,
         &["list", "--utc", "--stop-datetime", "1970-01-01 00:00:00"],
         &last,
     )
+}
+
+#[test]
+fn tables_and_threads_choose_units(rt: HostRuntime) -> Result<(), Fail> {
+    let all = [INSERT, DROP, "units 2, not undoable 1, rows 1\n"];
+    let insert = [INSERT, "units 1, not undoable 0, rows 1\n"];
+    let drop = [DROP, "units 1, not undoable 1, rows 0\n"];
+    let none = ["units 0, not undoable 0, rows 0\n"];
+    lists(&rt, &["list", "--utc", "-T", "u", "-T", "d.t"], &all)?;
+    lists(&rt, &["list", "--utc", "-T", "other.t"], &drop)?;
+    lists(&rt, &["list", "--utc", "--exclude-table", "d.t"], &drop)?;
+    lists(&rt, &["list", "--utc", "--thread", "0"], &insert)?;
+    lists(&rt, &["list", "--utc", "--thread", "7", "--thread", "0"], &insert)?;
+    lists(&rt, &["list", "--utc", "--thread", "7"], &none)
+}
+
+/// The list of `CLOSED` with GTIDs.
+const WITH_GTIDS: &str = "     start       stop  time (UTC)               thread  gtid  rows
+       198        512  2026-11-21 02:00:00          13  283c105d-e730-11f1-97ff-02fc00000001:4  `shop`.`orders` inserts 3
+       512        811  2026-11-21 02:01:00          13  283c105d-e730-11f1-97ff-02fc00000001:5  `shop`.`items` inserts 2
+       811       1215  2026-11-21 02:02:00          13  283c105d-e730-11f1-97ff-02fc00000001:6  `shop`.`orders` deletes 2; `shop`.`items` deletes 1
+      1215       1528  2026-11-21 02:03:00          13  283c105d-e730-11f1-97ff-02fc00000001:7  `shop`.`orders` updates 1
+units 4, not undoable 0, rows 9
+";
+
+/// The list of `CLOSED` with a damaged rows event that is passed over.
+const WITHOUT_DAMAGED: &str = "     start       stop  time (UTC)               thread  rows
+       198        512  2026-11-21 02:00:00          13  `shop`.`orders` inserts 3
+       512        811  2026-11-21 02:01:00          13  `shop`.`items` inserts 2
+       811       1215  2026-11-21 02:02:00          13  `shop`.`items` deletes 1
+      1215       1528  2026-11-21 02:03:00          13  `shop`.`orders` updates 1
+units 4, not undoable 0, rows 7
+damaged events passed over 1
+";
+
+#[test]
+fn gtids_are_listed_if_asked_for(rt: HostRuntime) -> Result<(), Fail> {
+    let arguments = ["list", "--utc", "--gtid"];
+    let outcome = run_log(&rt, "gtids", CLOSED.as_slice(), arguments.as_slice())?;
+    assert!(rt; outcome.is_done(WITH_GTIDS.as_bytes()));
+    Ok(())
+}
+
+#[test]
+fn damaged_events_are_passed_over(rt: HostRuntime) -> Result<(), Fail> {
+    let mut damaged = CLOSED;
+    damaged[1060] ^= 1;
+    let arguments = ["list", "--utc", "--skip-damaged"];
+    let outcome = run_log(&rt, "passed", damaged.as_slice(), arguments.as_slice())?;
+    assert!(rt; outcome.is_done(WITHOUT_DAMAGED.as_bytes()));
+    let arguments = ["list", "--utc", "--skip-damaged", "--json", "-j", "4000"];
+    let outcome = run_log(&rt, "passed", damaged.as_slice(), arguments.as_slice())?;
+    let text = b"{\"units\":0,\"not_undoable\":0,\"rows\":0}\n{\"damaged_events\":1}\n";
+    assert!(rt; outcome.is_done(text.as_slice()));
+    Ok(())
 }
 
 #[test]
@@ -191,6 +246,10 @@ fn wrong_values_end_in_two(rt: HostRuntime) -> Result<(), Fail> {
         (
             ["list", "--stop-position", "4294967296", "a"],
             "error: invalid value '4294967296' for '--stop-position <POS>': not a position: ",
+        ),
+        (
+            ["list", "--thread", "+7", "a"],
+            "error: invalid value '+7' for '--thread <N>': not a thread id: ",
         ),
         (["list", "--force", "-j", "4"], "error: "),
         (
