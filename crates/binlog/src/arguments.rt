@@ -6,10 +6,10 @@ ghost use Rattle.console.specs.Positions.{IsPositionOf};
 ghost use Rattle.binlog.specs.Request.{IsNewLogTask, IsSizeOf, IsRead, RefusesPosition, asks_for_list, is_list};
 ghost use Rattle.binlog.specs.declared.arguments.ArgumentsFault.TheVariants.{OutOfMemory};
 
+use crate::list_arguments::{ListTask, read_list};
 use crate::options::{
     DEFAULT_SIZE, FORCE, LIST, LOG, PLAIN, RESULT_FILE, SIZE, SPLIT, all_arguments,
 };
-use crate::list_arguments::{ListTask, read_list};
 use clap::error::ErrorKind;
 use clap::{ArgMatches, Command, Error};
 use console::{Told, position_of, read_error, wrong_value};

@@ -6,8 +6,8 @@ ghost use Rattle.blog_event.specs.Fault.{name_of, position_of as fault_position}
 ghost use Rattle.blog_source.specs.Places.{position_of};
 ghost use Rattle.blog_source.specs.code.SourceView.{log_of};
 
-use blog_request::Wanted;
 use blog_event::Fault;
+use blog_request::Wanted;
 use blog_source::Source;
 use std::alloc::Allocator;
 

@@ -10,8 +10,7 @@ use testkit::runs::Outcome;
 
 const HEADER: &str = "     start       stop  time (UTC)               thread  rows\n";
 
-const INSERT: &str =
-    "       120        259  1970-01-01 00:00:00           0  `d`.`t` inserts 1\n";
+const INSERT: &str = "       120        259  1970-01-01 00:00:00           0  `d`.`t` inserts 1\n";
 
 const DROP: &str =
     "       259        305  1970-01-01 00:00:00              Statement at 259: DROP TABLE t\n";
@@ -68,7 +67,11 @@ fn tables_and_threads_choose_units(rt: HostRuntime) -> Result<(), Fail> {
     lists(&rt, &["list", "--utc", "-T", "other.t"], &drop)?;
     lists(&rt, &["list", "--utc", "--exclude-table", "d.t"], &drop)?;
     lists(&rt, &["list", "--utc", "--thread", "0"], &insert)?;
-    lists(&rt, &["list", "--utc", "--thread", "7", "--thread", "0"], &insert)?;
+    lists(
+        &rt,
+        &["list", "--utc", "--thread", "7", "--thread", "0"],
+        &insert,
+    )?;
     lists(&rt, &["list", "--utc", "--thread", "7"], &none)
 }
 
