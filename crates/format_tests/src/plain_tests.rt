@@ -9,7 +9,7 @@ use linked_list_allocator::LocalHeap;
 use refusing::Refusing;
 use sample_logs::small::{INSERT_ONE_ROW, PLAIN, SUMMED};
 use sample_logs::summed::{CLOSED, CLOSED_PLAIN, IN_USE, IN_USE_PLAIN};
-use source_logs::tagged::{TAGGED, TAGGED_PLAIN};
+use server_logs::tagged::{TAGGED, TAGGED_PLAIN};
 use std::process::Abort;
 use std::test::Fail;
 

@@ -3,7 +3,7 @@
 use crate::bytes::{joined, part_of, with_bytes};
 use crate::source_calls::{check_read, reached};
 use blog_source::{Reading, plain};
-use source_logs::tagged::{TAGGED, TAGGED_HANDED, TAGGED_PLAIN};
+use server_logs::tagged::{TAGGED, TAGGED_HANDED, TAGGED_PLAIN};
 use std::process::Abort;
 
 /// Where the tagged event begins in the log without checksums.

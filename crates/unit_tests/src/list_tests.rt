@@ -14,7 +14,7 @@ use sample_logs::builder::{
 };
 use sample_logs::samples::{ALTER_BETWEEN, INSERT, MULTI_TABLE, SAVEPOINT_KEPT, UPDATE};
 use sample_logs::summed::{CLOSED, CLOSED_PLAIN, IN_USE, IN_USE_PLAIN};
-use source_logs::tagged;
+use server_logs::tagged;
 use std::process::Abort;
 use std::test::Fail;
 
