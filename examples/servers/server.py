@@ -32,10 +32,12 @@ class Tree:
 
     def make(self):
         """Makes the tree unless it is there. The packages start no service: there is nothing in the tree that could."""
+        if os.geteuid() != 0:
+            raise ServerError("run it as root: servers are started by chroot")
         if self.root.exists():
             return
-        if os.geteuid() != 0 or not shutil.which("debootstrap"):
-            raise ServerError(f"no tree in {self.root}: to make it takes root and Debian's package debootstrap")
+        if not shutil.which("debootstrap"):
+            raise ServerError(f"no tree in {self.root}, and no debootstrap to make it: apt-get install debootstrap")
         part = self.root.with_name(self.root.name + ".part")
         shutil.rmtree(part, ignore_errors=True)
         part.parent.mkdir(parents=True, exist_ok=True)
@@ -66,7 +68,7 @@ Answer = namedtuple("Answer", "status output errors")
 def answer_of(status, output, errors):
     """What a client said. MariaDB's prints the statement at fault before its error: that is left out."""
     lines = errors.decode(errors="replace").strip().splitlines()
-    return Answer(status, output.decode(errors="replace"), "\n".join([line for line in lines if line.startswith("ERROR")] or lines[-3:]))
+    return Answer(status, output.decode(errors="backslashreplace"), "\n".join([line for line in lines if line.startswith("ERROR")] or lines[-3:]))
 
 
 class Server:

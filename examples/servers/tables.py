@@ -74,7 +74,7 @@ def of_structures():
     yield Table(BOTH, "watch", [(word, text)], "", rows=0)
     yield Table(BOTH, "added", [("INT", number)])
     yield Table(BOTH, "big", [(f"MEDIUMTEXT {UTF8}", string(3000, "utf8mb4")), ("LONGBLOB", binary(6000))], options=row_format, rows=BIG_ROWS)
-    # MySQL 9.7 logs a child before its grandchildren, with a flag that MariaDB takes from the first rows event alone
+    # MySQL 9.7 logs some children before their grandchildren, without a check of the key; MariaDB checks it: 1452
     yield Table(MYSQL_ONLY, "grandchildren", [("INT", None), (word, text)],
                 f"PRIMARY KEY (id), FOREIGN KEY (c1) REFERENCES {name_of(BOTH, 'children')} (id) ON DELETE SET NULL ON UPDATE CASCADE")
     yield Table(MYSQL_ONLY, "hidden_key", [("INT", number), (word, text)], "")

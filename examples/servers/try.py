@@ -10,6 +10,9 @@ import signal
 import sys
 import time
 
+# these files are packed as they are, without what Python would write beside them
+sys.dont_write_bytecode = True
+
 from errors_trial import try_errors
 from privileges_trial import try_privileges
 from programs import Programs, Report, warn
@@ -73,7 +76,8 @@ def main():
     except ServerError as cause:
         warn(cause)
         report.failed = True
-    print("", *report.table(), "", sep="\n")
+    if report.servers:
+        print("", *report.table(), "", sep="\n")
     print(f"{report.count()} trials in {time.monotonic() - start:.0f} seconds")
     return 1 if report.failed else 0
 
