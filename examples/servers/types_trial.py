@@ -73,11 +73,11 @@ def make_logs(server, programs, kept, log, undo, redo):
     plain = server.folder / "types.plain"
     try:
         programs.plain(log, plain)
+        programs.undo(plain, undo)
     except NotHeld as cause:
         if server.kind is MARIADB:
             raise NotTried(f"MariaDB's own log is not read: {cause}") from cause
         raise
-    programs.undo(plain, undo)
     programs.undo(undo, redo)
     if server.kind is not MARIADB:
         of_both = [server.folder / f"both.{kind}" for kind in ("undo", "redo")]
