@@ -17,12 +17,14 @@ UNDO = bin/multi_table.undo
 SUMMED = examples/mysql/crc32_closed.binlog
 # shapes and sizes in MB of the logs to measure with; bench/README.md has the shapes
 BENCH =
+# which servers to try: mysql, mariadb, or both if it is empty
+SERVERS =
 
 # what the program is built from
 SOURCES := $(shell find crates -path '*/out' -prune -o -type f \
 	\( -name '*.rt' -o -name '*.antt' \) -print) crates.txt HANDLES
 
-.PHONY: all demo test bench bench_layers install uninstall dist deb check_package clean
+.PHONY: all demo test try_servers bench bench_layers install uninstall dist deb check_package clean
 
 all: $(PROGRAM) $(BINLOG)
 
@@ -47,6 +49,10 @@ demo: $(PROGRAM) $(BINLOG)
 # packages' check, with the programs that it built
 test:
 	@RT_JOBS=$${RT_JOBS:-$$(nproc)} MAKE="$(MAKE)" sh package/gate.sh $(VERSION) $(RT) ci
+
+# starts real servers on this machine, as root: examples/servers/README.md says what it tries. No gate does
+try_servers: $(PROGRAM) $(BINLOG)
+	@FLASHBACK=$(PROGRAM) BINLOG=$(BINLOG) python3 examples/servers/try.py $(SERVERS)
 
 # the program that measures the layers; rt runs it on a small log
 $(LAYERS): $(SOURCES)

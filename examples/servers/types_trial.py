@@ -1,0 +1,98 @@
+"""Trial 1, tables of all types come back; and trial 4, what MySQL's log became undoes on MariaDB, too."""
+
+from programs import NotHeld, NotTried, hold
+from server import MARIADB
+from tables import BOTH, MYSQL_ONLY, NO_GTIDS, changes, creation, script, tables_for
+from undoing import Kept, apply_log, apply_sql, hold_same, state
+
+
+class Tables:
+    """The tables on a server, before and after the changes, and the log of these."""
+
+    def __init__(self, server):
+        self.server = server
+        schemas = (BOTH,) if server.kind is MARIADB else (BOTH, MYSQL_ONLY) if server.has_gtids else (BOTH, MYSQL_ONLY, NO_GTIDS)
+        tables = tables_for(schemas)
+        self.names = [table.name for table in tables]
+        server.query(script(creation(tables)))
+        self.before = state(server, self.names)
+        server.next_log()
+        server.query(script(changes(tables)))
+        self.after = self.now = state(server, self.names)
+        self.log = server.next_log()
+
+    def go(self, apply, start, wanted):
+        """Applies something to tables that are as at its start."""
+        if self.now != start:
+            raise NotTried("the trial before it left other tables")
+        try:
+            apply()
+        finally:
+            self.now = state(self.server, self.names)
+        hold_same(self.now, wanted, "applied")
+
+    def go_and_return(self, report, title, undo, redo):
+        """Applies the undo, and then its undo."""
+        for what, apply, start, wanted in (("before", undo, self.after, self.before), ("after", redo, self.before, self.after)):
+            with report.trial(f"{title}: all tables are as {what} the changes"):
+                self.go(apply, start, wanted)
+
+
+def try_types(server, programs, report, kept):
+    tables = None
+    with report.trial("1: tables of all types are filled and changed") as notes:
+        tables = Tables(server)
+        notes.append(f"{len(tables.names)} tables, {tables.log.stat().st_size / 1e6:.0f} MB of log")
+        same = [name for name in tables.names if tables.before[name] == tables.after[name]]
+        hold(not same, f"unchanged are {', '.join(same)}")
+    if tables:
+        try_own_log(server, programs, report, kept, tables)
+    if tables and server.kind is MARIADB:
+        try_log_of_mysql(server, programs, report, kept, tables)
+
+
+def try_own_log(server, programs, report, kept, tables):
+    undo, redo = (server.folder / f"types.{kind}" for kind in ("undo", "redo"))
+    with report.trial("1: the log is undone, and the undo is undone"):
+        make_logs(server, programs, kept, tables.log, undo, redo)
+    if redo.exists():
+        if server.kind is not MARIADB:
+            tables.go_and_return(report, "1: by mysqlbinlog", lambda: apply_log(server, undo), lambda: apply_log(server, redo))
+        by_sql(server, programs, report, tables, "1: by binlog sql", undo, redo)
+        tables.go_and_return(report, "1: by binlog undo and binlog redo",
+                             lambda: apply_sql(server, programs.command("undo", tables.log)),
+                             lambda: apply_sql(server, programs.command("redo", tables.log)))
+
+
+def by_sql(server, programs, report, tables, title, undo, redo):
+    tables.go_and_return(report, title, lambda: apply_sql(server, programs.command("sql", undo)),
+                         lambda: apply_sql(server, programs.command("sql", redo)))
+
+
+def make_logs(server, programs, kept, log, undo, redo):
+    plain = server.folder / "types.plain"
+    try:
+        programs.plain(log, plain)
+        programs.undo(plain, undo)
+    except NotHeld as cause:
+        if server.kind is MARIADB:
+            raise NotTried(f"MariaDB's own log is not read: {cause}") from cause
+        raise
+    programs.undo(undo, redo)
+    if server.kind is not MARIADB:
+        of_both = [server.folder / f"both.{kind}" for kind in ("undo", "redo")]
+        programs.undo(plain, of_both[0], "-d", BOTH)
+        programs.undo(of_both[0], of_both[1])
+        kept[BOTH] = Kept(*(path.read_bytes() for path in of_both))
+
+
+def try_log_of_mysql(server, programs, report, kept, tables):
+    title = "4: MySQL's log, by binlog sql"
+    if BOTH not in kept:
+        with report.trial(title):
+            raise NotTried("no log of MySQL is there")
+        return
+    undo, redo = (server.folder / f"both.{kind}" for kind in ("undo", "redo"))
+    for path, log in zip((undo, redo), kept[BOTH]):
+        path.write_bytes(log)
+    by_sql(server, programs, report, tables, title, undo, redo)
