@@ -1,6 +1,0 @@
-pub mod Lines
-pub mod Adding
-pub mod Changing
-pub mod Walking
-pub mod Grouping
-pub mod Whole

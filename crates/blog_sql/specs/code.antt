@@ -1,3 +1,0 @@
--- What only contracts of code need: running states.
-pub mod Adding
-pub mod Walk
