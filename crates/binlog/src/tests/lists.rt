@@ -198,8 +198,7 @@ fn a_log_with_checksums_is_listed(rt: HostRuntime) -> Result<(), Fail> {
         damaged.as_slice(),
         &["list", "--utc", "-j", "1215"],
     )?;
-    let line =
-        "      1215       1497  2026-11-21 02:03:00  283c105d-e730-11f1-97ff-02fc00000001:7  Unended at 1497\n";
+    let line = "      1215       1497  2026-11-21 02:03:00          13  Unended at 1497\n";
     let text = format!(in rt.alloc(); "{HEADER}{line}units 1, not undoable 1, rows 0\n")?;
     let told =
         "binlog: WrongSum at 1497: the event isn't what the server wrote: copy the log from the server again\n";
