@@ -331,6 +331,16 @@ units 1, not undoable 0, rows 1
     check_all(&rt, &bytes, lines)
 }
 
+/// Checks the list of all units of a log that ends early.
+fn check_early(
+    rt: &(impl AllocGlobal + Abort),
+    bytes: &[u8],
+    lines: &str,
+    end: Fault,
+) -> Result<(), Fail> {
+    check(rt, bytes, &ALL, lines, Some(end))
+}
+
 #[test]
 fn a_log_that_ends_early_has_its_units(rt: HostRuntime) -> Result<(), Fail> {
     let bytes = build(&rt, &[BEGIN, MAP, ONE, XID, BEGIN, MAP, ONE, XID])?;
@@ -339,11 +349,9 @@ fn a_log_that_ends_early_has_its_units(rt: HostRuntime) -> Result<(), Fail> {
        259        371  1970-01-01 00:00:00           0  Unended at 371
 units 2, not undoable 1, rows 1
 ";
-    let end = Some(Fault::CutEvent { pos: 371 });
-    check(&rt, cut, &ALL, lines, end)?;
+    check_early(&rt, cut, lines, Fault::CutEvent { pos: 371 })?;
     let ended = bytes.get(..371).expect(&rt, "a log");
-    let end = Some(Fault::Unended { pos: 371 });
-    check(&rt, ended, &ALL, lines, end)
+    check_early(&rt, ended, lines, Fault::Unended { pos: 371 })
 }
 
 /// Checks the list of a log of one whole unit, where what is wanted stops at a position.

@@ -37,9 +37,18 @@ pub fn of_tables<'c>(tables: &'c [TableName<'c>], excluded: &'c [TableName<'c>])
 
 /// The units of a database.
 pub fn of_database<'c>(name: &'c [u8]) -> Wanted<'c> {
-    let mut wanted = of_tables(&[], &[]);
-    wanted.choice.database = Some(name);
-    wanted
+    Wanted {
+        start: None,
+        stop: None,
+        from_time: None,
+        to_time: None,
+        threads: &[],
+        choice: TableChoice {
+            database: Some(name),
+            tables: &[],
+            excluded: &[],
+        },
+    }
 }
 
 /// As text, with times in UTC and without global transaction ids.
