@@ -113,7 +113,6 @@ pub fn of_sums(fault: &SumFault) -> &'static str {
             "the log has checksums that aren't CRC32: use the server's own tools",
         SumFault::WrongSum { .. } =>
             "the event isn't what the server wrote: copy the log from the server again",
-        SumFault::OutOfMemory => OUT_OF_MEMORY,
     }
 }
 
@@ -121,7 +120,6 @@ pub fn of_sums(fault: &SumFault) -> &'static str {
 pub fn of_reading(fault: &SumFault) -> &'static str {
     match fault {
         SumFault::Log(fault) => of_end(fault),
-        SumFault::UnknownAlgorithm { .. } | SumFault::WrongSum { .. } | SumFault::OutOfMemory =>
-            of_sums(fault),
+        SumFault::UnknownAlgorithm { .. } | SumFault::WrongSum { .. } => of_sums(fault),
     }
 }

@@ -8,7 +8,6 @@ use Rattle.blog_device.specs.Devices.{greatest_length, PassesLimit, ReadsLog, Ap
 use Rattle.blog_device.specs.declared.fault.RunFault.{RunFault}
 use Rattle.blog_device.specs.declared.fault.RunFault.TheVariants.{Log, Read, Write}
 use Rattle.blog_sum.specs.declared.fault.SumFault.{SumFault}
-use Rattle.blog_sum.specs.declared.fault.SumFault.TheVariants.{OutOfMemory}
 use Rattle.blog_sum.specs.Sums.{sum_fault}
 use Rattle.blog_source.specs.Plain.{plain_log}
 use Rattle.blog_source.specs.declared.reading.Reading.{Reading}
@@ -40,9 +39,9 @@ use Rattle.blog_trans.specs.Groups.{Transaction}
 abbrev pub whole : Reading
 whole = record { stop = None; skip_damaged = false }
 
--- this log was read, and it isn't whole: memory was refused, or this is its first fault
+-- this log was read, and it isn't whole: this is its first fault
 abbrev pub RefusesSums : Option (List ℕ) → Option (List ℕ) → SumFault → Type 0
-RefusesSums old new fault = (fault ≡ OutOfMemory) ⊎ ((log : List ℕ) × ReadsLog old new log × (sum_fault log ≡ Some fault))
+RefusesSums old new fault = (log : List ℕ) × ReadsLog old new log × (sum_fault log ≡ Some fault)
 
 -- a fault of the log that a source hands out, which was read up to an end, at its place in the server's log
 abbrev pub IsPlaced : List ℕ → ℕ → Fault → Fault → Type 0

@@ -34,7 +34,7 @@ fn plain_in_place(bytes: &mut [u8]) -> Result<u32, SumFault>
 /// Fails at the first of these that holds: with `Log` if the bytes are no log of any algorithm (`TooLong` or `NotABinlog` at 0,
 /// `CutEvent`, `BadFormat` or `OldServer` at 4); with `UnknownAlgorithm` at 4 if the checksum algorithm is neither 0 nor 1; with
 /// `Log(CutEvent)` at an event that has no room for a checksum, or `WrongSum` at one that doesn't end in its own, the first of
-/// either; with `Log(CutEvent)` where the events end before the log does. Never fails with `OutOfMemory`.
+/// either; with `Log(CutEvent)` where the events end before the log does.
 pub fn plain<A: Allocator>(bytes: Vec<u8, A>) -> Result<Vec<u8, A>, SumFault>
     ensures exact { result_err result ≡ sum_fault bytes.items }
     ensures text { IfOk result (λ text. text.items ≡ plain_log bytes.items) }

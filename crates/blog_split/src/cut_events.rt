@@ -57,7 +57,7 @@ enum Coming {
 
 /// The events of a source, their statements cut into pieces.
 #[derive(Drop)]
-pub(crate) struct CutEvents<'a, E: Drop, A: Allocator> {
+pub struct CutEvents<'a, E: Drop, A: Allocator> {
     limit: usize,
     most: Most,
     // Gives the rows events.

@@ -40,7 +40,7 @@ fn cut_groups_in<'i, 'a, 's, A: Allocator + Copy, B: Allocator>(
 }
 
 /// Returns the events of the groups of an index, their statements cut. Fails with `Log(OutOfMemory)` if memory was refused.
-pub(crate) fn cut_groups_of<'i, 'a, 's, A: Allocator + Copy, B: Allocator>(
+pub fn cut_groups_of<'i, 'a, 's, A: Allocator + Copy, B: Allocator>(
     alloc: A,
     index: &'i Index<'a, 's, B>,
     limit: usize,

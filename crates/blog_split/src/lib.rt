@@ -9,7 +9,8 @@ mod most;
 mod used_maps;
 mod written_cut;
 
-pub use cut_log::split;
+pub use cut_events::CutEvents;
+pub use cut_log::{cut_groups_of, split};
 pub use fault::{SplitFault, SplitRunFault};
 pub use laws::{split_keeps_changes, split_of_small_is_normal};
 pub use written_cut::{split_by_chunks, split_to};

@@ -6,7 +6,7 @@ ghost use Rattle.blog_sum.specs.declared.fault.SumFault.TheVariants.{Log};
 use blog_event::Fault;
 use thiserror::Error;
 
-/// Why a log has no plain log. Each fault but the last has a byte position from the file's start.
+/// Why a log has no plain log. Each fault has a byte position from the file's start.
 #[derive(Clone, Copy, Debug, PartialEq, Eq, Error)]
 pub enum SumFault {
     /// It is no log: `TooLong` and `NotABinlog` at 0, `BadFormat` and `OldServer` at 4; or `CutEvent` where fewer than 19
@@ -19,9 +19,6 @@ pub enum SumFault {
     /// The last four bytes of an event aren't the CRC-32 of those before them; at the event.
     #[error("WrongSum at {pos}")]
     WrongSum { pos: u32 },
-    /// Memory was refused.
-    #[error("OutOfMemory")]
-    OutOfMemory,
 }
 
 // Written by hand, so that clauses know which fault a `?` makes.

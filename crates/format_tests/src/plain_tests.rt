@@ -242,5 +242,4 @@ fn faults_are_shown(rt: HostRuntime) {
         "UnknownAlgorithm at 4",
     );
     check_text(&rt, SumFault::WrongSum { pos: 4 }, "WrongSum at 4");
-    check_text(&rt, SumFault::OutOfMemory, "OutOfMemory");
 }

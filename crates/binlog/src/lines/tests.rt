@@ -139,11 +139,6 @@ fn other_failures_have_their_lines(rt: HostRuntime) -> Result<(), Fail> {
     let memory = "OutOfMemory: run it where twice the log's size is free in memory";
     check(
         &rt,
-        &Failure::NewLog(NewLogFault::Sums(SumFault::OutOfMemory)),
-        memory,
-    )?;
-    check(
-        &rt,
         &Failure::Arguments(ArgumentsFault::OutOfMemory),
         memory,
     )?;

@@ -1,0 +1,5 @@
+pub mod Changed
+pub mod Sql
+pub mod OfLog
+pub mod Laws
+pub mod code

@@ -1,0 +1,3 @@
+-- What only contracts of code need: running states.
+pub mod Adding
+pub mod Walk
