@@ -96,4 +96,10 @@ if ! "$program" -B --sql "$undo.split" | cmp - "$undo.normal"; then
     exit 1
 fi
 echo "Undoing either makes the same changes."
+echo "\$ $binlog sql --keep-times $undo     (the same as SQL, which the client of a server runs)"
+"$binlog" sql --keep-times "$undo"
+if "$binlog" sql --keep-times "$undo" | tail -n 1 | grep -qv "^SELECT @undo_end "; then
+    echo "The demo failed: the SQL should end with how the transaction ended." >&2
+    exit 1
+fi
 rm -f "$plain" "$undo.split" "$undo.summed" "$undo.twice" "$undo.normal" "$cut" "$cut.output" "$cut.errors"

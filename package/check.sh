@@ -12,6 +12,9 @@ cp "$1" "$work/bin/flashback"
 cp "$2" "$work/bin/binlog"
 version=$3
 PATH=$work/bin:$PATH
+# in place of a server's client: the lines of SQL without those in base64, which have the time in them
+printf '#!/bin/sh\ngrep -v "^[A-Za-z0-9+/=]*\$"\n' > "$work/bin/mysql"
+chmod +x "$work/bin/mysql"
 # the examples run where the machine's time zone is UTC
 export TZ=UTC
 failed=0
@@ -73,13 +76,16 @@ begin_folder() {
     case $1 in
         flashback*) cp "$work/logs/plain" "$work/here/binlog.000042" ;;
         "binlog list"*) cp "$work/logs/plain" "$work/here/plain.000042" ;;
-        "binlog split"*) cp "$work/logs/undo" "$work/here/undo.binlog" ;;
+        "binlog split"* | "binlog sql"*) cp "$work/logs/undo" "$work/here/undo.binlog" ;;
         binlog*) cp examples/mysql/crc32_closed.binlog "$work/here/binlog.000042" ;;
     esac
 }
 
-# a log that was written: its checksum and size, and its events
+# a log that was written: its checksum and size, and its events; or the lines of SQL that the client stands for
 written() {
+    case $1 in
+        *.sql) mysql < "$1"; return ;;
+    esac
     echo "cksum $(cksum < "$1")"
     od -An -v -tu1 "$1" | awk -f examples/events.awk
 }
@@ -101,7 +107,7 @@ run_example() {
 
 # each example of a help begins anew, those of a man page go on where the last one stopped
 run_examples() {
-    for page in flashback binlog "binlog plain" "binlog list" "binlog split"; do
+    for page in flashback binlog "binlog plain" "binlog list" "binlog split" "binlog sql"; do
         echo "## $page --help"
         help_examples $page > "$work/commands"
         while read -r command; do
@@ -156,14 +162,14 @@ pages_are_sound() {
 }
 
 options_agree() {
-    for page in flashback binlog "binlog plain" "binlog list" "binlog split"; do
+    for page in flashback binlog "binlog plain" "binlog list" "binlog split" "binlog sql"; do
         help_options $page > "$work/options"
         completed $page | cmp -s "$work/options" - || differs "completion of $page has other options than its help"
     done
     for page in flashback binlog; do
         {
             help_options "$page"
-            [ "$page" = flashback ] || { help_options binlog plain && help_options binlog list && help_options binlog split; }
+            [ "$page" = flashback ] || { help_options binlog plain && help_options binlog list && help_options binlog split && help_options binlog sql; }
         } | LC_ALL=C sort -u > "$work/options"
         man_options "$page" | cmp -s "$work/options" - || differs "$page.1 has other options than its help"
     done

@@ -3,8 +3,7 @@
 #     examples/guide/run.sh PROGRAM BINLOG
 # The commands are read from the README. What is put in their place is what differs here: the server's folder and socket,
 # the times, the positions that are found, the size at which statements are cut, so that they are cut at all, and the
-# options that MariaDB's programs don't have. The log is brought into the
-# profile by profile.py. At the end the rows have to be as before the mistake, and after step 10 as after it.
+# option that MariaDB's mysqldump doesn't have. The log is brought into the profile by profile.py. At the end the rows have to be as before the mistake, and after step 10 as after it.
 set -eu
 here=$(cd "$(dirname "$0")/../.." && pwd)
 work=$(mktemp -d)
@@ -96,7 +95,7 @@ commands() {
 # a command as it is run here
 as_run_here() {
     printf '%s\n' "$1" | sed -e "s|/var/lib/mysql|$work/data|" -e 's/| less$/| cat/' -e 's/^less .*/cat around.txt/' \
-        -e 's/; echo \$?$//' -e 's/^binlog split /binlog split --size 1 /' -e "s/2026-11-22 02:50:00/$from/" -e "s/2026-11-22 03:10:00/$to/" \
+        -e 's/; echo \$?$//' -e 's/^binlog sql /binlog sql --size 1 /' -e "s/2026-11-22 02:50:00/$from/" -e "s/2026-11-22 03:10:00/$to/" \
         -e "s/4021/$start/g" -e "s/9144/$stop/g"
 }
 
@@ -131,20 +130,17 @@ run_guide() {
             *"undo.binlog | mysql"*) rows_are undone ;;
             *"-r redo.binlog undo.binlog") mv redo.binlog first ;;
             *"-r redo.binlog binlog"*)
-                binlog split --size 1 redo.binlog | cmp - first || fail "the two logs of step 10 aren't the same"
-                ;;
-            "binlog split"*)
-                [ "$(flashback --summary undo.binlog | sed -n '2p')" = "statements 2" ] || fail "the statements aren't cut"
+                cmp redo.binlog first || fail "the two logs of step 10 aren't the same"
                 ;;
         esac
     done 3< "$work/commands"
-    run_command "mysqlbinlog --skip-gtids redo.binlog | mysql"
+    run_command "binlog sql redo.binlog | mysql"
     rows_are redone
 }
 
 stand_in mysql "mariadb --no-defaults --socket=$socket" -
 stand_in mysqldump "mariadb-dump --no-defaults --socket=$socket" --set-gtid-purged=OFF
-stand_in mysqlbinlog "mariadb-binlog --no-defaults" --skip-gtids
+stand_in mysqlbinlog "mariadb-binlog --no-defaults" -
 start_server
 make_mistake
 run_guide

@@ -1,5 +1,5 @@
 -- What a run is asked to do, by the values of the options.
-use Rattle.std.specs.Prelude.{◌≡◌, ◌⊎◌, ◌&&◌, ℕ, Bool, true, false, List, [], ⊤, IsSome, map, ◌∷◌, Option, Some, None, Result, Ok, Err, codes, option_map, slice_get, string_bytes, unwrap_or, String}
+use Rattle.std.specs.Prelude.{◌≡◌, ◌⊎◌, ◌&&◌, ◌≤◌, ℕ, Bool, true, false, if◌then◌else◌, List, [], length, ⊤, IsSome, map, ◌∷◌, Option, Some, None, Result, Ok, Err, codes, option_map, slice_get, string_bytes, unwrap_or, String}
 use Rattle.std.specs.Option.{option_map_or}
 use Rattle.std.specs.List.{AllByRecursion}
 use Rattle.std.specs.Str.{bytes_eq}
@@ -19,12 +19,17 @@ use Rattle.jiff.specs.Types.{TimeZone}
 use Rattle.blog_choice.specs.Choice.{read_name}
 use Rattle.blog_choice.specs.code.Views.{choice_value, name_value}
 use Rattle.blog_request.specs.declared.wanted.Wanted.{Wanted}
+use Rattle.blog_sql.specs.Changed.{HaveShortNames, read_renamed}
+use Rattle.blog_sql.specs.code.Views.{renamed_value}
+use Rattle.blog_sql.specs.declared.options.Renamed.{Renamed}
+use Rattle.blog_sql.specs.declared.options.SqlOptions.{SqlOptions}
 use Rattle.binlog.specs.Zones.{HasName, IsZoneOf}
 use Rattle.binlog.specs.declared.zones.Zone.{Zone}
 use Rattle.binlog.specs.declared.zones.Zone.TheVariants.{Utc}
 use Rattle.binlog.specs.declared.arguments.Asked.{Asked}
-use Rattle.binlog.specs.declared.arguments.Asked.TheVariants.{Text, NewLog, List as OfList}
+use Rattle.binlog.specs.declared.arguments.Asked.TheVariants.{Text, NewLog, List as OfList, Sql}
 use Rattle.binlog.specs.declared.list_arguments.ListTask.{ListTask}
+use Rattle.binlog.specs.declared.sql_arguments.SqlTask.{SqlTask}
 use Rattle.binlog.specs.declared.arguments.NewLogTask.{NewLogTask}
 use Rattle.binlog.specs.declared.arguments.Making.TheVariants.{Plain, Split}
 use Rattle.binlog.specs.declared.arguments.ArgumentsFault.{ArgumentsFault}
@@ -119,6 +124,30 @@ pub record HasTask {A : Type 0} (task : ListTask A) (wanted : Wanted) : Type 0 w
   pub tables : (choice_value wanted.choice).tables ≡ map name_value task.tables.items
   pub excluded : (choice_value wanted.choice).excluded ≡ map name_value task.excluded.items
 
+-- ---- SQL
+
+-- the schemas, each with another name, that values mean, each of which means one
+abbrev pub AreSchemas : List (List ℕ) → List Renamed → Type 0
+AreSchemas values schemas = map (λ pair. Some (renamed_value pair)) schemas ≡ map read_renamed values
+
+-- each part of the SQL is the value of its option, or are its values
+pub record IsSqlTask {A : Type 0} (found : Found) (task : SqlTask A) : Type 0 where
+  pub log : task.log.now ≡ unwrap_or (first_value found (codes "LOG")) []
+  pub result_file : option_map (λ path. path.now) task.result_file ≡ first_value found (codes "result-file")
+  pub force : task.force ≡ is_given found (codes "force")
+  pub size : IsSizeOf (first_value found (codes "size")) task.size
+  pub each_transaction : task.each_transaction ≡ is_given found (codes "each-transaction")
+  pub keep_times : task.keep_times ≡ is_given found (codes "keep-times")
+  pub schemas : AreSchemas (all_values found (codes "rewrite-db")) task.schemas.items
+
+-- how a task's log is printed at this time
+pub record HasSqlOptions {A : Type 0} (task : SqlTask A) (now : ℕ) (how : SqlOptions) : Type 0 where
+  pub each_transaction : how.each_transaction ≡ task.each_transaction
+  pub time : how.time ≡ (if task.keep_times then None else Some now)
+  pub schemas : how.schemas.now ≡ task.schemas.items
+
+-- ---- refusals
+
 -- why an option has no position: its value means none, or memory was refused
 abbrev pub RefusesPosition : {A : Type 0} → Option (List ℕ) → ArgumentsFault A → Type 0
 RefusesPosition value (Wrong text) = IsWrongPosition value
@@ -140,6 +169,16 @@ abbrev pub RefusesNumbers : {A : Type 0} → List (List ℕ) → ArgumentsFault 
 RefusesNumbers values (Wrong text) = HasWrongNumber values
 RefusesNumbers values NotText = ⊥
 RefusesNumbers values OutOfMemory = ⊤
+
+-- one of these values means no two schemas
+abbrev pub HasWrongSchemas : List (List ℕ) → Type 0
+HasWrongSchemas values = (n : ℕ) × (value : List ℕ) × (slice_get values n ≡ Some value) × (read_renamed value ≡ None)
+
+-- why an option has no schemas: one of its values means none, or memory was refused
+abbrev pub RefusesSchemas : {A : Type 0} → List (List ℕ) → ArgumentsFault A → Type 0
+RefusesSchemas values (Wrong text) = HasWrongSchemas values
+RefusesSchemas values NotText = ⊥
+RefusesSchemas values OutOfMemory = ⊤
 
 -- the same of a time, or of the name of a zone
 abbrev pub RefusesTime : {A : Type 0} → Option (List ℕ) → ArgumentsFault A → Type 0
@@ -163,13 +202,18 @@ RefusesList found OutOfMemory = ⊤
 abbrev pub RefusesSplit : {A : Type 0} → ArgMatches → ArgumentsFault A → Type 0
 RefusesSplit matches fault = IsBehind (codes "split") matches (λ found. RefusesPosition (first_value found (codes "size")) fault)
 
+-- why no SQL is asked for: the number of bytes or a pair of schemas is wrong, or memory was refused
+abbrev pub RefusesSql : {A : Type 0} → Found → ArgumentsFault A → Type 0
+RefusesSql found fault = RefusesPosition (first_value found (codes "size")) fault ⊎ RefusesSchemas (all_values found (codes "rewrite-db")) fault
+
 -- the parser found the command of this name
 abbrev pub names : ArgMatches → List ℕ → Bool
 names matches name = option_map_or (λ text. bytes_eq text name) (subcommand_name_of matches) false
 
 -- it found no command, or another than these; and `list` counts only if a list may be asked for
 abbrev pub NamesNone : Bool → ArgMatches → Type 0
-NamesNone lists matches = (names matches (codes "plain") ≡ false) × (names matches (codes "split") ≡ false) × ((names matches (codes "list") && lists) ≡ false)
+NamesNone lists matches = (names matches (codes "plain") ≡ false) × (names matches (codes "split") ≡ false) × (names matches (codes "sql") ≡ false)
+    × ((names matches (codes "list") && lists) ≡ false)
 
 -- why nothing is asked for without a command: that it is wrong, or memory was refused
 abbrev pub RefusesCommand : {A : Type 0} → Bool → ArgMatches → ArgumentsFault A → Type 0
@@ -185,17 +229,26 @@ abbrev pub is_list : {A : Type 0} → Asked A → Bool
 is_list (Text text) = false
 is_list (NewLog task) = false
 is_list (OfList task) = true
+is_list (Sql task) = false
+
+-- the new names of schemas that are asked for are as short as names can be
+abbrev pub HasShortSchemas : {A : Type 0} → Asked A → Type 0
+HasShortSchemas (Sql task) = HaveShortNames task.schemas.items
+HasShortSchemas asked = ⊤
 
 -- what is asked for by the parser's answer: a task by what it found; a text where that is its answer; and else the arguments
 -- are wrong or memory was refused
 abbrev pub IsRead : {A : Type 0} → Bool → Result ArgMatches Error → Result (Asked A) (ArgumentsFault A) → Type 0
 IsRead lists (Ok matches) (Ok (NewLog task)) = IsNewLogOf matches task
 IsRead lists (Ok matches) (Ok (OfList task)) = IsBehind (codes "list") matches (λ found. IsListTask found task)
+IsRead lists (Ok matches) (Ok (Sql task)) = IsBehind (codes "sql") matches (λ found. IsSqlTask found task)
 IsRead lists (Ok matches) (Ok (Text text)) = ⊥
-IsRead lists (Ok matches) (Err fault) = IsBehind (codes "list") matches (λ found. RefusesList found fault) ⊎ RefusesSplit matches fault ⊎ RefusesCommand lists matches fault
+IsRead lists (Ok matches) (Err fault) = IsBehind (codes "list") matches (λ found. RefusesList found fault) ⊎ RefusesSplit matches fault
+    ⊎ IsBehind (codes "sql") matches (λ found. RefusesSql found fault) ⊎ RefusesCommand lists matches fault
 IsRead lists (Err error) (Ok (Text text)) = AsksForText (kind_of error)
 IsRead lists (Err error) (Ok (NewLog task)) = ⊥
 IsRead lists (Err error) (Ok (OfList task)) = ⊥
+IsRead lists (Err error) (Ok (Sql task)) = ⊥
 IsRead lists (Err error) (Err (Wrong text)) = ¬ (AsksForText (kind_of error))
 IsRead lists (Err error) (Err NotText) = ⊥
 IsRead lists (Err error) (Err OutOfMemory) = ⊤

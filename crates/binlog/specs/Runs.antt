@@ -1,6 +1,6 @@
 -- What a run does to the bytes of its devices. Of a device that does not tell its bytes these definitions say that there
 -- are such bytes.
-use Rattle.std.specs.Prelude.{◌≡◌, ◌⊎◌, ℕ, Bool, true, false, List, ⊤, String, Vec, Option, None, Some, option_map, Result, Ok, Err}
+use Rattle.std.specs.Prelude.{◌≡◌, ◌⊎◌, ◌<◌, ℕ, Bool, true, false, List, ⊤, String, Vec, Option, None, Some, option_map, Result, Ok, Err}
 use Rattle.std.specs.Io.KnownBytes.{Keeps, Appends}
 use Rattle.blog_event.specs.declared.fault.Fault.{Fault}
 use Rattle.blog_event.specs.declared.fault.Fault.TheVariants.{TooLong, OutOfMemory as NoMemory}
@@ -24,7 +24,7 @@ use Rattle.binlog.specs.declared.commands.Failure.TheVariants.{NewLog as NoNewLo
 use Rattle.binlog.specs.declared.commands.NewLogFault.{NewLogFault}
 use Rattle.binlog.specs.declared.commands.NewLogFault.TheVariants.{Run, Sums, Split as Cut}
 use Rattle.binlog.specs.declared.arguments.Making.{Making}
-use Rattle.binlog.specs.declared.arguments.Making.TheVariants.{Plain, Split}
+use Rattle.binlog.specs.declared.arguments.Making.TheVariants.{Plain, Split, Sql}
 use Rattle.blog_split.specs.declared.fault.SplitFault.{SplitFault}
 use Rattle.blog_split.specs.declared.fault.SplitFault.TheVariants.{Log as OfLog, TooLong as TooLongCut}
 use Rattle.blog_split.specs.declared.fault.SplitRunFault.{SplitRunFault}
@@ -32,7 +32,10 @@ use Rattle.blog_split.specs.declared.fault.SplitRunFault.TheVariants as run
 use Rattle.blog_split.specs.Laws.{IsSplit, KeepsChanges}
 use Rattle.blog_split.specs.Splitting.{IsTooLong}
 use Rattle.blog_trans.specs.Selection.{all}
-use Rattle.blog_trans.specs.Acceptance.{IsRefusal, fault}
+use Rattle.blog_sql.specs.Changed.{HasShortNames}
+use Rattle.blog_sql.specs.OfLog.{printed, printed_end}
+use Rattle.blog_sql.specs.declared.options.SqlOptions.{SqlOptions}
+use Rattle.blog_trans.specs.Acceptance.{IsAccepted, IsRefusal, fault}
 use Rattle.blog_trans.specs.Groups.{Transaction}
 
 -- a log is read to its end
@@ -52,19 +55,35 @@ abbrev pub RefusesCut : ℕ → List ℕ → ℕ → SplitFault → Type 0
 RefusesCut limit handed end (OfLog cause) = (inner : Fault) × IsRefusal (fault handed all) inner × IsPlaced handed end inner cause
 RefusesCut limit handed end TooLongCut = IsTooLong limit handed
 
+-- the log that a source hands out can't be printed as SQL: memory was refused, or it has this fault, or what is printed is too long
+abbrev pub RefusesSql : ℕ → SqlOptions → List ℕ → ℕ → SplitFault → Type 0
+RefusesSql limit how handed end (OfLog cause) = (inner : Fault) × IsRefusal (fault handed all) inner × IsPlaced handed end inner cause
+RefusesSql limit how handed end TooLongCut = IsAccepted handed all × (4294967295 < printed_end how limit handed all)
+
 -- a log with the same changes as another in statements of at most so many bytes
 abbrev pub IsCutOf : ℕ → List ℕ → List ℕ → Type 0
 IsCutOf limit log text = (cut : List Transaction) × IsSplit limit log all cut text × KeepsChanges limit log all cut text
 
--- what is made of a log, each of whose sums is right: the same without checksums, or one with its statements cut
+-- this text is the SQL of a log, with statements of at most so many bytes
+abbrev pub IsSqlOf : ℕ → SqlOptions → List ℕ → List ℕ → Type 0
+IsSqlOf limit how log text = IsAccepted log all × (text ≡ printed how limit log all)
+
+-- what is made of a log, each of whose sums is right: the same without checksums, or one with its statements cut, or its SQL
 abbrev pub IsMadeOf : Making → List ℕ → List ℕ → Type 0
 IsMadeOf Plain log text = (sum_fault log ≡ None) × (text ≡ plain_log log)
 IsMadeOf (Split limit) log text = (sum_fault log ≡ None) × IsCutOf limit (handed_log whole log) text
+IsMadeOf (Sql limit how) log text = (sum_fault log ≡ None) × IsSqlOf limit how (handed_log whole log) text
+
+-- the new names of schemas are as short as names can be
+abbrev pub HasShortMaking : Making → Type 0
+HasShortMaking (Sql limit how) = HasShortNames how
+HasShortMaking making = ⊤
 
 -- why no new log is made of a log, each of whose sums is right
 abbrev pub RefusesNewLog : Making → List ℕ → SplitFault → Type 0
 RefusesNewLog Plain log fault = ⊥
 RefusesNewLog (Split limit) log fault = (sum_fault log ≡ None) × RefusesCut limit (handed_log whole log) (found_of whole log).end fault
+RefusesNewLog (Sql limit how) log fault = (sum_fault log ≡ None) × RefusesSql limit how (handed_log whole log) (found_of whole log).end fault
 
 -- what comes of reading a log and opening it as a source: a source that is whole; or that it can't be held, that a read failed,
 -- or that it isn't whole
@@ -81,6 +100,12 @@ abbrev pub SplitsSource : ℕ → List ℕ → ℕ → Option (List ℕ) → Opt
 SplitsSource limit handed end had has (Ok done) = (text : List ℕ) × IsCutOf limit handed text × Appends had has text
 SplitsSource limit handed end had has (Err (run.Split fault)) = RefusesCut limit handed end fault
 SplitsSource limit handed end had has (Err run.Write) = (text : List ℕ) × IsCutOf limit handed text × AppendsBeginning had has text
+
+-- what comes of printing the log that a source hands out as SQL
+abbrev pub PrintsSource : ℕ → SqlOptions → List ℕ → ℕ → Option (List ℕ) → Option (List ℕ) → Result Unit SplitRunFault → Type 0
+PrintsSource limit how handed end had has (Ok done) = (text : List ℕ) × IsSqlOf limit how handed text × Appends had has text
+PrintsSource limit how handed end had has (Err (run.Split fault)) = RefusesSql limit how handed end fault
+PrintsSource limit how handed end had has (Err run.Write) = (text : List ℕ) × IsSqlOf limit how handed text × AppendsBeginning had has text
 
 -- what comes of making a new log of the log that is read, and writing it: the whole new log is written, or a beginning of it
 -- where a write failed, or nothing

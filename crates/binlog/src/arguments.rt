@@ -3,13 +3,15 @@
 ghost use Rattle.std.specs.Prelude.{◌≡◌, IfErr, IfOk, Ok, codes, true};
 ghost use Rattle.clap.specs.Words.{first_value, found_of};
 ghost use Rattle.console.specs.Positions.{IsPositionOf};
-ghost use Rattle.binlog.specs.Request.{IsNewLogTask, IsSizeOf, IsRead, RefusesPosition, asks_for_list, is_list};
+ghost use Rattle.binlog.specs.Request.{HasShortSchemas, IsNewLogTask, IsSizeOf, IsRead, RefusesPosition, asks_for_list, is_given, is_list};
 ghost use Rattle.binlog.specs.declared.arguments.ArgumentsFault.TheVariants.{OutOfMemory};
 
 use crate::list_arguments::{ListTask, read_list};
 use crate::options::{
-    DEFAULT_SIZE, FORCE, LIST, LOG, PLAIN, RESULT_FILE, SIZE, SPLIT, all_arguments,
+    DEFAULT_SIZE, FORCE, LIST, LOG, PLAIN, RESULT_FILE, SIZE, SPLIT, SQL, all_arguments,
 };
+use crate::sql_arguments::{SqlTask, read_sql};
+use blog_sql::SqlOptions;
 use clap::error::ErrorKind;
 use clap::{ArgMatches, Command, Error};
 use console::{Told, position_of, read_error, wrong_value};
@@ -22,31 +24,35 @@ pub enum Asked<'a, A: Allocator> {
     /// The text of the help, or of the version.
     Text(String<A>),
     /// A new log, made of a log.
-    NewLog(NewLogTask<'a>),
+    NewLog(NewLogTask<'a, 'a>),
     /// The list of the units of a log.
     List(ListTask<'a, A>),
+    /// A log as SQL.
+    Sql(SqlTask<'a, A>),
 }
 
 /// What is made of a log.
 #[derive(Clone, Copy, Debug)]
-pub enum Making {
+pub enum Making<'m> {
     /// The same log without checksums.
     Plain,
     /// The same changes, in statements whose rows events have at most so many bytes.
     Split(u32),
+    /// SQL that makes the same changes, in such statements.
+    Sql(u32, SqlOptions<'m>),
 }
 
-/// A new log, made of a log.
+/// A new log, or SQL, made of a log.
 #[derive(Clone, Copy, Debug)]
-pub struct NewLogTask<'a> {
+pub struct NewLogTask<'a, 'm> {
     /// The path of the log.
     pub log: &'a str,
-    /// The path of the file for the new log; none where that goes to standard output.
+    /// The path of the file for what is made; none where that goes to standard output.
     pub result_file: Option<&'a str>,
     /// Whether that file may be there.
     pub force: bool,
-    /// What the new log is.
-    pub making: Making,
+    /// What is made.
+    pub making: Making<'m>,
 }
 
 /// Why the arguments ask for nothing.
@@ -76,6 +82,7 @@ pub fn read_arguments<'a, R: Files + Env + AllocGlobal, A: Allocator + Copy>(
     arguments: &'a [String],
 ) -> Result<Asked<'a, A>, ArgumentsFault<A>>
     ensures list { IfOk result (λ asked. is_list asked ≡ true → asks_for_list arguments.now ≡ true) }
+    ensures names { IfOk result HasShortSchemas }
 {
     let lists = asks_for_list(arguments);
     let mut command = all_arguments(rt.alloc())?;
@@ -103,6 +110,7 @@ fn read_parsed<'a, R: Files + Env + AllocGlobal, A: Allocator + Copy>(
 ) -> Result<Asked<'a, A>, ArgumentsFault<A>>
     ensures read { IsRead lists parsed.entry result }
     ensures list { IfOk result (λ asked. is_list asked ≡ true → lists ≡ true) }
+    ensures names { IfOk result HasShortSchemas }
 {
     match parsed {
         Ok(matches) => read_matches(rt, alloc, command, &matches, lists),
@@ -123,6 +131,7 @@ fn read_matches<'a, R: Files + Env + AllocGlobal, A: Allocator + Copy>(
 ) -> Result<Asked<'a, A>, ArgumentsFault<A>>
     ensures read { IsRead lists (Ok matches.now) result }
     ensures list { IfOk result (λ asked. is_list asked ≡ true → lists ≡ true) }
+    ensures names { IfOk result HasShortSchemas }
 {
     match matches.subcommand() {
         Some((name, found)) if name == PLAIN => {
@@ -132,6 +141,7 @@ fn read_matches<'a, R: Files + Env + AllocGlobal, A: Allocator + Copy>(
             let size = read_size(alloc, command, found)?;
             Ok(Asked::NewLog(read_task(found, Making::Split(size))))
         }
+        Some((name, found)) if name == SQL => Ok(Asked::Sql(read_sql(alloc, command, found)?)),
         Some((name, found)) if name == LIST && lists => {
             Ok(Asked::List(read_list(rt, alloc, command, found)?))
         }
@@ -140,7 +150,7 @@ fn read_matches<'a, R: Files + Env + AllocGlobal, A: Allocator + Copy>(
 }
 
 /// What is told where there is no command, or another one. The parser tells it by itself of most arguments.
-const GIVE_A_COMMAND: &str = "give a command: plain, list or split";
+const GIVE_A_COMMAND: &str = "give a command: plain, list, split or sql";
 
 fn wrong_command<A: Allocator>(
     alloc: A,
@@ -151,7 +161,7 @@ fn wrong_command<A: Allocator>(
 }
 
 /// How many bytes the rows events of a statement may have.
-fn read_size<'a, A: Allocator + Copy>(
+pub(crate) fn read_size<'a, A: Allocator + Copy>(
     alloc: A,
     command: &mut Command<'a>,
     found: &ArgMatches<'a>,
@@ -163,7 +173,7 @@ fn read_size<'a, A: Allocator + Copy>(
     Ok(size.unwrap_or(DEFAULT_SIZE))
 }
 
-fn read_task<'a>(found: &ArgMatches<'a>, making: Making) -> NewLogTask<'a>
+fn read_task<'a>(found: &ArgMatches<'a>, making: Making<'a>) -> NewLogTask<'a, 'a>
     ensures task { IsNewLogTask (found_of found.now) result }
     ensures making { result.making ≡ making }
 {
@@ -171,9 +181,16 @@ fn read_task<'a>(found: &ArgMatches<'a>, making: Making) -> NewLogTask<'a>
         // the parser has refused arguments without a LOG
         log: found.get_str(LOG).unwrap_or(""),
         result_file: found.get_str(RESULT_FILE),
-        force: found.get_one::<bool>(FORCE).unwrap_or(false),
+        force: is_given(found, FORCE),
         making,
     }
+}
+
+/// Whether a flag is given.
+pub(crate) fn is_given(found: &ArgMatches<'_>, name: &str) -> bool
+    ensures { result ≡ is_given (found_of found.now) name.now }
+{
+    found.get_one::<bool>(name).unwrap_or(false)
 }
 
 /// What a number of bytes is, as it is told of a value that is none.

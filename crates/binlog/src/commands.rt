@@ -3,11 +3,13 @@
 ghost use Rattle.std.specs.Prelude.{◌≡◌, ◌↔◌, ◌⊎◌, ◌≤◌, ◌||◌, IfErr, IsErr, IsOk, IsSome, None, OnErr, false, true};
 ghost use Rattle.std.specs.Process.{exit_status};
 ghost use Rattle.blog_device.specs.Watched.{device_of, has_failed};
-ghost use Rattle.binlog.specs.Request.{asks_for_list};
+ghost use Rattle.binlog.specs.Request.{HasSqlOptions, asks_for_list};
+ghost use Rattle.blog_sql.specs.Changed.{HasShortNames, HaveShortNames};
+ghost use Rattle.blog_sql.specs.declared.options.SqlOptions.{SqlOptions};
 ghost use Rattle.binlog.specs.Status.{status_of};
 ghost use Rattle.blog_split.specs.SplittingTo.{ends_before_writing, is_writing_fault};
 ghost use Rattle.blog_source.specs.code.SourceView.{end_of, log_of};
-ghost use Rattle.binlog.specs.Runs.{OpensWhole, SplitsSource, MayFollowList, OfNewLog, WritesNewLog, new_log_fault, is_failed_read, is_failed_write, may_list};
+ghost use Rattle.binlog.specs.Runs.{HasShortMaking, OpensWhole, PrintsSource, SplitsSource, MayFollowList, OfNewLog, WritesNewLog, new_log_fault, is_failed_read, is_failed_write, may_list};
 ghost use Rattle.blog_device.specs.Devices.{is_read_fault, is_write_fault};
 ghost use Rattle.binlog.specs.declared.commands.Failure.TheVariants.{Arguments, NewLog, ResultFile};
 ghost use Rattle.binlog.specs.declared.commands.NewLogFault.TheVariants.{Run, Sums, Split};
@@ -16,10 +18,12 @@ ghost use Rattle.binlog.specs.declared.arguments.Making.TheVariants as made;
 use crate::arguments::{ArgumentsFault, Asked, Making, NewLogTask, read_arguments};
 use crate::list_runs::run_list;
 use crate::log_file::{LogFault, open_log};
+use crate::sql_arguments::SqlTask;
 use blog_device::{RunFault, Watched, put, read_log};
 use blog_event::Fault;
 use blog_source::{Source, plain};
 use blog_split::{SplitFault, SplitRunFault, split_to};
+use blog_sql::{SqlOptions, sql_of_log};
 use blog_sum::SumFault;
 use result_file::{FileFault, ResultFile, Wanted};
 use std::alloc::Allocator;
@@ -33,6 +37,8 @@ use std::rt::{Env, Files};
 pub struct Process {
     /// Its number.
     pub id: u32,
+    /// When it began, in seconds since 1970 in UTC.
+    pub began: u32,
     /// Whether its standard output is a terminal.
     pub writes_to_terminal: bool,
 }
@@ -223,6 +229,10 @@ fn carry_out<'a, R: Files + Env + AllocGlobal, A: Allocator + Copy, O: Write>(
             let mut reader = open_log(rt, task.log)?;
             run_new_log(rt, alloc, process, &mut reader, &task, output)?
         }
+        Asked::Sql(task) => {
+            let mut reader = open_log(rt, task.log)?;
+            run_sql(rt, alloc, process, &mut reader, &task, output)?
+        }
         Asked::List(task) => {
             let mut reader = open_log(rt, task.log)?;
             run_list(rt, alloc, &mut reader, &task, output)?
@@ -234,7 +244,7 @@ fn carry_out<'a, R: Files + Env + AllocGlobal, A: Allocator + Copy, O: Write>(
 /// A new log, which is binary, isn't written to a terminal.
 fn check_output<'a, A: Allocator>(
     process: Process,
-    task: &NewLogTask<'a>,
+    task: &NewLogTask<'a, '_>,
 ) -> Result<(), Failure<'a, A>>
     ensures refused { IsErr result ↔ (process.writes_to_terminal ≡ true) × (task.now.result_file ≡ None) }
     ensures status { IfErr result (λ f. status_of f ≡ 1) }
@@ -246,15 +256,42 @@ fn check_output<'a, A: Allocator>(
     }
 }
 
+/// Writes the log that is read as SQL to standard output or to the result file.
+fn run_sql<'a, R: Files, A: Allocator + Copy, D: Read, O: Write>(
+    rt: &R,
+    alloc: A,
+    process: Process,
+    reader: &mut Watched<D>,
+    task: &SqlTask<'a, A>,
+    output: &mut Watched<O>,
+) -> Result<(), Failure<'a, A>>
+    requires { HaveShortNames task.now.schemas.items }
+    ensures status { IfErr result (λ f. status_of f ≡ 1) }
+    ensures refused { OnErr result (has_failed output.new ≡ false → output.new ≡ output.old) }
+    ensures aside { IsSome task.now.result_file → output.new ≡ output.old }
+    ensures writes { task.now.result_file ≡ None → (how : SqlOptions) × HasSqlOptions task.now process.began how
+        × OfNewLog (WritesNewLog (made.Sql task.now.size how) (D.remaining (device_of reader.old)) (D.remaining (device_of reader.new))
+        (O.contents (device_of output.old)) (O.contents (device_of output.new))) result }
+{
+    let task = NewLogTask {
+        log: task.log,
+        result_file: task.result_file,
+        force: task.force,
+        making: Making::Sql(task.size, task.options(process.began)),
+    };
+    run_new_log(rt, alloc, process, reader, &task, output)
+}
+
 /// Makes what the task asks for of the log that is read, and writes it to standard output or to the result file.
 fn run_new_log<'a, R: Files, A: Allocator + Copy, D: Read, O: Write>(
     rt: &R,
     alloc: A,
     process: Process,
     reader: &mut Watched<D>,
-    task: &NewLogTask<'a>,
+    task: &NewLogTask<'a, '_>,
     output: &mut Watched<O>,
 ) -> Result<(), Failure<'a, A>>
+    requires { HasShortMaking task.now.making }
     ensures status { IfErr result (λ f. status_of f ≡ 1) }
     ensures refused { OnErr result (has_failed output.new ≡ false → output.new ≡ output.old) }
     ensures aside { IsSome task.now.result_file → output.new ≡ output.old }
@@ -293,9 +330,10 @@ fn open_source<A: Allocator, D: Read>(
 fn new_log_to_output<A: Allocator + Copy, D: Read, O: Write>(
     alloc: A,
     reader: &mut Watched<D>,
-    making: Making,
+    making: Making<'_>,
     output: &mut Watched<O>,
 ) -> Result<(), NewLogFault>
+    requires { HasShortMaking making }
     ensures writes { WritesNewLog making (D.remaining (device_of reader.old)) (D.remaining (device_of reader.new))
         (O.contents (device_of output.old)) (O.contents (device_of output.new)) result }
     ensures reader_mark { has_failed reader.new ≡ (has_failed reader.old || is_failed_read result) }
@@ -305,6 +343,7 @@ fn new_log_to_output<A: Allocator + Copy, D: Read, O: Write>(
     match making {
         Making::Plain => plain_to_output(alloc, reader, output),
         Making::Split(size) => split_to_output(alloc, reader, size, output),
+        Making::Sql(size, how) => sql_to_output(alloc, reader, size, &how, output),
     }
 }
 
@@ -362,14 +401,56 @@ fn split_source<A: Allocator + Copy, O: Write>(
     }
 }
 
+/// Writes the log that is read to standard output as SQL, while it is made.
+fn sql_to_output<A: Allocator + Copy, D: Read, O: Write>(
+    alloc: A,
+    reader: &mut Watched<D>,
+    size: u32,
+    how: &SqlOptions<'_>,
+    output: &mut Watched<O>,
+) -> Result<(), NewLogFault>
+    requires { HasShortNames how.now }
+    ensures writes { WritesNewLog (made.Sql size how.now) (D.remaining (device_of reader.old)) (D.remaining (device_of reader.new))
+        (O.contents (device_of output.old)) (O.contents (device_of output.new)) result }
+    ensures reader_mark { has_failed reader.new ≡ (has_failed reader.old || is_failed_read result) }
+    ensures writer_mark { has_failed output.new ≡ (has_failed output.old || is_failed_write result) }
+    ensures refused { OnErr result (has_failed output.new ≡ false → output.new ≡ output.old) }
+{
+    let source = open_source(alloc, reader)?;
+    Ok(sql_of_source(alloc, &source, size, how, output)?)
+}
+
+/// Writes the log of a source as SQL, while it is made. Faults are at their places.
+fn sql_of_source<A: Allocator + Copy, O: Write>(
+    alloc: A,
+    source: &Source<A>,
+    size: u32,
+    how: &SqlOptions<'_>,
+    output: &mut Watched<O>,
+) -> Result<(), SplitRunFault>
+    requires { HasShortNames how.now }
+    ensures prints { PrintsSource size how.now (log_of source.now) (end_of source.now) (O.contents (device_of output.old)) (O.contents (device_of output.new)) result }
+    ensures untouched { ends_before_writing result ≡ true → output.new ≡ output.old }
+    ensures mark { has_failed output.new ≡ (has_failed output.old || is_writing_fault result) }
+{
+    match sql_of_log(alloc, output, source.bytes(), size as usize, how) {
+        Err(SplitRunFault::Split(SplitFault::Log(fault))) => {
+            let placed = source.at_place(&fault);
+            Err(SplitRunFault::Split(SplitFault::Log(placed)))
+        }
+        done => done,
+    }
+}
+
 /// Writes what is made of the log that is read to the result file, which has its name once it is whole.
 fn new_log_to_file<'a, R: Files, A: Allocator + Copy, D: Read>(
     rt: &R,
     alloc: A,
     reader: &mut Watched<D>,
-    making: Making,
+    making: Making<'_>,
     wanted: &Wanted<'a>,
 ) -> Result<(), Failure<'a, A>>
+    requires { HasShortMaking making }
     ensures status { IfErr result (λ f. status_of f ≡ 1) }
 {
     let mut file = ResultFile::create(rt, alloc, wanted)?;

@@ -9,7 +9,7 @@ ghost use Rattle.blog_choice.specs.code.Views.{name_value};
 ghost use Rattle.binlog.specs.Request.{AreNumbers, HasTask, IsWrong, IsListTask, IsTimeOf, IsZoneAsked, RefusesList, RefusesNumbers, RefusesTime, all_values, form_of, is_given};
 ghost use Rattle.binlog.specs.declared.arguments.ArgumentsFault.TheVariants.{OutOfMemory};
 
-use crate::arguments::{ArgumentsFault, read_number};
+use crate::arguments::{ArgumentsFault, is_given, read_number};
 use crate::options::{
     DATABASE, EXCLUDED_TABLE, GTID, JSON, LOG, SKIP_DAMAGED, START, START_TIME, STOP, STOP_TIME,
     TABLE, THREAD, TIME_ZONE, UTC,
@@ -107,13 +107,6 @@ pub(crate) fn read_list<'a, R: Files + Env + AllocGlobal, A: Allocator + Copy>(
         },
         zone,
     })
-}
-
-/// Whether a flag is given.
-fn is_given(found: &ArgMatches<'_>, name: &str) -> bool
-    ensures { result ≡ is_given (found_of found.now) name.now }
-{
-    found.get_one::<bool>(name).unwrap_or(false)
 }
 
 /// The tables that an option names, in order.

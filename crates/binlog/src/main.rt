@@ -1,4 +1,4 @@
-//! `binlog` prepares MySQL binary logs for `flashback`, and lists what can be undone of them.
+//! `binlog` prepares MySQL binary logs for `flashback`, lists what can be undone of them, and prints them as SQL.
 #![tactic(auto)]
 
 mod arguments;
@@ -8,6 +8,7 @@ mod list_arguments;
 mod list_runs;
 mod log_file;
 mod options;
+mod sql_arguments;
 #[cfg(test)]
 mod tests;
 mod zones;
@@ -16,12 +17,25 @@ use blog_device::Watched;
 use commands::{Process, command};
 use std::io::IsTerminal;
 use std::process::ExitCode;
+use std::time::{SystemTime, UNIX_EPOCH};
 use std::{env, process};
+
+/// The time in seconds since 1970 in UTC; 0 if the clock can't be read or is set before that.
+fn seconds_since_1970(rt: &HostRuntime) -> u32 {
+    let Ok(now) = SystemTime::now(rt) else {
+        return 0;
+    };
+    match now.duration_since(UNIX_EPOCH) {
+        Ok(since) => u32::try_from(since.as_secs()).unwrap_or(u32::MAX),
+        Err(_) => 0,
+    }
+}
 
 fn main(rt: HostRuntime) -> ExitCode {
     let arguments = env::args(&rt).and_then(|arguments| Ok(arguments.collect(rt.alloc())?));
     let process = Process {
         id: process::id(rt.process()),
+        began: seconds_since_1970(&rt),
         writes_to_terminal: rt.stdout().is_terminal(),
     };
     let mut output = Watched::new(rt.stdout());

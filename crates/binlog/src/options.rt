@@ -10,6 +10,8 @@ pub const PLAIN: &str = "plain";
 pub const LIST: &str = "list";
 /// The name of the command `split`.
 pub const SPLIT: &str = "split";
+/// The name of the command `sql`.
+pub const SQL: &str = "sql";
 /// The name of `-d`.
 pub const DATABASE: &str = "database";
 /// The name of `-T`.
@@ -36,6 +38,12 @@ pub const UTC: &str = "utc";
 pub const TIME_ZONE: &str = "time-zone";
 /// The name of `--size`.
 pub const SIZE: &str = "size";
+/// The name of `--each-transaction`.
+pub const EACH_TRANSACTION: &str = "each-transaction";
+/// The name of `--keep-times`.
+pub const KEEP_TIMES: &str = "keep-times";
+/// The name of `--rewrite-db`.
+pub const REWRITTEN: &str = "rewrite-db";
 /// The name of `--json`.
 pub const JSON: &str = "json";
 /// The name of `-r`.
@@ -49,14 +57,17 @@ pub const LOG: &str = "LOG";
 pub const DEFAULT_SIZE: u32 = 8_000_000;
 
 const ABOUT: &str = "\
-Prepares MySQL binary logs for flashback, lists what can be undone of them, and cuts large statements.";
+Prepares MySQL binary logs for flashback, lists what can be undone of them, cuts large statements,
+and prints logs as SQL.";
 
 const USAGE: &str = "\
 binlog plain [-r FILE [--force]] LOG
        binlog list [-d NAME] [-T NAME] [-j POS] [--stop-position POS]
                    [--start-datetime TIME] [--stop-datetime TIME]
                    [--utc | --time-zone NAME] [--json] LOG
-       binlog split [--size BYTES] [-r FILE [--force]] LOG";
+       binlog split [--size BYTES] [-r FILE [--force]] LOG
+       binlog sql [--each-transaction] [--keep-times] [--size BYTES]
+                  [--rewrite-db FROM:TO].. [-r FILE [--force]] LOG";
 
 const AFTER_HELP: &str = "\
 Examples:
@@ -68,6 +79,8 @@ Examples:
       which flashback reads
   binlog split undo.binlog -r parts.binlog
       cut the large statements of a log, so that a server takes them
+  binlog sql undo.binlog | mysql
+      make the changes of a log on a server, all of them or none
   binlog plain --help
       what there is to know of a command
 
@@ -175,6 +188,42 @@ Examples:
 
 Exit status: 0 done, 1 the log is refused or something failed, 2 the arguments are wrong.";
 
+const SQL_ABOUT: &str = "\
+Prints LOG as SQL that makes its changes on a server, in one transaction: all of them, or after any
+error none. Any mysql or mariadb client runs it. LOG is a log that flashback accepts as a whole, such
+as one that it wrote. If it has checksums, each is checked. Nothing is printed unless all of LOG can be.
+The last line that the client prints has to say COMMIT. ROLLBACK, or no such line, means that nothing
+was changed; the client's exit status doesn't tell, if it was told to go on after errors.
+Tables of an engine without transactions, such as MyISAM, keep what was changed before an error.";
+
+const SQL_USAGE: &str = "\
+binlog sql [--each-transaction] [--keep-times] [--size BYTES]
+                  [--rewrite-db FROM:TO].. [-r FILE [--force]] LOG";
+
+const SQL_AFTER_HELP: &str = "\
+The server gets the changes as base64, each statement as one packet, which max_allowed_packet limits.
+Statements are cut for it as by binlog split, so that their rows events have at most BYTES bytes.
+Events get the time at which the SQL is made, since the server writes their times to its own log.
+The SQL has the rows of LOG in it: FILE appears once it is whole, and only its owner may read it.
+
+Examples:
+  binlog sql undo.binlog | mysql
+      make the changes of a log that undoes
+  binlog sql undo.binlog -r undo.sql
+      write to a file that isn't there yet; -r is the same as --result-file
+  binlog sql undo.binlog -r undo.sql --force
+      replace a file that is there
+  binlog sql --rewrite-db shop:scratch undo.binlog | mysql
+      try it first in a copy of the tables in another database
+  binlog sql --each-transaction undo.binlog | mysql
+      commit each transaction by itself; after an error neither it nor a later one is committed
+  binlog sql --keep-times undo.binlog | mysql
+      leave the times of the events as they are
+  binlog sql --size 1000000 undo.binlog | mysql
+      statements of at most 1,000,000 bytes of rows events
+
+Exit status: 0 done, 1 the log is refused or something failed, 2 the arguments are wrong.";
+
 /// Every command that the program knows, with its options.
 pub fn all_arguments<'a>(alloc: Global) -> Result<Command<'a>, AllocError> {
     Command::new(alloc, "binlog")
@@ -185,7 +234,8 @@ pub fn all_arguments<'a>(alloc: Global) -> Result<Command<'a>, AllocError> {
         .subcommand_required(true)
         .subcommand(plain_arguments(alloc)?)?
         .subcommand(list_arguments(alloc)?)?
-        .subcommand(split_arguments(alloc)?)
+        .subcommand(split_arguments(alloc)?)?
+        .subcommand(sql_arguments(alloc)?)
 }
 
 /// The command `plain`, with its options.
@@ -207,12 +257,39 @@ fn split_arguments<'a>(alloc: Global) -> Result<Command<'a>, AllocError> {
         .about(SPLIT_ABOUT)
         .override_usage(SPLIT_USAGE)
         .after_help(SPLIT_AFTER_HELP);
-    let size = option(alloc, SIZE, "BYTES").help(
-        "The most bytes of rows events of a statement, headers included; 8000000 if it isn't given",
-    );
     new_log_arguments(
         alloc,
-        command.arg(size)?,
+        command.arg(size_argument(alloc))?,
+        "Write to FILE, which must not be there, unless it is a device or a pipe",
+    )
+}
+
+/// The option `--size`.
+fn size_argument<'a>(alloc: Global) -> Arg<'a> {
+    option(alloc, SIZE, "BYTES").help(
+        "The most bytes of rows events of a statement, headers included; 8000000 if it isn't given",
+    )
+}
+
+/// The command `sql`, with its options.
+fn sql_arguments<'a>(alloc: Global) -> Result<Command<'a>, AllocError> {
+    let command = Command::new(alloc, SQL)
+        .about(SQL_ABOUT)
+        .override_usage(SQL_USAGE)
+        .after_help(SQL_AFTER_HELP);
+    let each = flag(alloc, EACH_TRANSACTION).help("Commit each transaction of LOG by itself");
+    let times = flag(alloc, KEEP_TIMES).help("Leave the times of events as they are");
+    let rewritten = option(alloc, REWRITTEN, "FROM:TO").help(
+        "Change tables of database TO where LOG has FROM; can be given several times",
+    );
+    let command = command
+        .arg(each)?
+        .arg(times)?
+        .arg(size_argument(alloc))?
+        .arg(rewritten.action(ArgAction::Append))?;
+    new_log_arguments(
+        alloc,
+        command,
         "Write to FILE, which must not be there, unless it is a device or a pipe",
     )
 }

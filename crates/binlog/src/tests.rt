@@ -7,6 +7,7 @@ mod log_files;
 mod refused_memory;
 mod result_files;
 mod splits;
+mod sql;
 mod terminals;
 mod zones;
 
@@ -20,6 +21,9 @@ use std::test::Fail;
 use std::{fs, io, process};
 use testkit::runs::Outcome;
 
+/// When each run begins, in seconds since 1970.
+const BEGAN: u32 = 0x0102_0304;
+
 /// Where the Stop event of `SUMMED` begins.
 const STOP: usize = 120;
 
@@ -32,6 +36,7 @@ fn arguments_of(rt: &HostRuntime, arguments: &[&str]) -> Result<Vec<String>, All
 fn this_process(rt: &HostRuntime) -> Process {
     Process {
         id: process::id(rt.process()),
+        began: BEGAN,
         writes_to_terminal: false,
     }
 }
@@ -120,6 +125,10 @@ fn help_and_version_are_written(rt: HostRuntime) -> Result<(), Fail> {
         (
             &["split", "--help"],
             "binlog split [--size BYTES] [-r FILE [--force]] LOG",
+        ),
+        (
+            &["sql", "--help"],
+            "binlog sql --rewrite-db shop:scratch undo.binlog | mysql",
         ),
         (&["--version"], "binlog 0.1.0 (proved with "),
     ];

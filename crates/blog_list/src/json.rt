@@ -3,7 +3,6 @@
 use crate::beginning::Beginning;
 use crate::fault_events::{statement_of, words_of};
 use crate::lines::put_id;
-use crate::places::at_place;
 use crate::times::rfc_3339_text;
 use crate::totals::Totals;
 use blog_event::Log;
@@ -95,7 +94,7 @@ pub(crate) fn put_unit<A: Allocator + Copy, B: Allocator>(
         }
         Err(fault) => {
             line.fault = Some(fault.name());
-            line.position = at_place(source, fault).at();
+            line.position = source.at_place(fault).at();
             line.statement = match statement_of(log, fault, unit.stop) {
                 Some(text) => {
                     let columns = TEXT_COLUMNS;

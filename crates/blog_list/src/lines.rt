@@ -16,7 +16,6 @@ ghost use Rattle.blog_request.specs.Wanted.{changes_told};
 use crate::column::TimeColumn;
 use crate::escapes::{put_beginning, put_escaped, put_table};
 use crate::fault_events::{statement_of, words_of};
-use crate::places::at_place;
 use crate::texts::{put_number, put_padded, put_server, put_text};
 use blog_event::{Fault, Log};
 use blog_source::Source;
@@ -187,7 +186,7 @@ fn put_refusal<A: Allocator>(
 ) -> Result<(), AllocError>
     ensures { OnOk result (out.new.items ≡ out.old.items ++ refusal_text (refusal_of (log_bytes log.now) (source_place source.now) stop fault.now)) }
 {
-    put_fault(out, &at_place(source, fault))?;
+    put_fault(out, &source.at_place(fault))?;
     if let Some(text) = statement_of(log, fault, stop) {
         put_text(out, b": ")?;
         put_beginning(out, text, TEXT_COLUMNS)?;

@@ -1,26 +1,13 @@
 //! Positions of a server's log, which people give and see, beside those of the log without checksums that is handed out for it.
 
 ghost use Rattle.std.specs.Prelude.{◌≡◌, option_map};
-ghost use Rattle.blog_list.specs.code.Told.{inside, source_place};
-ghost use Rattle.blog_event.specs.Fault.{name_of, position_of as fault_position};
+ghost use Rattle.blog_list.specs.code.Told.{inside};
 ghost use Rattle.blog_source.specs.Places.{position_of};
 ghost use Rattle.blog_source.specs.code.SourceView.{log_of};
 
-use blog_event::Fault;
 use blog_request::Wanted;
 use blog_source::Source;
 use std::alloc::Allocator;
-
-/// Returns a fault of the log without checksums at its place in the server's log.
-pub(crate) fn at_place<A: Allocator>(source: &Source<A>, fault: &Fault) -> Fault
-    ensures name { name_of result ≡ name_of fault.now }
-    ensures place { fault_position result ≡ option_map (source_place source.now) (fault_position fault.now) }
-{
-    match fault.at() {
-        Some(pos) => fault.moved_to(source.place(pos)),
-        None => *fault,
-    }
-}
 
 /// Returns where in the log without checksums the first event begins that is at this place of the server's log or behind it.
 fn position<A: Allocator>(source: &Source<A>, place: Option<u32>) -> Option<u32>

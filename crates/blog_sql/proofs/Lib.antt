@@ -1,4 +1,5 @@
 pub mod Lines
+pub mod Names
 pub mod Adding
 pub mod Changing
 pub mod Walking

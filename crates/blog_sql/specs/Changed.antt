@@ -1,5 +1,5 @@
 -- Groups with other timestamps and other schemas.
-use Rattle.std.specs.Prelude.{ℕ, ◌≤◌, List, [], ◌∷◌, ◌++◌, length, map, if◌then◌else◌, Option, Some, None, bytes_eq}
+use Rattle.std.specs.Prelude.{ℕ, ◌+◌, ◌==◌, ◌≤◌, nat_lt, ◌&&◌, Bool, List, [], ◌∷◌, ◌++◌, length, map, take, drop, position, if◌then◌else◌, Option, Some, None, bytes_eq}
 use Rattle.std.specs.Option.{option_map_or}
 use Rattle.std.specs.List.{AllByRecursion}
 use Rattle.blog_event.specs.Event.{Event}
@@ -8,6 +8,24 @@ use Rattle.blog_trans.specs.Groups.{RowsEvent, Statement, Transaction}
 use Rattle.blog_flash.specs.Written.{Written, Same, Maps, Changes}
 use Rattle.blog_sql.specs.declared.options.Renamed.{Renamed}
 use Rattle.blog_sql.specs.declared.options.SqlOptions.{SqlOptions}
+
+-- ---- what is given
+
+-- a schema, and its new name
+pub record Schema : Type 0 where
+  pub from : List ℕ
+  pub to : List ℕ
+
+-- a table map has room for a schema's name of 1 to 255 bytes
+abbrev pub is_name : List ℕ → Bool
+is_name name = nat_lt 0 (length name) && nat_lt (length name) 256
+
+abbrev pub between_names : List ℕ → List ℕ → Option Schema
+between_names from to = if is_name from && is_name to then Some (record { from = from; to = to }) else None
+
+-- a name, a colon, a name; the first colon counts
+unfoldable pub read_renamed : List ℕ → Option Schema
+read_renamed text = option_map_or (λ at. between_names (take at text) (drop (at + 1) text)) (position (λ byte. byte == 58) text) None
 
 -- another timestamp, if one is given
 abbrev pub retimed : Option ℕ → ℕ → ℕ
@@ -20,8 +38,11 @@ renamed_schema [] name = name
 renamed_schema (pair ∷ pairs) name = if bytes_eq pair.from.now name then pair.to.now else renamed_schema pairs name
 
 -- a new name is as long as a name can be
+abbrev pub HaveShortNames : List Renamed → Type 0
+HaveShortNames pairs = AllByRecursion (λ pair. length pair.to.now ≤ 255) pairs
+
 abbrev pub HasShortNames : SqlOptions → Type 0
-HasShortNames how = AllByRecursion (λ pair. length pair.to.now ≤ 255) how.schemas.now
+HasShortNames how = HaveShortNames how.schemas.now
 
 -- ---- table maps
 

@@ -1,3 +1,4 @@
 -- What only contracts of code need: running states.
 pub mod Adding
+pub mod Views
 pub mod Walk

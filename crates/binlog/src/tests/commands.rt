@@ -14,19 +14,23 @@ Usage: binlog plain [-r FILE [--force]] LOG
                    [--start-datetime TIME] [--stop-datetime TIME]
                    [--utc | --time-zone NAME] [--json] LOG
        binlog split [--size BYTES] [-r FILE [--force]] LOG
+       binlog sql [--each-transaction] [--keep-times] [--size BYTES]
+                  [--rewrite-db FROM:TO].. [-r FILE [--force]] LOG
 
 For more information, try '--help'.
 ";
 
 /// Lines of the help.
-static HELP_LINES: [&str; 9] = [
+static HELP_LINES: [&str; 11] = [
     "Usage: binlog plain [-r FILE [--force]] LOG",
     "       binlog list [-d NAME] [-T NAME] [-j POS] [--stop-position POS]",
     "       binlog split [--size BYTES] [-r FILE [--force]] LOG",
+    "                  [--rewrite-db FROM:TO].. [-r FILE [--force]] LOG",
     "Commands:",
     "  plain  Checks every checksum of LOG and writes the same log without checksums.",
     "  list   Lists the units of LOG: its transactions, and what stands between them and can't be undone.",
     "  split  Cuts each statement of LOG into statements whose rows events have at most BYTES bytes together,",
+    "  sql    Prints LOG as SQL that makes its changes on a server, in one transaction: all of them, or after any",
     "  help   Print this message or the help of the given subcommand(s)",
     "Exit status: 0 done, 1 the log is refused or something failed, 2 the arguments are wrong.",
 ];
@@ -44,7 +48,7 @@ fn check_wrong(rt: &HostRuntime, arguments: &[&str], line: &str) -> Result<(), F
 #[test]
 fn a_missing_command_is_an_error(rt: HostRuntime) -> Result<(), Fail> {
     let line =
-        "error: 'binlog' requires a subcommand but one was not provided\n  [subcommands: plain, list, split, help]";
+        "error: 'binlog' requires a subcommand but one was not provided\n  [subcommands: plain, list, split, sql, help]";
     check_wrong(&rt, &[], line)
 }
 
@@ -107,7 +111,7 @@ fn a_command_given_twice_is_an_error(rt: HostRuntime) -> Result<(), Fail> {
     let log = path_of(&rt, "twice")?;
     let result = path_of(&rt, "not-made-twice")?;
     fs::write(&rt, log.as_str(), PLAIN.as_slice())?;
-    for command in ["plain", "list", "split"] {
+    for command in ["plain", "list", "split", "sql"] {
         check_given_twice(&rt, command, log.as_str(), result.as_str())?;
     }
     let name = log.as_str();

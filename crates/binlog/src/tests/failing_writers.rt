@@ -124,3 +124,17 @@ fn a_long_line_is_cut(rt: HostRuntime) -> Result<(), Fail> {
     assert_eq!(rt; outcome.errors().len(), 4608);
     Ok(())
 }
+
+#[test]
+fn a_failed_write_of_sql_is_told(rt: HostRuntime) -> Result<(), Fail> {
+    let log = path_of(&rt, "unwritten-sql")?;
+    fs::write(&rt, log.as_path(), PLAIN.as_slice())?;
+    let arguments = ["sql", log.as_str()];
+    let printed = run_arguments(&rt, arguments.as_slice())?;
+    let text = printed.output();
+    let calls = text.len().div_ceil(STEP);
+    assert!(rt; calls > 50);
+    each_call_fails(&rt, arguments.as_slice(), text, calls as u64)?;
+    fs::remove_file(&rt, log.as_path())?;
+    Ok(())
+}

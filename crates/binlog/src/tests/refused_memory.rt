@@ -16,7 +16,7 @@ use testkit::runs::Outcome;
 const REQUESTS: usize = 200;
 
 /// A heap with room for each of these runs, in bytes.
-const ROOM: usize = 1 << 18;
+const ROOM: usize = 1 << 21;
 
 const OUT_OF_MEMORY: &str = "binlog: OutOfMemory: ";
 
@@ -117,5 +117,28 @@ fn want_of_memory_cuts_nothing(rt: HostRuntime) -> Result<(), Fail> {
     fs::remove_file(&rt, result.as_path())?;
     fs::remove_file(&rt, log.as_path())?;
     assert_eq!(rt; written.as_slice(), INSERT_ONE_ROW.as_slice());
+    Ok(())
+}
+
+#[test]
+fn want_of_memory_prints_no_sql(rt: HostRuntime) -> Result<(), Fail> {
+    let log = path_of(&rt, "unprinted-log")?;
+    let result = path_of(&rt, "unprinted")?;
+    fs::write(&rt, log.as_path(), INSERT_ONE_ROW.as_slice())?;
+    let arguments = [
+        "sql",
+        "--rewrite-db",
+        "d:e",
+        "-r",
+        result.as_str(),
+        log.as_str(),
+    ];
+    let (outcome, refused) = refuse_in_turn(&rt, arguments.as_slice(), result.as_str())?;
+    assert!(rt; outcome.is_done(b""));
+    assert!(rt; refused >= 7, "{refused}");
+    let written = fs::read(&rt, result.as_path())?;
+    fs::remove_file(&rt, result.as_path())?;
+    fs::remove_file(&rt, log.as_path())?;
+    assert!(rt; written.as_slice().ends_with(b" AS errors;\n"));
     Ok(())
 }

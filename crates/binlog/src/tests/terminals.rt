@@ -71,7 +71,10 @@ fn texts_are_written_to_a_terminal(rt: HostRuntime) -> Result<(), Fail> {
     let log = path_of(&rt, "list-on-terminal")?;
     fs::write(&rt, log.as_path(), PLAIN.as_slice())?;
     let list = run_on_terminal(&rt, &["list", log.as_str()])?;
+    let sql = run_on_terminal(&rt, &["sql", log.as_str()])?;
     fs::remove_file(&rt, log.as_path())?;
+    assert_eq!(rt; sql.status, ExitCode::SUCCESS);
+    assert!(rt; !sql.output().is_empty());
     assert_eq!(rt; list.status, ExitCode::SUCCESS);
     assert!(rt; !list.output().is_empty());
     assert_eq!(rt;

@@ -1,0 +1,4 @@
+pub mod Rows
+pub mod TakingBack
+pub mod Parts
+pub mod OnePass

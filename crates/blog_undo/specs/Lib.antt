@@ -1,0 +1,4 @@
+pub mod Mixed
+pub mod Laws
+pub mod Part
+pub mod ByRows
