@@ -1,5 +1,5 @@
 #!/bin/sh
-# Measures binlog list and binlog split beside flashback. See README.md beside this file.
+# Measures binlog list, split and sql beside flashback. See README.md beside this file.
 #
 #     sh bench/commands.sh [SHAPE MB]..
 #

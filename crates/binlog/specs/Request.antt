@@ -19,7 +19,7 @@ use Rattle.jiff.specs.Types.{TimeZone}
 use Rattle.blog_choice.specs.Choice.{read_name}
 use Rattle.blog_choice.specs.code.Views.{choice_value, name_value}
 use Rattle.blog_request.specs.declared.wanted.Wanted.{Wanted}
-use Rattle.blog_sql.specs.Changed.{HaveShortNames, read_renamed}
+use Rattle.blog_sql.specs.Changed.{HasShortNames, HaveShortNames, read_renamed}
 use Rattle.blog_sql.specs.code.Views.{renamed_value}
 use Rattle.blog_sql.specs.declared.options.Renamed.{Renamed}
 use Rattle.blog_sql.specs.declared.options.SqlOptions.{SqlOptions}
@@ -31,7 +31,8 @@ use Rattle.binlog.specs.declared.arguments.Asked.TheVariants.{Text, NewLog, List
 use Rattle.binlog.specs.declared.list_arguments.ListTask.{ListTask}
 use Rattle.binlog.specs.declared.sql_arguments.SqlTask.{SqlTask}
 use Rattle.binlog.specs.declared.arguments.NewLogTask.{NewLogTask}
-use Rattle.binlog.specs.declared.arguments.Making.TheVariants.{Plain, Split}
+use Rattle.binlog.specs.declared.arguments.Making.{Making}
+use Rattle.binlog.specs.declared.arguments.Making.TheVariants.{Plain, Split, Sql as AsSql}
 use Rattle.binlog.specs.declared.arguments.ArgumentsFault.{ArgumentsFault}
 use Rattle.binlog.specs.declared.arguments.ArgumentsFault.TheVariants.{Wrong, NotText, OutOfMemory}
 
@@ -231,8 +232,14 @@ is_list (NewLog task) = false
 is_list (OfList task) = true
 is_list (Sql task) = false
 
--- the new names of schemas that are asked for are as short as names can be
+-- the new names of schemas are as short as names can be: those with which a log is printed
+abbrev pub HasShortMaking : Making → Type 0
+HasShortMaking (AsSql limit how) = HasShortNames how
+HasShortMaking making = ⊤
+
+-- and those that are asked for
 abbrev pub HasShortSchemas : {A : Type 0} → Asked A → Type 0
+HasShortSchemas (NewLog task) = HasShortMaking task.making
 HasShortSchemas (Sql task) = HaveShortNames task.schemas.items
 HasShortSchemas asked = ⊤
 

@@ -9,6 +9,7 @@ use Rattle.blog_device.specs.declared.fault.RunFault.{RunFault}
 use Rattle.blog_device.specs.declared.fault.RunFault.TheVariants.{Log, Read, Write}
 use Rattle.blog_sum.specs.declared.fault.SumFault.{SumFault}
 use Rattle.blog_sum.specs.Sums.{sum_fault}
+use Rattle.blog_source.specs.Laws.{whole_reading}
 use Rattle.blog_source.specs.Plain.{plain_log}
 use Rattle.blog_source.specs.declared.reading.Reading.{Reading}
 use Rattle.blog_source.specs.Found.{found_of, source_refusal}
@@ -32,15 +33,10 @@ use Rattle.blog_split.specs.declared.fault.SplitRunFault.TheVariants as run
 use Rattle.blog_split.specs.Laws.{IsSplit, KeepsChanges}
 use Rattle.blog_split.specs.Splitting.{IsTooLong}
 use Rattle.blog_trans.specs.Selection.{all}
-use Rattle.blog_sql.specs.Changed.{HasShortNames}
 use Rattle.blog_sql.specs.OfLog.{printed, printed_end}
 use Rattle.blog_sql.specs.declared.options.SqlOptions.{SqlOptions}
 use Rattle.blog_trans.specs.Acceptance.{IsAccepted, IsRefusal, fault}
 use Rattle.blog_trans.specs.Groups.{Transaction}
-
--- a log is read to its end
-abbrev pub whole : Reading
-whole = record { stop = None; skip_damaged = false }
 
 -- this log was read, and it isn't whole: this is its first fault
 abbrev pub RefusesSums : Option (List ℕ) → Option (List ℕ) → SumFault → Type 0
@@ -71,24 +67,19 @@ IsSqlOf limit how log text = IsAccepted log all × (text ≡ printed how limit l
 -- what is made of a log, each of whose sums is right: the same without checksums, or one with its statements cut, or its SQL
 abbrev pub IsMadeOf : Making → List ℕ → List ℕ → Type 0
 IsMadeOf Plain log text = (sum_fault log ≡ None) × (text ≡ plain_log log)
-IsMadeOf (Split limit) log text = (sum_fault log ≡ None) × IsCutOf limit (handed_log whole log) text
-IsMadeOf (Sql limit how) log text = (sum_fault log ≡ None) × IsSqlOf limit how (handed_log whole log) text
-
--- the new names of schemas are as short as names can be
-abbrev pub HasShortMaking : Making → Type 0
-HasShortMaking (Sql limit how) = HasShortNames how
-HasShortMaking making = ⊤
+IsMadeOf (Split limit) log text = (sum_fault log ≡ None) × IsCutOf limit (handed_log whole_reading log) text
+IsMadeOf (Sql limit how) log text = (sum_fault log ≡ None) × IsSqlOf limit how (handed_log whole_reading log) text
 
 -- why no new log is made of a log, each of whose sums is right
 abbrev pub RefusesNewLog : Making → List ℕ → SplitFault → Type 0
 RefusesNewLog Plain log fault = ⊥
-RefusesNewLog (Split limit) log fault = (sum_fault log ≡ None) × RefusesCut limit (handed_log whole log) (found_of whole log).end fault
-RefusesNewLog (Sql limit how) log fault = (sum_fault log ≡ None) × RefusesSql limit how (handed_log whole log) (found_of whole log).end fault
+RefusesNewLog (Split limit) log fault = (sum_fault log ≡ None) × RefusesCut limit (handed_log whole_reading log) (found_of whole_reading log).end fault
+RefusesNewLog (Sql limit how) log fault = (sum_fault log ≡ None) × RefusesSql limit how (handed_log whole_reading log) (found_of whole_reading log).end fault
 
 -- what comes of reading a log and opening it as a source: a source that is whole; or that it can't be held, that a read failed,
 -- or that it isn't whole
 abbrev pub OpensWhole : {A : Type 0} → Option (List ℕ) → Option (List ℕ) → Result (Source A) NewLogFault → Type 0
-OpensWhole old new (Ok source) = (log : List ℕ) × ReadsLog old new log × (sum_fault log ≡ None) × (log_of source ≡ handed_log whole log) × (end_of source ≡ (found_of whole log).end)
+OpensWhole old new (Ok source) = (log : List ℕ) × ReadsLog old new log × (sum_fault log ≡ None) × (log_of source ≡ handed_log whole_reading log) × (end_of source ≡ (found_of whole_reading log).end)
 OpensWhole old new (Err (Run (Log fault))) = (fault ≡ NoMemory) ⊎ ((fault ≡ TooLong 0) × PassesLimit greatest_length old new)
 OpensWhole old new (Err (Run Read)) = ⊤
 OpensWhole old new (Err (Run Write)) = ⊥

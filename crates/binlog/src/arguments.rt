@@ -175,7 +175,7 @@ pub(crate) fn read_size<'a, A: Allocator + Copy>(
 
 fn read_task<'a>(found: &ArgMatches<'a>, making: Making<'a>) -> NewLogTask<'a, 'a>
     ensures task { IsNewLogTask (found_of found.now) result }
-    ensures making { result.making ≡ making }
+    ensures making { result.making ≡ making.entry }
 {
     NewLogTask {
         // the parser has refused arguments without a LOG

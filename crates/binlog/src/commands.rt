@@ -3,13 +3,13 @@
 ghost use Rattle.std.specs.Prelude.{◌≡◌, ◌↔◌, ◌⊎◌, ◌≤◌, ◌||◌, IfErr, IsErr, IsOk, IsSome, None, OnErr, false, true};
 ghost use Rattle.std.specs.Process.{exit_status};
 ghost use Rattle.blog_device.specs.Watched.{device_of, has_failed};
-ghost use Rattle.binlog.specs.Request.{HasSqlOptions, asks_for_list};
+ghost use Rattle.binlog.specs.Request.{HasShortMaking, HasSqlOptions, asks_for_list};
 ghost use Rattle.blog_sql.specs.Changed.{HasShortNames, HaveShortNames};
 ghost use Rattle.blog_sql.specs.declared.options.SqlOptions.{SqlOptions};
 ghost use Rattle.binlog.specs.Status.{status_of};
 ghost use Rattle.blog_split.specs.SplittingTo.{ends_before_writing, is_writing_fault};
 ghost use Rattle.blog_source.specs.code.SourceView.{end_of, log_of};
-ghost use Rattle.binlog.specs.Runs.{HasShortMaking, OpensWhole, PrintsSource, SplitsSource, MayFollowList, OfNewLog, WritesNewLog, new_log_fault, is_failed_read, is_failed_write, may_list};
+ghost use Rattle.binlog.specs.Runs.{OpensWhole, PrintsSource, SplitsSource, MayFollowList, OfNewLog, WritesNewLog, new_log_fault, is_failed_read, is_failed_write, may_list};
 ghost use Rattle.blog_device.specs.Devices.{is_read_fault, is_write_fault};
 ghost use Rattle.binlog.specs.declared.commands.Failure.TheVariants.{Arguments, NewLog, ResultFile};
 ghost use Rattle.binlog.specs.declared.commands.NewLogFault.TheVariants.{Run, Sums, Split};
@@ -334,7 +334,7 @@ fn new_log_to_output<A: Allocator + Copy, D: Read, O: Write>(
     output: &mut Watched<O>,
 ) -> Result<(), NewLogFault>
     requires { HasShortMaking making }
-    ensures writes { WritesNewLog making (D.remaining (device_of reader.old)) (D.remaining (device_of reader.new))
+    ensures writes { WritesNewLog making.entry (D.remaining (device_of reader.old)) (D.remaining (device_of reader.new))
         (O.contents (device_of output.old)) (O.contents (device_of output.new)) result }
     ensures reader_mark { has_failed reader.new ≡ (has_failed reader.old || is_failed_read result) }
     ensures writer_mark { has_failed output.new ≡ (has_failed output.old || is_failed_write result) }

@@ -1,9 +1,9 @@
 //! Which arguments of `sql` mean what.
 
-ghost use Rattle.std.specs.Prelude.{◌≡◌, ◌≤◌, IfErr, IfOk, codes, length};
-ghost use Rattle.std.specs.List.{AllByRecursion};
+ghost use Rattle.std.specs.Prelude.{◌≡◌, IfErr, IfOk, codes};
+ghost use Rattle.blog_sql.specs.Changed.{HaveShortNames};
 ghost use Rattle.clap.specs.Words.{first_value, found_of};
-ghost use Rattle.binlog.specs.Request.{AreSchemas, HasSqlOptions, HaveShortNames, IsSizeOf, IsSqlTask, IsWrong, RefusesSchemas, RefusesSql, all_values};
+ghost use Rattle.binlog.specs.Request.{AreSchemas, HasSqlOptions, IsSizeOf, IsSqlTask, IsWrong, RefusesSchemas, RefusesSql, all_values};
 ghost use Rattle.binlog.specs.declared.arguments.ArgumentsFault.TheVariants.{OutOfMemory};
 
 use crate::arguments::{ArgumentsFault, is_given, read_size};
