@@ -7,3 +7,4 @@ pub mod Grouping
 pub mod Whole
 pub mod OfLog
 pub mod Reading
+pub mod ReadBack

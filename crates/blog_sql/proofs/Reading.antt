@@ -40,7 +40,7 @@ plain-pads : (n : ℕ) → list_all is_plain (replicate n 61) ≡ true
 plain-pads zero = refl
 plain-pads (suc n) = plain-pads n
 
-plain-encoded : (bytes : List ℕ) → list_all is_plain (encode_of standard bytes) ≡ true
+pub plain-encoded : (bytes : List ℕ) → list_all is_plain (encode_of standard bytes) ≡ true
 plain-encoded bytes =
     let symbols : List ℕ = encode_symbols (engine_symbols standard) bytes in
     let pads : List ℕ = replicate ((3 - length bytes % 3) % 3) 61 in

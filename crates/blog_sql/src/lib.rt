@@ -13,7 +13,7 @@ mod sizes;
 mod tests;
 mod written_sql;
 
-pub use laws::binlogs_are_read_back;
+pub use laws::{binlogs_are_read_back, texts_are_read_back};
 pub use of_log::sql_of_log;
 pub use options::{Renamed, SqlOptions};
 pub use sizes::sql_sizes;

@@ -3,14 +3,32 @@
 ghost use Rattle.blog_sql.specs.Changed.{HasShortNames};
 
 use crate::{NAME_AND_VERSION, Renamed, SqlOptions, sql_of_log};
+use base64::engine::general_purpose::STANDARD;
 use blog_device::Watched;
+use blog_event::Fault;
+use blog_split::{SplitFault, SplitRunFault};
+use linked_list_allocator::LocalHeap;
+use refusing::Refusing;
+use sample_logs::builder::{BEGIN, Part, T, XID, build, delete, insert};
 use sample_logs::logs::{no_changes, two_statements, two_transactions};
+use std::io;
 use std::process::Abort;
 use std::test::Fail;
+use testkit::devices::{ALL, Failure, SlowWriter};
 
 /// Two statements of one transaction.
 #[rattlefmt::skip]
 const TWO_STATEMENTS: &[u8] = b"-- flashback 0.1.0\nSET @undo_errors = 0;\nBINLOG '\nAAAAAA8BAAAAdAAAAHgAAAAAAAQANS42LjUxAAAAAAAAAAAAAAAAAAAAAAAAAAAAAAAAAAAAAAAA\nAAAAAAAAAAAAAAAAAAAAAAAAEzgNAAgAEgAEBAQEEgAAXAAEGggAAAAICAgCAAAACgoKGRkAAAAA\nAAA=\n';\n/*!50700 SET @@SESSION.GTID_NEXT='AUTOMATIC' */;\nBEGIN;\nBINLOG '\nAAAAABMBAAAAJQAAAMQAAAAAAAEAAAAAAAEAAWQAAXQAAQMAAQAAAAAeAQAAACQAAADoAAAAAAAB\nAAAAAAABAAIAAf/+AQAAAA==\n';\nSET @undo_errors = @undo_errors + @@error_count;\nBINLOG '\nAAAAABMBAAAAJQAAAA0BAAAAAAEAAAAAAAEAAWQAAXQAAQMAAQAAAAAgAQAAACQAAAAxAQAAAAAB\nAAAAAAABAAIAAf/+AgAAAA==\n';\nSET @undo_errors = @undo_errors + @@error_count;\nSET @undo_end = IF(@undo_errors = 0, 'COMMIT', 'ROLLBACK');\nPREPARE undo_end FROM @undo_end;\nEXECUTE undo_end;\nDEALLOCATE PREPARE undo_end;\nSELECT @undo_end AS ended_with, @undo_errors AS errors;\n";
+
+/// The same changes as one statement.
+#[rattlefmt::skip]
+const ONE_STATEMENT: &[u8] = b"-- flashback 0.1.0\nSET @undo_errors = 0;\nBINLOG '\nAAAAAA8BAAAAdAAAAHgAAAAAAAQANS42LjUxAAAAAAAAAAAAAAAAAAAAAAAAAAAAAAAAAAAAAAAA\nAAAAAAAAAAAAAAAAAAAAAAAAEzgNAAgAEgAEBAQEEgAAXAAEGggAAAAICAgCAAAACgoKGRkAAAAA\nAAA=\n';\n/*!50700 SET @@SESSION.GTID_NEXT='AUTOMATIC' */;\nBEGIN;\nBINLOG '\nAAAAABMBAAAAJQAAAMQAAAAAAAEAAAAAAAEAAWQAAXQAAQMAAQAAAAAeAQAAACQAAADoAAAAAAAB\nAAAAAAAAAAIAAf/+AQAAAAAAAAAgAQAAACQAAAAMAQAAAAABAAAAAAABAAIAAf/+AgAAAA==\n';\nSET @undo_errors = @undo_errors + @@error_count;\nSET @undo_end = IF(@undo_errors = 0, 'COMMIT', 'ROLLBACK');\nPREPARE undo_end FROM @undo_end;\nEXECUTE undo_end;\nDEALLOCATE PREPARE undo_end;\nSELECT @undo_end AS ended_with, @undo_errors AS errors;\n";
+
+/// Where the lines of its second BINLOG begin.
+const BINLOG_START: usize = 277;
+
+/// Where they end.
+const BINLOG_END: usize = 427;
 
 /// Two transactions, each with its own end, with schema `d` named `other` and all timestamps 1.
 #[rattlefmt::skip]
@@ -20,24 +38,51 @@ const TWO_TRANSACTIONS: &[u8] = b"-- flashback 0.1.0\nSET @undo_errors = 0;\nBIN
 #[rattlefmt::skip]
 const NO_TRANSACTION: &[u8] = b"-- flashback 0.1.0\nSET @undo_errors = 0;\nBINLOG '\nAAAAAA8BAAAAdAAAAHgAAAAAAAQANS42LjUxAAAAAAAAAAAAAAAAAAAAAAAAAAAAAAAAAAAAAAAA\nAAAAAAAAAAAAAAAAAAAAAAAAEzgNAAgAEgAEBAQEEgAAXAAEGggAAAAICAgCAAAACgoKGRkAAAAA\nAAA=\n';\n/*!50700 SET @@SESSION.GTID_NEXT='AUTOMATIC' */;\nSET @undo_end = 'COMMIT';\nSELECT @undo_end AS ended_with, @undo_errors AS errors;\n";
 
+/// All transactions as one, and no event changed.
+const UNCHANGED: SqlOptions<'static> = SqlOptions {
+    each_transaction: false,
+    time: None,
+    schemas: &[],
+};
+
+/// A limit that no statement here exceeds.
+const LIMIT: usize = 1 << 20;
+
 /// The log is printed as this text.
-fn check<R: AllocGlobal + Abort>(rt: &R, log: &[u8], how: &SqlOptions<'_>, text: &[u8])
+fn check<R: AllocGlobal + Abort>(
+    rt: &R,
+    log: &[u8],
+    limit: usize,
+    how: &SqlOptions<'_>,
+    text: &[u8],
+)
     requires { HasShortNames how.now }
 {
     let mut writer = Watched::new(Vec::new(rt.alloc()));
-    let done = sql_of_log(rt.alloc(), &mut writer, log, 1 << 20, how);
+    let done = sql_of_log(rt.alloc(), &mut writer, log, limit, how);
     assert!(rt; done.is_ok());
     assert!(rt; writer.device().as_slice() == text);
 }
 
 #[test]
 fn all_transactions_are_one(rt: HostRuntime) -> Result<(), Fail> {
-    let how = SqlOptions {
-        each_transaction: false,
-        time: None,
-        schemas: &[],
-    };
-    check(&rt, &two_statements(&rt)?, &how, TWO_STATEMENTS);
+    check(
+        &rt,
+        &two_statements(&rt)?,
+        LIMIT,
+        &UNCHANGED,
+        TWO_STATEMENTS,
+    );
+    Ok(())
+}
+
+#[test]
+fn a_statement_over_the_limit_is_cut(rt: HostRuntime) -> Result<(), Fail> {
+    // Two rows events of 36 bytes.
+    let rows = [insert(1, &[1]).open(), delete(1, &[2])];
+    let log = build(&rt, &[BEGIN, Part::Map(T), rows[0], rows[1], XID])?;
+    check(&rt, &log, 72, &UNCHANGED, ONE_STATEMENT);
+    check(&rt, &log, 71, &UNCHANGED, TWO_STATEMENTS);
     Ok(())
 }
 
@@ -52,8 +97,8 @@ fn each_transaction_ends_by_itself(rt: HostRuntime) -> Result<(), Fail> {
         time: Some(1),
         schemas: &schemas,
     };
-    check(&rt, &two_transactions(&rt)?, &how, TWO_TRANSACTIONS);
-    check(&rt, &no_changes(&rt)?, &how, NO_TRANSACTION);
+    check(&rt, &two_transactions(&rt)?, LIMIT, &how, TWO_TRANSACTIONS);
+    check(&rt, &no_changes(&rt)?, LIMIT, &how, NO_TRANSACTION);
     Ok(())
 }
 
@@ -61,4 +106,91 @@ fn each_transaction_ends_by_itself(rt: HostRuntime) -> Result<(), Fail> {
 fn the_first_line_has_name_and_version(rt: HostRuntime) {
     let line = TWO_STATEMENTS.get(3..18);
     assert!(rt; line == Some(NAME_AND_VERSION.as_bytes()));
+}
+
+#[test]
+fn a_long_text_is_written_by_chunks(rt: HostRuntime) -> Result<(), Fail> {
+    let mut values = Vec::new(rt.alloc());
+    for _ in 0..40_000 {
+        values.push(5)?;
+    }
+    let log = build(&rt, &[BEGIN, Part::Map(T), insert(1, &values), XID])?;
+    // The front has 120 bytes, `BEGIN` 39, and the end event 27.
+    let end = log.len().wrapping_sub(27);
+    let events = log.get(159..end).ok_or("a short log")?;
+    let encoded = STANDARD.encode(rt.alloc(), events)?;
+    let mut text = ONE_STATEMENT[..BINLOG_START].to_vec(rt.alloc())?;
+    for line in encoded.as_bytes().chunks(76) {
+        text.extend_from_slice(line)?;
+        text.push(b'\n')?;
+    }
+    text.extend_from_slice(&ONE_STATEMENT[BINLOG_END..])?;
+    let mut writer = Watched::new(SlowWriter::new(&rt, ALL, Failure::Never));
+    let done = sql_of_log(rt.alloc(), &mut writer, &log, LIMIT, &UNCHANGED);
+    assert!(rt; done.is_ok());
+    assert!(rt; writer.device().taken.as_slice() == text.as_slice());
+    // Two writes and a flush.
+    assert_eq!(rt; writer.device().calls, 3);
+    Ok(())
+}
+
+/// A heap with room for the call, in bytes.
+const ROOM: usize = 1 << 19;
+
+/// At most this many requests are refused, in turn.
+const MOST_REQUESTS: usize = 100;
+
+#[test]
+fn a_refused_request_writes_nothing(rt: HostRuntime) -> Result<(), Fail> {
+    let log = two_statements(&rt)?;
+    let heap = LocalHeap::new(rt.alloc(), ROOM)?;
+    for number in 0..MOST_REQUESTS {
+        let alloc = Refusing::new(&heap, number + 1);
+        let mut writer = Watched::new(SlowWriter::new(&rt, ALL, Failure::Never));
+        let done = sql_of_log(&alloc, &mut writer, &log, LIMIT, &UNCHANGED);
+        if done.is_ok() {
+            assert!(rt; !alloc.has_refused());
+            assert!(rt; writer.device().taken.as_slice() == TWO_STATEMENTS);
+            assert!(rt; number >= 5);
+            return Ok(());
+        }
+        let refused = SplitFault::Log(Fault::OutOfMemory);
+        assert_eq!(rt; done, Err(SplitRunFault::Split(refused)));
+        assert!(rt; alloc.has_refused());
+        assert_eq!(rt; writer.device().calls, 0);
+    }
+    Err("more requests than are tried".into())
+}
+
+/// The most bytes that a slow writer takes a call.
+const STEP: usize = 100;
+
+/// With this failure the call reports a failed write, and the writer has this text.
+fn check_failure<R: AllocGlobal + Abort>(
+    rt: &R,
+    log: &[u8],
+    failure: Failure,
+    text: Option<&[u8]>,
+) {
+    let mut writer = Watched::new(SlowWriter::new(rt, STEP, failure));
+    let done = sql_of_log(rt.alloc(), &mut writer, log, LIMIT, &UNCHANGED);
+    assert_eq!(rt; done, Err(SplitRunFault::Write));
+    assert!(rt; Some(writer.device().taken.as_slice()) == text);
+    assert_eq!(rt; writer.device().failed_calls, 1);
+    assert!(rt; writer.failed());
+}
+
+#[test]
+fn a_failed_write_is_reported(rt: HostRuntime) -> Result<(), Fail> {
+    let log = two_statements(&rt)?;
+    // 790 bytes are eight calls.
+    for call in 0..8 {
+        let failure = Failure::At(call + 1, io::ErrorKind::Interrupted);
+        let text = TWO_STATEMENTS.get(..call as usize * STEP);
+        check_failure(&rt, &log, failure, text);
+    }
+    check_failure(&rt, &log, Failure::TakesNothingAt(1), Some(b""));
+    let failure = Failure::AtFlush(io::ErrorKind::Other);
+    check_failure(&rt, &log, failure, Some(TWO_STATEMENTS));
+    Ok(())
 }
