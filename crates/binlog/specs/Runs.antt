@@ -1,6 +1,6 @@
 -- What a run does to the bytes of its devices. Of a device that does not tell its bytes these definitions say that there
 -- are such bytes.
-use Rattle.std.specs.Prelude.{◌≡◌, ◌⊎◌, ◌<◌, ℕ, Bool, true, false, List, ⊤, String, Vec, Option, None, Some, option_map, Result, Ok, Err}
+use Rattle.std.specs.Prelude.{◌≡◌, ◌⊎◌, ◌<◌, ℕ, Bool, true, false, List, [], ◌∷◌, ⊤, String, Vec, Option, None, Some, option_map, Result, Ok, Err}
 use Rattle.std.specs.Io.KnownBytes.{Keeps, Appends}
 use Rattle.blog_event.specs.declared.fault.Fault.{Fault}
 use Rattle.blog_event.specs.declared.fault.Fault.TheVariants.{TooLong, OutOfMemory as NoMemory}
@@ -15,11 +15,18 @@ use Rattle.blog_source.specs.declared.reading.Reading.{Reading}
 use Rattle.blog_source.specs.Found.{found_of, source_refusal}
 use Rattle.blog_source.specs.Handed.{handed_log}
 use Rattle.blog_source.specs.Places.{place_of}
-use Rattle.blog_source.specs.code.SourceView.{end_of, log_of}
+use Rattle.blog_source.specs.code.SourceView.{damaged_of, end_of, fault_of, log_of}
 use Rattle.blog_source.specs.declared.source.Source.{Source}
 use Rattle.blog_event.specs.Fault.{name_of, position_of}
 use Rattle.blog_event.specs.Opening.{opening_fault}
-use Rattle.binlog.specs.Request.{asks_for_list}
+use Rattle.jiff.specs.Types.{TimeZone}
+use Rattle.blog_list.specs.Texts.{AppendsList}
+use Rattle.blog_list.specs.code.Told.{end_listed, listed}
+use Rattle.blog_list.specs.declared.listing.Form.TheVariants.{Text}
+use Rattle.blog_request.specs.declared.wanted.Wanted.{Wanted}
+use Rattle.binlog.specs.Request.{HasTask, asks_for_list}
+use Rattle.binlog.specs.Zones.{IsZoneOf}
+use Rattle.binlog.specs.declared.list_arguments.ListTask.{ListTask}
 use Rattle.binlog.specs.declared.commands.Failure.{Failure}
 use Rattle.binlog.specs.declared.commands.Failure.TheVariants.{NewLog as NoNewLog, List as NoList, EndsEarly, Unread}
 use Rattle.binlog.specs.declared.commands.NewLogFault.{NewLogFault}
@@ -144,14 +151,25 @@ abbrev pub may_list : {A B E : Type 0} → Result (Vec (String A) B) E → Bool
 may_list (Ok arguments) = asks_for_list arguments.items
 may_list (Err error) = false
 
--- what comes of reading a log for its list: its front was read; or it can't be held, what is handed out for it can't be opened,
--- or a read or a write failed
-abbrev pub WritesList : {X : Type 0} → Reading → Option (List ℕ) → Option (List ℕ) → Result X RunFault → Type 0
-WritesList how old new (Ok end) = (log : List ℕ) × ReadsLog old new log × (source_refusal log ≡ None)
-WritesList how old new (Err (Log fault)) = (fault ≡ NoMemory) ⊎ ((fault ≡ TooLong 0) × PassesLimit greatest_length old new)
-    ⊎ ((log : List ℕ) × ReadsLog old new log × (source_refusal log ≡ None) × (opening_fault (handed_log how log) ≡ Some fault))
-WritesList how old new (Err Read) = ⊤
-WritesList how old new (Err Write) = (log : List ℕ) × ReadsLog old new log × (source_refusal log ≡ None)
+-- a log opens as this source, if it is read so
+abbrev pub IsSourceOf : {A : Type 0} → Reading → List ℕ → Source A → Type 0
+IsSourceOf how log source = (log_of source ≡ handed_log how log) × (end_of source ≡ (found_of how log).end)
+    × (fault_of source ≡ (found_of how log).fault) × (damaged_of source ≡ (found_of how log).damaged)
+
+-- the list of a source that a task asks for is written, and this is why it ends early. For JSON it isn't said what is written
+abbrev pub IsListOf : {A : Type 0} → Source A → ListTask A → Option SumFault → Option (List ℕ) → Option (List ℕ) → Type 0
+IsListOf source task end had has = (wanted : Wanted) × HasTask task wanted × (end ≡ end_listed source wanted)
+    × ((zone : TimeZone) × IsZoneOf task.zone zone × (task.form ≡ Text → AppendsList zone task.gtids (listed None source wanted ∷ []) had has))
+
+-- what comes of reading a log for the list of a task: the list of the source that the log opens as is written; or the log can't be
+-- held, what is handed out for it can't be opened, or a read or a write failed
+abbrev pub WritesList : {A : Type 0} → ListTask A → Option (List ℕ) → Option (List ℕ) → Option (List ℕ) → Option (List ℕ) → Result (Option SumFault) RunFault → Type 0
+WritesList {A} task old new had has (Ok end) = (log : List ℕ) × ReadsLog old new log × (source_refusal log ≡ None)
+    × ((source : Source A) × IsSourceOf task.reading log source × IsListOf source task end had has)
+WritesList task old new had has (Err (Log fault)) = (fault ≡ NoMemory) ⊎ ((fault ≡ TooLong 0) × PassesLimit greatest_length old new)
+    ⊎ ((log : List ℕ) × ReadsLog old new log × (source_refusal log ≡ None) × (opening_fault (handed_log task.reading log) ≡ Some fault))
+WritesList task old new had has (Err Read) = ⊤
+WritesList task old new had has (Err Write) = (log : List ℕ) × ReadsLog old new log × (source_refusal log ≡ None)
 
 -- this log was read, of which nothing can be read for a list
 abbrev pub LeavesUnread : Option (List ℕ) → Option (List ℕ) → SumFault → Type 0

@@ -2,3 +2,4 @@ mod Ending
 mod Growing
 mod Marking
 mod OnTheWay
+mod Whole

@@ -1,11 +1,13 @@
--- A list on its way: which units are done, what is written and held of their lines, and what is counted.
-use Rattle.std.proofs.Common.{◌≡◌, ℕ, ◌+◌, Bool, true, false, List, [], ◌∷◌, ◌++◌, length, map, Option, Result, Ok, Err, refl, sym, ap, ap₂, subst, ◌∙◌, append_assoc, append-nil, arith, length-append, inl, inr}
+-- What is listed of a log, on its way: which units are done, what is written and held of their lines, and what is counted.
+use Rattle.std.proofs.Common.{◌≡◌, ℕ, ◌+◌, Bool, true, false, List, [], ◌∷◌, ◌++◌, length, map, Result, Ok, Err, refl, sym, ap, ap₂, subst, ◌∙◌, Option, append_assoc, append-nil, arith, length-append, inl, inr}
 use Rattle.std.specs.Prelude.{filter, if◌then◌else◌, string_bytes}
+use Rattle.std.specs.List.{count_by}
 use Rattle.std.specs.Option.{option_map_or}
 use Rattle.std.specs.Result.{is_err, result_ok}
 use Rattle.std.specs.Io.KnownBytes.{Appends}
 use Rattle.std.proofs.KnownBytes.{Appends-nil, Appends-trans}
 use Rattle.std.proofs.lemmas.Bool.{cond-true, cond-false}
+use Rattle.std.proofs.lemmas.List.Sums.{sum_by-cons, sum_by_push}
 use Rattle.jiff.specs.Types.{TimeZone}
 use Rattle.jiff.specs.Words.{plain_zone}
 use Rattle.blog_event.specs.declared.fault.Fault.{Fault}
@@ -18,17 +20,18 @@ use Rattle.blog_trans.specs.Selection.{Selection}
 use Rattle.blog_units.specs.Units.{Facts, between}
 use Rattle.blog_units.specs.declared.unit.Unit.{Unit}
 use Rattle.blog_units.specs.code.UnitsView.{AreGroups, IsJudged, facts_told}
+use Rattle.blog_request.specs.declared.wanted.Concern.{Concern}
+use Rattle.blog_request.specs.declared.wanted.Concern.TheVariants.{Wanted as IsWanted, PassedOver, Other}
+use Rattle.blog_request.specs.declared.wanted.Wanted.{Wanted}
+use Rattle.blog_request.specs.Wanted.{changes_told, concern_of, is_before, is_wanted, is_wanted_unit}
 use Rattle.blog_list.specs.declared.column.TimeColumn.{TimeColumn}
 use Rattle.blog_list.specs.declared.totals.Totals.{Totals}
-use Rattle.blog_request.specs.declared.wanted.Wanted.{Wanted}
-use Rattle.blog_list.specs.Columns.{IsHeading}
-use Rattle.blog_list.specs.Lines.{Refusal, Shown, all_refused, all_rows, at_most, header, rows_of, rows_shown, totals_line}
-use Rattle.blog_list.specs.Shown.{changes_in, changes_of, changes_shown, rows_or, shown, shown_with, wanted_of}
-use Rattle.blog_list.specs.Texts.{AppendsList, AppendsListBeginning, AreLines, IsLine, IsListText, IsUpTo}
-use Rattle.blog_list.specs.code.Held.{HasWritten, has_no_memory}
+use Rattle.blog_list.specs.Lines.{LogList, Refusal, Shown, all_refused, all_rows, name_line, rows_of, rows_shown, sum_damaged, sum_passed_over, sum_refused, sum_rows, sum_units, totals_lines}
+use Rattle.blog_list.specs.Shown.{changes_in, changes_of, changes_shown, in_front, is_passed, passed_over_of, rows_or, shown, shown_with, wanted_of}
+use Rattle.blog_list.specs.Texts.{AreLines, IsLine}
+use Rattle.blog_list.specs.code.Held.{HasBegun, HasListed, HasWritten, has_no_memory}
 use Rattle.blog_list.specs.code.Told.{PutsLine, shown_told}
-use Rattle.blog_list.specs.code.Totals.{HasCounted, totals_text}
-use Rattle.blog_request.specs.Wanted.{changes_told, is_before, is_wanted_unit}
+use Rattle.blog_list.specs.code.Totals.{AreTotals, CountsLog, HasAdded, HasCounted, HasDamaged, totals_text}
 
 -- ---- one unit more
 
@@ -46,104 +49,65 @@ rows-more : (done : List Shown) (s : Shown) → all_rows (done ++ s ∷ []) ≡ 
 rows-more [] s = omega arith
 rows-more (x ∷ xs) s = let more = rows-more xs s in omega arith
 
--- the numbers of these units
-pub record IsCounted (totals : Totals) (done : List Shown) : Type 0 where
-  pub units_are : totals.units ≡ at_most (length done)
-  pub refused_are : totals.refused ≡ at_most (all_refused done)
-  pub rows_are : totals.rows ≡ at_most (all_rows done)
-
--- 1 where it is
-abbrev flag_of : Bool → ℕ
-flag_of b = if b then 1 else 0
-
-counted-more : (log : List ℕ) (place : ℕ → ℕ) (stop : ℕ) (old new : Totals) (done : List Shown) (s : Shown) (changes : Result (List TableCount) Fault)
-    → s.changes ≡ changes_shown log place stop changes → IsCounted old done → HasCounted old new changes → IsCounted new (done ++ s ∷ [])
-counted-more log place stop old new done s (Ok counts) is counted (more, refused, rows) =
-    let flag : ◌≡◌ {A = ℕ} (if is_err s.changes then 1 else 0) 0 = ap (λ (r : Result (List TableCount) Refusal). flag_of (is_err r)) is in
-    let own : rows_shown s ≡ rows_of counts = ap (λ (r : Result (List TableCount) Refusal). option_map_or rows_of (result_ok r) 0) is in
-    record {
-      units_are = omega (arith, more, counted.units_are, length-append done (s ∷ []));
-      refused_are = omega (arith, refused, counted.refused_are, refused-more done s, flag);
-      rows_are = omega (arith, rows, counted.rows_are, rows-more done s, own);
-    }
-counted-more log place stop old new done s (Err why) is counted (more, refused, rows) =
-    let flag : ◌≡◌ {A = ℕ} (if is_err s.changes then 1 else 0) 1 = ap (λ (r : Result (List TableCount) Refusal). flag_of (is_err r)) is in
-    let own : rows_shown s ≡ 0 = ap (λ (r : Result (List TableCount) Refusal). option_map_or rows_of (result_ok r) 0) is in
-    record {
-      units_are = omega (arith, more, counted.units_are, length-append done (s ∷ []));
-      refused_are = omega (arith, refused, counted.refused_are, refused-more done s, flag);
-      rows_are = omega (arith, rows, counted.rows_are, rows-more done s, own);
-    }
-
-totals-are : (totals : Totals) (done : List Shown) → IsCounted totals done → totals_text totals ≡ totals_line done
-unfolding totals_line
-totals-are totals done counted = rw (counted.units_are, counted.refused_are, counted.rows_are) refl
-
--- ---- the list
+-- ---- the lines
 
 -- what is shown of the units among these that are wanted
 abbrev pub listed_of : Wanted → List ℕ → (ℕ → ℕ) → List Facts → List Shown
 listed_of w log place us = map (shown log place) (wanted_of w log us)
 
--- how the list is written: in this zone, with ids or without, below this heading of times
+-- how lines are written: in this zone, with ids or without, with times in a column of this width, behind what was held before
 pub record Sheet : Type 0 where
   pub zone : TimeZone
   pub gtids : Bool
-  pub heading : List ℕ
+  pub width : ℕ
+  pub before : List ℕ
 
-pub record IsListing (sheet : Sheet) (all : List Shown) (later : List Shown) (had has : Option (List ℕ)) (held : List ℕ) (totals : Totals) : Type 0 where
-  pub heading_is : IsHeading sheet.zone sheet.heading
+pub record IsListing (sheet : Sheet) (l : LogList) (later : List Shown) (had has : Option (List ℕ)) (held : List ℕ) : Type 0 where
   pub done : List Shown
-  pub chosen : done ++ later ≡ all
+  pub chosen : done ++ later ≡ l.units
   pub written : List ℕ
   pub appended : Appends had has written
   pub lines : List ℕ
-  pub lines_are : AreLines sheet.zone sheet.gtids (length sheet.heading) done lines
-  pub text : written ++ held ≡ header sheet.gtids sheet.heading ++ lines
-  pub counted : IsCounted totals done
+  pub lines_are : AreLines sheet.zone sheet.gtids sheet.width done lines
+  pub text : written ++ held ≡ sheet.before ++ (name_line l.name ++ lines)
 
--- at first the header is held
-pub listing-none : (sheet : Sheet) (all later : List Shown) (had : Option (List ℕ)) (held empty : List ℕ) (totals : Totals) → IsHeading sheet.zone sheet.heading → later ≡ all → empty ≡ []
-    → held ≡ empty ++ header sheet.gtids sheet.heading → totals.units ≡ 0 → totals.refused ≡ 0 → totals.rows ≡ 0 → IsListing sheet all later had had held totals
-listing-none sheet all later had held empty totals heading same none is units refused rows = record {
-  heading_is = heading;
+-- at first the line of the log's name is held
+pub listing-none : (sheet : Sheet) (l : LogList) (later : List Shown) (had : Option (List ℕ)) (held : List ℕ) → later ≡ l.units → held ≡ sheet.before ++ name_line l.name
+    → IsListing sheet l later had had held
+listing-none sheet l later had held same is = record {
   done = [];
   chosen = same;
   written = [];
   appended = Appends-nil had;
   lines = [];
   lines_are = refl;
-  text = is ∙ ap (λ (front : List ℕ). front ++ header sheet.gtids sheet.heading) none ∙ sym (append-nil (header sheet.gtids sheet.heading));
-  counted = record { units_are = omega arith; refused_are = omega arith; rows_are = omega arith };
+  text = is ∙ ap (λ (name : List ℕ). sheet.before ++ name) (sym (append-nil (name_line l.name)));
 }
 
 -- the line of the next one is held
-listing-more : (sheet : Sheet) (all later rest : List Shown) (had has : Option (List ℕ)) (held more line : List ℕ) (old new : Totals) (s : Shown)
-    → IsListing sheet all later had has held old → later ≡ s ∷ rest → IsLine sheet.zone sheet.gtids (length sheet.heading) s line → more ≡ held ++ line
-    → ((done : List Shown) → IsCounted old done → IsCounted new (done ++ s ∷ [])) → IsListing sheet all rest had has more new
-listing-more sheet all later rest had has held more line old new s list first is grown counts = record {
-  heading_is = list.heading_is;
+listing-more : (sheet : Sheet) (l : LogList) (later rest : List Shown) (had has : Option (List ℕ)) (held more line : List ℕ) (s : Shown)
+    → IsListing sheet l later had has held → later ≡ s ∷ rest → IsLine sheet.zone sheet.gtids sheet.width s line → more ≡ held ++ line → IsListing sheet l rest had has more
+listing-more sheet l later rest had has held more line s list first is grown = record {
   done = list.done ++ s ∷ [];
   chosen = append_assoc list.done (s ∷ []) rest ∙ ap (λ (ss : List Shown). list.done ++ ss) (sym first) ∙ list.chosen;
   written = list.written;
   appended = list.appended;
   lines = list.lines ++ line;
-  lines_are = lines-more sheet.zone sheet.gtids (length sheet.heading) list.done s list.lines line list.lines_are is;
+  lines_are = lines-more sheet.zone sheet.gtids sheet.width list.done s list.lines line list.lines_are is;
   text = ap (λ (text : List ℕ). list.written ++ text) grown ∙ sym (append_assoc list.written held line)
-      ∙ ap (λ (text : List ℕ). text ++ line) list.text ∙ append_assoc (header sheet.gtids sheet.heading) list.lines line;
-  counted = counts list.done list.counted;
+      ∙ ap (λ (text : List ℕ). text ++ line) list.text ∙ append_assoc sheet.before (name_line l.name ++ list.lines) line
+      ∙ ap (λ (text : List ℕ). sheet.before ++ text) (append_assoc (name_line l.name) list.lines line);
 }
 
 -- the same units are left to list
-listing-same : (sheet : Sheet) (all later rest : List Shown) (had has : Option (List ℕ)) (held : List ℕ) (totals : Totals)
-    → IsListing sheet all later had has held totals → later ≡ rest → IsListing sheet all rest had has held totals
-listing-same sheet all later rest had has held totals list same = subst (λ (ss : List Shown). IsListing sheet all ss had has held totals) same list
+listing-same : (sheet : Sheet) (l : LogList) (later rest : List Shown) (had has : Option (List ℕ)) (held : List ℕ)
+    → IsListing sheet l later had has held → later ≡ rest → IsListing sheet l rest had has held
+listing-same sheet l later rest had has held list same = subst (λ (ss : List Shown). IsListing sheet l ss had has held) same list
 
 -- a part of what is held is written
-pub listing-written : (sheet : Sheet) (all later : List Shown) (had has now : Option (List ℕ)) (held rest : List ℕ) (totals : Totals)
-    → IsListing sheet all later had has held totals → HasWritten has now held rest → IsListing sheet all later had now rest totals
-listing-written sheet all later had has now held rest totals list (part, appended, split) = record {
-  heading_is = list.heading_is;
+pub listing-written : (sheet : Sheet) (l : LogList) (later : List Shown) (had has now : Option (List ℕ)) (held rest : List ℕ)
+    → IsListing sheet l later had has held → HasWritten has now held rest → IsListing sheet l later had now rest
+listing-written sheet l later had has now held rest list (part, appended, split) = record {
   done = list.done;
   chosen = list.chosen;
   written = list.written ++ part;
@@ -151,75 +115,140 @@ listing-written sheet all later had has now held rest totals list (part, appende
   lines = list.lines;
   lines_are = list.lines_are;
   text = append_assoc list.written part rest ∙ ap (λ (text : List ℕ). list.written ++ text) split ∙ list.text;
-  counted = list.counted;
 }
 
--- ---- its end
-
--- the text so far is that of a list up to a unit
-up-to : (sheet : Sheet) (all later : List Shown) (had has : Option (List ℕ)) (held : List ℕ) (totals : Totals) → (list : IsListing sheet all later had has held totals)
-    → IsUpTo sheet.zone sheet.gtids list.done (list.written ++ held)
-up-to sheet all later had has held totals list = (sheet.heading, list.lines, list.heading_is, list.lines_are, list.text)
+-- ---- their end
 
 -- a beginning of what is held is written, and no more
-pub listing-broken : (sheet : Sheet) (all later : List Shown) (had has now : Option (List ℕ)) (held : List ℕ) (totals : Totals)
-    → IsListing sheet all later had has held totals → AppendsBeginning has now held → AppendsListBeginning sheet.zone sheet.gtids all had now
-listing-broken sheet all later had has now held totals list (front, rest, split, appended) = (
-  list.written ++ held,
-  inr (inr (list.done, later, list.chosen, up-to sheet all later had has held totals list)),
+pub listing-broken : (sheet : Sheet) (l : LogList) (later : List Shown) (had has now : Option (List ℕ)) (held : List ℕ)
+    → IsListing sheet l later had has held → AppendsBeginning has now held → HasBegun sheet.zone sheet.gtids sheet.width l had now sheet.before
+listing-broken sheet l later had has now held list (front, rest, split, appended) = (
+  name_line l.name ++ list.lines,
+  inr (record l { units = list.done }, (later, list.chosen, refl), (list.lines, list.lines_are, refl)),
   (
     list.written ++ front,
     rest,
-    ap (λ (text : List ℕ). list.written ++ text) split ∙ sym (append_assoc list.written front rest),
+    sym list.text ∙ ap (λ (text : List ℕ). list.written ++ text) split ∙ sym (append_assoc list.written front rest),
     Appends-trans had has now list.written front list.appended appended,
   ),
 )
 
 -- nothing more is written
-pub listing-left : (sheet : Sheet) (all later : List Shown) (had has : Option (List ℕ)) (held : List ℕ) (totals : Totals)
-    → IsListing sheet all later had has held totals → AppendsListBeginning sheet.zone sheet.gtids all had has
-listing-left sheet all later had has held totals list = (
-  list.written ++ held,
-  inr (inr (list.done, later, list.chosen, up-to sheet all later had has held totals list)),
-  (list.written, held, refl, list.appended),
-)
+pub listing-left : (sheet : Sheet) (l : LogList) (later : List Shown) (had has : Option (List ℕ)) (held : List ℕ)
+    → IsListing sheet l later had has held → HasBegun sheet.zone sheet.gtids sheet.width l had has sheet.before
+listing-left sheet l later had has held list = listing-broken sheet l later had has has held list ([], held, refl, Appends-nil has)
 
-pub listing-unbegun : (zone : TimeZone) (gtids : Bool) (all : List Shown) (had : Option (List ℕ)) → AppendsListBeginning zone gtids all had had
-listing-unbegun zone gtids all had = ([], inl refl, ([], [], refl, Appends-nil had))
+-- not even the name was held
+pub listing-unbegun : (zone : TimeZone) (gtids : Bool) (width : ℕ) (l : LogList) (had : Option (List ℕ)) (before : List ℕ) → HasBegun zone gtids width l had had before
+listing-unbegun zone gtids width l had before = ([], inl refl, ([], before ++ [], refl, Appends-nil had))
 
--- what is held and the totals are the end of the list
-whole-text : (sheet : Sheet) (all later : List Shown) (had has : Option (List ℕ)) (held : List ℕ) (totals : Totals) → (list : IsListing sheet all later had has held totals) → later ≡ []
-    → IsListText sheet.zone sheet.gtids all (list.written ++ (held ++ totals_text totals))
-whole-text sheet all later had has held totals list none =
-    let all_done : list.done ≡ all = sym (append-nil list.done) ∙ ap (λ (ss : List Shown). list.done ++ ss) (sym none) ∙ list.chosen in (
-      list.written ++ held,
-      subst (λ (ss : List Shown). IsUpTo sheet.zone sheet.gtids ss (list.written ++ held)) all_done (up-to sheet all later had has held totals list),
-      sym (append_assoc list.written held (totals_text totals))
-          ∙ ap (λ (last : List ℕ). (list.written ++ held) ++ last) (totals-are totals list.done list.counted ∙ ap totals_line all_done),
-    )
+-- no unit is wanted that is left
+pub listing-end : (sheet : Sheet) (l : LogList) (later : List Shown) (had has : Option (List ℕ)) (held : List ℕ) → IsListing sheet l later had has held → later ≡ []
+    → HasListed sheet.zone sheet.gtids sheet.width l had has sheet.before held
+listing-end sheet l later had has held list none =
+    let all_done : list.done ≡ l.units = sym (append-nil list.done) ∙ ap (λ (ss : List Shown). list.done ++ ss) (sym none) ∙ list.chosen in
+    let lines_are = subst (λ (ss : List Shown). AreLines sheet.zone sheet.gtids sheet.width ss list.lines) all_done list.lines_are in
+    (name_line l.name ++ list.lines, (list.lines, lines_are, refl), (list.written, list.appended, list.text))
 
--- they are written, and no unit is wanted that is left
-pub listing-end : (sheet : Sheet) (all later : List Shown) (had has now : Option (List ℕ)) (held : List ℕ) (totals : Totals) → IsListing sheet all later had has held totals
-    → later ≡ [] → Appends has now (held ++ totals_text totals) → AppendsList sheet.zone sheet.gtids all had now
-listing-end sheet all later had has now held totals list none appended = (
-  list.written ++ (held ++ totals_text totals),
-  whole-text sheet all later had has held totals list none,
-  Appends-trans had has now list.written (held ++ totals_text totals) list.appended appended,
-)
+-- ---- the numbers
 
--- only a beginning of that is
-pub listing-end-broken : (sheet : Sheet) (all later : List Shown) (had has now : Option (List ℕ)) (held : List ℕ) (totals : Totals) → IsListing sheet all later had has held totals
-    → later ≡ [] → AppendsBeginning has now (held ++ totals_text totals) → AppendsListBeginning sheet.zone sheet.gtids all had now
-listing-end-broken sheet all later had has now held totals list none (front, rest, split, appended) = (
-  list.written ++ (held ++ totals_text totals),
-  inr (inl (whole-text sheet all later had has held totals list none)),
-  (
-    list.written ++ front,
-    rest,
-    ap (λ (text : List ℕ). list.written ++ text) split ∙ sym (append_assoc list.written front rest),
-    Appends-trans had has now list.written front list.appended appended,
-  ),
-)
+-- 1 where it is
+abbrev flag_of : Bool → ℕ
+flag_of b = if b then 1 else 0
+
+-- what is counted of these units, if so many statements are passed over among them
+abbrev so_far : LogList → List Shown → ℕ → LogList
+so_far l done gone = record l { units = done; passed_over = gone }
+
+units-push : (before : List LogList) (l : LogList) → sum_units (before ++ l ∷ []) ≡ sum_units before + length l.units
+units-push before l = sum_by_push (λ (l : LogList). length l.units) before l
+
+refused-push : (before : List LogList) (l : LogList) → sum_refused (before ++ l ∷ []) ≡ sum_refused before + all_refused l.units
+refused-push before l = sum_by_push (λ (l : LogList). all_refused l.units) before l
+
+rows-push : (before : List LogList) (l : LogList) → sum_rows (before ++ l ∷ []) ≡ sum_rows before + all_rows l.units
+rows-push before l = sum_by_push (λ (l : LogList). all_rows l.units) before l
+
+passed-push : (before : List LogList) (l : LogList) → sum_passed_over (before ++ l ∷ []) ≡ sum_passed_over before + l.passed_over
+passed-push before l = sum_by_push (λ (l : LogList). l.passed_over) before l
+
+damaged-push : (before : List LogList) (l : LogList) → sum_damaged (before ++ l ∷ []) ≡ sum_damaged before + l.damaged
+damaged-push before l = sum_by_push (λ (l : LogList). l.damaged) before l
+
+counts-none : (l : LogList) (old new : Totals) → HasDamaged old new l.damaged → CountsLog old new (so_far l [] 0)
+counts-none l old new (units, refused, rows, passed, damaged) = λ before are. record {
+  units_are = omega (arith, units, are.units_are, units-push before (so_far l [] 0));
+  refused_are = omega (arith, refused, are.refused_are, refused-push before (so_far l [] 0));
+  rows_are = omega (arith, rows, are.rows_are, rows-push before (so_far l [] 0));
+  passed_over_are = omega (arith, passed, are.passed_over_are, passed-push before (so_far l [] 0));
+  damaged_are = omega (arith, damaged, are.damaged_are, damaged-push before (so_far l [] 0));
+}
+
+counts-listed : (log : List ℕ) (place : ℕ → ℕ) (stop : ℕ) (l : LogList) (old mid new : Totals) (done : List Shown) (gone : ℕ) (s : Shown) (changes : Result (List TableCount) Fault)
+    → s.changes ≡ changes_shown log place stop changes → CountsLog old mid (so_far l done gone) → HasAdded mid new changes → CountsLog old new (so_far l (done ++ s ∷ []) gone)
+counts-listed log place stop l old mid new done gone s (Ok counts) is counted (more, refused, rows, passed, damaged) = λ before are.
+    let had = counted before are in
+    let was : LogList = so_far l done gone in
+    let now : LogList = so_far l (done ++ s ∷ []) gone in
+    let flag : ◌≡◌ {A = ℕ} (if is_err s.changes then 1 else 0) 0 = ap (λ (r : Result (List TableCount) Refusal). flag_of (is_err r)) is in
+    let own : rows_shown s ≡ rows_of counts = ap (λ (r : Result (List TableCount) Refusal). option_map_or rows_of (result_ok r) 0) is in
+    record {
+      units_are = omega (arith, more, had.units_are, units-push before was, units-push before now, length-append done (s ∷ []));
+      refused_are = omega (arith, refused, had.refused_are, refused-push before was, refused-push before now, refused-more done s, flag);
+      rows_are = omega (arith, rows, had.rows_are, rows-push before was, rows-push before now, rows-more done s, own);
+      passed_over_are = omega (arith, passed, had.passed_over_are, passed-push before was, passed-push before now);
+      damaged_are = omega (arith, damaged, had.damaged_are, damaged-push before was, damaged-push before now);
+    }
+counts-listed log place stop l old mid new done gone s (Err why) is counted (more, refused, rows, passed, damaged) = λ before are.
+    let had = counted before are in
+    let was : LogList = so_far l done gone in
+    let now : LogList = so_far l (done ++ s ∷ []) gone in
+    let flag : ◌≡◌ {A = ℕ} (if is_err s.changes then 1 else 0) 1 = ap (λ (r : Result (List TableCount) Refusal). flag_of (is_err r)) is in
+    let own : rows_shown s ≡ 0 = ap (λ (r : Result (List TableCount) Refusal). option_map_or rows_of (result_ok r) 0) is in
+    record {
+      units_are = omega (arith, more, had.units_are, units-push before was, units-push before now, length-append done (s ∷ []));
+      refused_are = omega (arith, refused, had.refused_are, refused-push before was, refused-push before now, refused-more done s, flag);
+      rows_are = omega (arith, rows, had.rows_are, rows-push before was, rows-push before now, rows-more done s, own);
+      passed_over_are = omega (arith, passed, had.passed_over_are, passed-push before was, passed-push before now);
+      damaged_are = omega (arith, damaged, had.damaged_are, damaged-push before was, damaged-push before now);
+    }
+
+counts-passed : (l : LogList) (old mid new : Totals) (done : List Shown) (gone : ℕ) (changes : Result (List TableCount) Fault)
+    → CountsLog old mid (so_far l done gone) → HasCounted PassedOver mid new changes → CountsLog old new (so_far l done (gone + 1))
+counts-passed l old mid new done gone changes counted (units, refused, rows, passed, damaged) = λ before are.
+    let had = counted before are in
+    let was : LogList = so_far l done gone in
+    let now : LogList = so_far l done (gone + 1) in
+    record {
+      units_are = omega (arith, units, had.units_are, units-push before was, units-push before now);
+      refused_are = omega (arith, refused, had.refused_are, refused-push before was, refused-push before now);
+      rows_are = omega (arith, rows, had.rows_are, rows-push before was, rows-push before now);
+      passed_over_are = omega (arith, passed, had.passed_over_are, passed-push before was, passed-push before now);
+      damaged_are = omega (arith, damaged, had.damaged_are, damaged-push before was, damaged-push before now);
+    }
+
+-- these units are left to list, and so many to pass over
+pub record IsCounting (old new : Totals) (l : LogList) (later : List Shown) (left : ℕ) : Type 0 where
+  pub done : List Shown
+  pub chosen : done ++ later ≡ l.units
+  pub gone : ℕ
+  pub over : gone + left ≡ l.passed_over
+  pub counts : CountsLog old new (so_far l done gone)
+
+pub counting-none : (old new : Totals) (l : LogList) (later : List Shown) (left : ℕ) → HasDamaged old new l.damaged → later ≡ l.units → left ≡ l.passed_over
+    → IsCounting old new l later left
+counting-none old new l later left damaged units passed = record { done = []; chosen = units; gone = 0; over = omega (arith, passed); counts = counts-none l old new damaged }
+
+pub counting-end : (old new : Totals) (l : LogList) (later : List Shown) (left : ℕ) → IsCounting old new l later left → later ≡ [] → left ≡ 0 → CountsLog old new l
+counting-end old new l later left count none zero =
+    let done : count.done ≡ l.units = sym (append-nil count.done) ∙ ap (λ (ss : List Shown). count.done ++ ss) (sym none) ∙ count.chosen in
+    let over : count.gone ≡ l.passed_over = omega (arith, zero, count.over) in
+    subst (λ (n : ℕ). CountsLog old new (so_far l l.units n)) over (subst (λ (ss : List Shown). CountsLog old new (so_far l ss count.gone)) done count.counts)
+
+-- the last lines
+pub totals-are : (totals : Totals) (ls : List LogList) → AreTotals totals ls → totals_text totals ≡ totals_lines ls
+unfolding totals_lines
+totals-are totals ls are = rw (are.units_are, are.refused_are, are.rows_are, are.passed_over_are, are.damaged_are) refl
 
 -- ---- which units are listed
 
@@ -242,11 +271,27 @@ unwanted-first w log place u left rest first before wanted =
     ∙ ap (λ (us : List Facts). map (shown log place) (filter (is_one_of w log) us)) (cond-true _ _ _ before)
     ∙ ap (λ (us : List Facts). map (shown log place) us) (cond-false _ _ _ wanted)
 
+-- it is passed over, or isn't
+abbrev is_passed_one : Wanted → List ℕ → Facts → Bool
+is_passed_one w log u = is_passed (concern_of w log u (changes_of log u))
+
+passed-first : (w : Wanted) (log : List ℕ) (u : Facts) (left rest : List Facts) (b : Bool) → left ≡ u ∷ rest → is_before u.start w.stop ≡ true → is_passed_one w log u ≡ b
+    → passed_over_of w log left ≡ flag_of b + passed_over_of w log rest
+passed-first w log u left rest b first before is =
+    ap (passed_over_of w log) first
+    ∙ ap (λ (us : List Facts). count_by (is_passed_one w log) us) (cond-true _ _ _ before)
+    ∙ sum_by-cons (λ (u : Facts). if is_passed_one w log u then 1 else 0) u (in_front w.stop rest)
+    ∙ ap (λ (b : Bool). flag_of b + passed_over_of w log rest) is
+
 -- or it isn't in front of the stop, and no other is wanted
 pub stopped-first : (w : Wanted) (log : List ℕ) (place : ℕ → ℕ) (u : Facts) (left rest : List Facts) → left ≡ u ∷ rest → is_before u.start w.stop ≡ false
     → listed_of w log place left ≡ []
 stopped-first w log place u left rest first before =
     ap (listed_of w log place) first ∙ ap (λ (us : List Facts). map (shown log place) (filter (is_one_of w log) us)) (cond-false _ _ _ before)
+
+pub stopped-passed : (w : Wanted) (log : List ℕ) (u : Facts) (left rest : List Facts) → left ≡ u ∷ rest → is_before u.start w.stop ≡ false → passed_over_of w log left ≡ 0
+stopped-passed w log u left rest first before =
+    ap (passed_over_of w log) first ∙ ap (λ (us : List Facts). count_by (is_passed_one w log) us) (cond-false _ _ _ before)
 
 -- ---- units of the program
 
@@ -273,27 +318,72 @@ told-is-shown log place unit same = ap (shown_with log place (facts_told unit)) 
 
 -- ---- one step
 
-abbrev pub sheet_of : {B : Type 0} → TimeZone → Bool → TimeColumn B → Sheet
-sheet_of zone gtids column = record { zone = zone; gtids = gtids; heading = string_bytes column.heading }
+-- whether a unit is wanted
+is-concern : {A : Type 0} (w : Wanted) (log : List ℕ) (unit : Unit A) (concern : Concern) → changes_told unit.groups ≡ changes_of log (facts_told unit)
+    → concern ≡ concern_of w log (facts_told unit) (changes_told unit.groups) → concern_of w log (facts_told unit) (changes_of log (facts_told unit)) ≡ concern
+is-concern w log unit concern same is = ap (concern_of w log (facts_told unit)) (sym same) ∙ sym is
 
 -- the line of a wanted unit was appended
-pub listing-wanted : {A B : Type 0} (zone : TimeZone) (gtids : Bool) (column : TimeColumn B) (w : Wanted) (log : List ℕ) (place : ℕ → ℕ) (all : List Shown) (left rest : List Facts)
-    → (had has : Option (List ℕ)) (held more : List ℕ) (old new : Totals) (unit : Unit A) → IsListing (sheet_of zone gtids column) all (listed_of w log place left) had has held old
+pub listing-wanted : {A B : Type 0} (before : List ℕ) (gtids : Bool) (column : TimeColumn B) (w : Wanted) (log : List ℕ) (place : ℕ → ℕ) (l : LogList) (left rest : List Facts)
+    → (had has : Option (List ℕ)) (held more : List ℕ) (unit : Unit A) (concern : Concern)
+    → IsListing (record { zone = plain_zone column.zone; gtids = gtids; width = length (string_bytes column.heading); before = before }) l (listed_of w log place left) had has held
     → left ≡ facts_told unit ∷ rest → changes_told unit.groups ≡ changes_of log (facts_told unit) → is_before unit.start w.stop ≡ true
-    → is_wanted_unit w log (facts_told unit) (changes_told unit.groups) ≡ true → HasCounted old new (changes_told unit.groups) → plain_zone column.zone ≡ zone
-    → PutsLine column gtids (shown_told log place unit) held more → IsListing (sheet_of zone gtids column) all (listed_of w log place rest) had has more new
-listing-wanted zone gtids column w log place all left rest had has held more old new unit list first same before wanted counts of (line, is, grown) =
+    → concern ≡ concern_of w log (facts_told unit) (changes_told unit.groups) → is_wanted concern ≡ true → PutsLine column gtids (shown_told log place unit) held more
+    → IsListing (record { zone = plain_zone column.zone; gtids = gtids; width = length (string_bytes column.heading); before = before }) l (listed_of w log place rest) had has more
+listing-wanted before gtids column w log place l left rest had has held more unit concern list first same earlier is wanted (line, shows, grown) =
     let s : Shown = shown_told log place unit in
-    let chosen = wanted-first w log place (facts_told unit) left rest s first (told-is-shown log place unit same) before (ap (is_wanted_unit w log (facts_told unit)) (sym same) ∙ wanted) in
-    let shows : IsLine zone gtids (length (string_bytes column.heading)) s line = subst (λ (z : TimeZone). IsLine z gtids (length (string_bytes column.heading)) s line) of is in
-    listing-more (sheet_of zone gtids column) all (listed_of w log place left) (listed_of w log place rest) had has held more line old new s list chosen shows grown
-    (λ done counted. counted-more log place unit.stop old new done s (changes_told unit.groups) refl counted counts)
+    let chosen = wanted-first w log place (facts_told unit) left rest s first (told-is-shown log place unit same) earlier (ap is_wanted (is-concern w log unit concern same is) ∙ wanted) in
+    listing-more (record { zone = plain_zone column.zone; gtids = gtids; width = length (string_bytes column.heading); before = before }) l (listed_of w log place left) (listed_of w log place rest) had has held more line s
+    list chosen shows grown
 
 -- a unit isn't wanted
-pub listing-unwanted : {A : Type 0} (sheet : Sheet) (w : Wanted) (log : List ℕ) (place : ℕ → ℕ) (all : List Shown) (left rest : List Facts)
-    → (had has : Option (List ℕ)) (held : List ℕ) (totals : Totals) (unit : Unit A) → IsListing sheet all (listed_of w log place left) had has held totals
+pub listing-unwanted : {A : Type 0} (sheet : Sheet) (w : Wanted) (log : List ℕ) (place : ℕ → ℕ) (l : LogList) (left rest : List Facts)
+    → (had has : Option (List ℕ)) (held : List ℕ) (unit : Unit A) (concern : Concern) → IsListing sheet l (listed_of w log place left) had has held
     → left ≡ facts_told unit ∷ rest → changes_told unit.groups ≡ changes_of log (facts_told unit) → is_before unit.start w.stop ≡ true
-    → is_wanted_unit w log (facts_told unit) (changes_told unit.groups) ≡ false → IsListing sheet all (listed_of w log place rest) had has held totals
-listing-unwanted sheet w log place all left rest had has held totals unit list first same before wanted =
-    listing-same sheet all (listed_of w log place left) (listed_of w log place rest) had has held totals list
-    (unwanted-first w log place (facts_told unit) left rest first before (ap (is_wanted_unit w log (facts_told unit)) (sym same) ∙ wanted))
+    → concern ≡ concern_of w log (facts_told unit) (changes_told unit.groups) → is_wanted concern ≡ false → IsListing sheet l (listed_of w log place rest) had has held
+listing-unwanted sheet w log place l left rest had has held unit concern list first same earlier is unwanted =
+    listing-same sheet l (listed_of w log place left) (listed_of w log place rest) had has held list
+    (unwanted-first w log place (facts_told unit) left rest first earlier (ap is_wanted (is-concern w log unit concern same is) ∙ unwanted))
+
+-- a unit is counted
+pub counting-more : {A : Type 0} (concern : Concern) (w : Wanted) (log : List ℕ) (place : ℕ → ℕ) (l : LogList) (left rest : List Facts) (old mid new : Totals) (unit : Unit A)
+    → IsCounting old mid l (listed_of w log place left) (passed_over_of w log left) → left ≡ facts_told unit ∷ rest → changes_told unit.groups ≡ changes_of log (facts_told unit)
+    → is_before unit.start w.stop ≡ true → concern ≡ concern_of w log (facts_told unit) (changes_told unit.groups) → HasCounted concern mid new (changes_told unit.groups)
+    → IsCounting old new l (listed_of w log place rest) (passed_over_of w log rest)
+counting-more IsWanted w log place l left rest old mid new unit count first same earlier is counted =
+    let u : Facts = facts_told unit in
+    let s : Shown = shown_told log place unit in
+    let is_so = is-concern w log unit IsWanted same is in
+    let chosen = wanted-first w log place u left rest s first (told-is-shown log place unit same) earlier (ap is_wanted is_so) in
+    let over = passed-first w log u left rest false first earlier (ap is_passed is_so) in
+    record {
+      done = count.done ++ s ∷ [];
+      chosen = append_assoc count.done (s ∷ []) (listed_of w log place rest) ∙ ap (λ (ss : List Shown). count.done ++ ss) (sym chosen) ∙ count.chosen;
+      gone = count.gone;
+      over = omega (arith, over, count.over);
+      counts = counts-listed log place unit.stop l old mid new count.done count.gone s (changes_told unit.groups) refl count.counts counted;
+    }
+counting-more PassedOver w log place l left rest old mid new unit count first same earlier is counted =
+    let u : Facts = facts_told unit in
+    let is_so = is-concern w log unit PassedOver same is in
+    let chosen = unwanted-first w log place u left rest first earlier (ap is_wanted is_so) in
+    let over = passed-first w log u left rest true first earlier (ap is_passed is_so) in
+    record {
+      done = count.done;
+      chosen = ap (λ (ss : List Shown). count.done ++ ss) (sym chosen) ∙ count.chosen;
+      gone = count.gone + 1;
+      over = omega (arith, over, count.over);
+      counts = counts-passed l old mid new count.done count.gone (changes_told unit.groups) count.counts counted;
+    }
+counting-more Other w log place l left rest old mid new unit count first same earlier is counted =
+    let u : Facts = facts_told unit in
+    let is_so = is-concern w log unit Other same is in
+    let chosen = unwanted-first w log place u left rest first earlier (ap is_wanted is_so) in
+    let over = passed-first w log u left rest false first earlier (ap is_passed is_so) in
+    record {
+      done = count.done;
+      chosen = ap (λ (ss : List Shown). count.done ++ ss) (sym chosen) ∙ count.chosen;
+      gone = count.gone;
+      over = omega (arith, over, count.over);
+      counts = subst (λ (t : Totals). CountsLog old t (so_far l count.done count.gone)) (sym counted) count.counts;
+    }

@@ -2,7 +2,7 @@
 use Rattle.std.specs.Prelude.{ℕ, ◌+◌, ◌-◌, ◌==◌, ◌&&◌, Bool, true, false, if◌then◌else◌, List, [], ◌∷◌, ◌++◌, length, replicate, take, drop, min, Option, Some, None, Result, Ok, Err, bytes_eq, codes}
 use Rattle.std.specs.Option.{option_map_or}
 use Rattle.std.specs.Result.{is_err, result_ok}
-use Rattle.std.specs.List.{flat_map}
+use Rattle.std.specs.List.{flat_map, sum_by}
 use Rattle.std.specs.Fmt.{decimal}
 use Rattle.hex.specs.Hex.{encode_lower}
 use Rattle.blog_trans.specs.Changes.{TableCount}
@@ -26,6 +26,14 @@ pub record Shown : Type 0 where
   pub thread : Option ℕ
   pub id : Option Id
   pub changes : Result (List TableCount) Refusal
+
+-- What is listed of a log: its name, where that is shown; what is shown of its units; and how many statements and how many damaged
+-- events were passed over.
+pub record LogList : Type 0 where
+  pub name : Option (List ℕ)
+  pub units : List Shown
+  pub passed_over : ℕ
+  pub damaged : ℕ
 
 -- ---- the parts of a line
 
@@ -120,6 +128,10 @@ in_column width text = text ++ replicate (width - length text) 32
 unfoldable pub unit_line : Bool → ℕ → List ℕ → Shown → List ℕ
 unit_line gtids width time s = positions_text s.start s.stop ++ (in_column width time ++ rest_text gtids s)
 
+-- the line above the units of a log: its name, where that is shown
+unfoldable pub name_line : Option (List ℕ) → List ℕ
+name_line name = option_map_or (λ name. escaped name ++ codes ":\n") name []
+
 -- the line above all others, with ids or without, with this heading of the times
 unfoldable pub header : Bool → List ℕ → List ℕ
 header gtids heading =
@@ -148,8 +160,31 @@ all_refused (s ∷ ss) = (if is_err s.changes then 1 else 0) + all_refused ss
 unfoldable pub numbered : List ℕ → ℕ → List ℕ
 numbered words n = words ++ decimal n
 
--- the last line: how many units, how many of them can't be undone, and how many rows the others change
-unfoldable pub totals_line : List Shown → List ℕ
-totals_line ss =
-    numbered (codes "units ") (at_most (length ss)) ++ (numbered (codes ", not undoable ") (at_most (all_refused ss))
-    ++ (numbered (codes ", rows ") (at_most (all_rows ss)) ++ codes "\n"))
+-- how many units logs have, how many of these can't be undone, and how many rows the others change; how many statements and how
+-- many damaged events were passed over
+abbrev pub sum_units : List LogList → ℕ
+sum_units ls = sum_by (λ l. length l.units) ls
+
+abbrev pub sum_refused : List LogList → ℕ
+sum_refused ls = sum_by (λ l. all_refused l.units) ls
+
+abbrev pub sum_rows : List LogList → ℕ
+sum_rows ls = sum_by (λ l. all_rows l.units) ls
+
+abbrev pub sum_passed_over : List LogList → ℕ
+sum_passed_over ls = sum_by (λ l. l.passed_over) ls
+
+abbrev pub sum_damaged : List LogList → ℕ
+sum_damaged ls = sum_by (λ l. l.damaged) ls
+
+-- a line of words and a number, left out if that is 0
+unfoldable pub line_unless_0 : List ℕ → ℕ → List ℕ
+line_unless_0 words n = if n == 0 then [] else numbered words n ++ codes "\n"
+
+-- the last lines: one with the first three of these numbers, and one for each of the others that isn't 0
+unfoldable pub totals_lines : List LogList → List ℕ
+totals_lines ls =
+    numbered (codes "units ") (at_most (sum_units ls)) ++ (numbered (codes ", not undoable ") (at_most (sum_refused ls))
+    ++ (numbered (codes ", rows ") (at_most (sum_rows ls)) ++ (codes "\n"
+    ++ (line_unless_0 (codes "statements passed over ") (at_most (sum_passed_over ls))
+    ++ line_unless_0 (codes "damaged events passed over ") (at_most (sum_damaged ls))))))

@@ -1,6 +1,6 @@
 -- What is shown of the units of a log, and which of them are wanted.
-use Rattle.std.specs.Prelude.{ℕ, ◌==◌, Bool, false, not, nat_le, nat_lt, if◌then◌else◌, List, [], ◌∷◌, map, filter, drop, Option, Some, None, option_and_then, option_map, Result, Ok, Err, codes}
-use Rattle.std.specs.List.{list_any}
+use Rattle.std.specs.Prelude.{ℕ, ◌==◌, Bool, true, false, not, nat_le, nat_lt, if◌then◌else◌, List, [], ◌∷◌, map, filter, drop, Option, Some, None, option_and_then, option_map, Result, Ok, Err, codes}
+use Rattle.std.specs.List.{count_by, list_any}
 use Rattle.blog_event.specs.declared.fault.Fault.{Fault}
 use Rattle.blog_event.specs.declared.fault.Fault.TheVariants.{OutOfPlace, UnknownEvent}
 use Rattle.blog_event.specs.Event.{Event, event_at}
@@ -11,9 +11,11 @@ use Rattle.blog_trans.specs.Changes.{TableCount, counts_of}
 use Rattle.blog_trans.specs.Groups.{groups}
 use Rattle.blog_trans.specs.Selection.{Selection}
 use Rattle.blog_units.specs.Units.{Facts, between, facts_of, units}
+use Rattle.blog_request.specs.declared.wanted.Concern.{Concern}
+use Rattle.blog_request.specs.declared.wanted.Concern.TheVariants.{Wanted as IsWanted, PassedOver, Other}
 use Rattle.blog_request.specs.declared.wanted.Wanted.{Wanted}
-use Rattle.blog_request.specs.Wanted.{is_before, is_wanted_unit}
-use Rattle.blog_list.specs.Lines.{Refusal, Shown}
+use Rattle.blog_request.specs.Wanted.{concern_of, is_before, is_wanted_unit}
+use Rattle.blog_list.specs.Lines.{LogList, Refusal, Shown}
 
 -- ---- what is shown
 
@@ -91,9 +93,28 @@ in_front stop (u ∷ us) = if is_before u.start stop then u ∷ in_front stop us
 abbrev pub wanted_of : Wanted → List ℕ → List Facts → List Facts
 wanted_of w log us = filter (λ u. is_wanted_unit w log u (changes_of log u)) (in_front w.stop us)
 
+-- a statement is passed over
+abbrev pub is_passed : Concern → Bool
+is_passed PassedOver = true
+is_passed IsWanted = false
+is_passed Other = false
+
+-- how many of them are passed over
+abbrev pub passed_over_of : Wanted → List ℕ → List Facts → ℕ
+passed_over_of w log us = count_by (λ u. is_passed (concern_of w log u (changes_of log u))) (in_front w.stop us)
+
 -- the units of a log that are wanted, as they are shown
 abbrev pub wanted_shown : Wanted → List ℕ → (ℕ → ℕ) → List Shown
 wanted_shown w log place = map (shown log place) (wanted_of w log (map facts_of (units log)))
+
+-- what is listed of a log with this name, in which so many damaged events were passed over
+abbrev pub log_list : Option (List ℕ) → Wanted → List ℕ → (ℕ → ℕ) → ℕ → LogList
+log_list name w log place damaged = record {
+  name = name;
+  units = wanted_shown w log place;
+  passed_over = passed_over_of w log (map facts_of (units log));
+  damaged = damaged;
+}
 
 -- ---- how they end
 

@@ -3,3 +3,4 @@ pub mod Held
 pub mod MarksView
 pub mod Told
 pub mod Totals
+pub mod WriterView

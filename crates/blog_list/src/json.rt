@@ -33,6 +33,10 @@ struct TableLine {
 
 #[derive(Drop, Serialize)]
 struct UnitLine {
+    #[serde(skip_serializing_if = "Option::is_none")]
+    log: Option<String>,
+    #[serde(skip_serializing_if = "Option::is_none")]
+    log_hex: Option<String>,
     start: u32,
     stop: u32,
     time: String,
@@ -56,22 +60,32 @@ struct TotalsLine {
     units: u64,
     not_undoable: u64,
     rows: u64,
+    passed_over: u64,
 }
 
-/// Appends the line of a unit, with positions of the server's log.
+#[derive(Drop, Serialize)]
+struct DamagedLine {
+    damaged_events: u64,
+}
+
+/// Appends the line of a unit, with positions of the server's log, and with the log's name, if there is one.
 pub(crate) fn put_unit<A: Allocator + Copy, B: Allocator>(
     global: Global,
     out: &mut Vec<u8, A>,
     zone: TimeZone<'_>,
     source: &Source<B>,
     log: &Log<'_>,
+    name: Option<&[u8]>,
     unit: &Unit<'_, B>,
 ) -> Result<(), AllocError> {
     let gtid = match unit.id {
         Some(id) => Some(id_text(global, &id)?),
         None => None,
     };
+    let (log_text, log_hex) = name_of(global, name)?;
     let mut line = UnitLine {
+        log: log_text,
+        log_hex,
         start: source.place(unit.start),
         stop: source.place(unit.stop),
         time: String::from_str(global, rfc_3339_text(zone, unit.time).as_str())?,
@@ -108,7 +122,7 @@ pub(crate) fn put_unit<A: Allocator + Copy, B: Allocator>(
     put_line(global, out, &line)
 }
 
-/// Appends the last line.
+/// Appends the last lines.
 pub(crate) fn put_totals<A: Allocator>(
     global: Global,
     out: &mut Vec<u8, A>,
@@ -118,8 +132,14 @@ pub(crate) fn put_totals<A: Allocator>(
         units: totals.units,
         not_undoable: totals.refused,
         rows: totals.rows,
+        passed_over: totals.passed_over,
     };
-    put_line(global, out, &line)
+    put_line(global, out, &line)?;
+    if totals.damaged == 0 {
+        return Ok(());
+    }
+    let damaged_events = totals.damaged;
+    put_line(global, out, &DamagedLine { damaged_events })
 }
 
 fn put_line<A: Allocator, T: Serialize>(
@@ -144,6 +164,17 @@ fn table_line(global: Global, count: &TableCount<'_>) -> Result<TableLine, Alloc
         updates: count.updates,
         deletes: count.deletes,
     })
+}
+
+/// The name of a log as text, and in hexadecimal digits if it isn't UTF-8.
+fn name_of(
+    global: Global,
+    name: Option<&[u8]>,
+) -> Result<(Option<String>, Option<String>), AllocError> {
+    match name {
+        Some(name) => Ok((Some(lossy(global, name)?), digits(global, name)?)),
+        None => Ok((None, None)),
+    }
 }
 
 /// A global transaction id as text.

@@ -9,6 +9,8 @@ mod fault_events;
 mod json;
 mod laws;
 mod lines;
+mod list_end;
+mod list_writer;
 mod listing;
 mod marks;
 mod places;
@@ -16,6 +18,8 @@ mod texts;
 mod times;
 mod totals;
 
-pub use laws::short_texts_are_whole;
+pub use laws::{parts_are_a_list, short_texts_are_whole};
+pub use list_writer::ListWriter;
 pub use listing::{Form, Style, list};
 pub use times::{Side, TimeFault, rfc_3339_text, seconds_of, time_text};
+pub use totals::Totals;

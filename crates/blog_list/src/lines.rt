@@ -1,6 +1,6 @@
 //! Units as lines of text.
 
-ghost use Rattle.std.specs.Prelude.{◌≡◌, ◌++◌, ◌≤◌, ◌-◌, OnOk, codes, option_map, string_bytes};
+ghost use Rattle.std.specs.Prelude.{◌≡◌, ◌++◌, ◌≤◌, ◌-◌, OnOk, codes, option_copied, option_map, string_bytes};
 ghost use Rattle.std.specs.Fmt.{decimal};
 ghost use Rattle.blog_event.specs.Fault.{name_of, position_of as fault_position};
 ghost use Rattle.blog_event.specs.code.LogView.{log_bytes};
@@ -8,7 +8,7 @@ ghost use Rattle.blog_trans.specs.Changes.{counts_of};
 ghost use Rattle.blog_trans.specs.Groups.{groups};
 ghost use Rattle.blog_trans.specs.code.IndexView.{index_bytes, index_selection, table_counted};
 ghost use Rattle.blog_units.specs.code.UnitsView.{id_told};
-ghost use Rattle.blog_list.specs.Lines.{changes_text, count_text, counts_text, fault_text, header, id_column, id_text, is_unknown, next_count, padded, positions_text, refusal_text, rest_text, rows_text, tag_text, thread_text, unit_line};
+ghost use Rattle.blog_list.specs.Lines.{changes_text, count_text, counts_text, fault_text, header, id_column, id_text, is_unknown, name_line, next_count, padded, positions_text, refusal_text, rest_text, rows_text, tag_text, thread_text, unit_line};
 ghost use Rattle.blog_list.specs.Shown.{changes_shown, refusal_of};
 ghost use Rattle.blog_list.specs.code.Told.{PutsLine, shown_told, source_place};
 ghost use Rattle.blog_request.specs.Wanted.{changes_told};
@@ -42,6 +42,23 @@ pub(crate) fn put_header<A: Allocator + Copy>(
         put_text(out, b"gtid  rows\n")
     } else {
         put_text(out, b"rows\n")
+    }
+}
+
+/// Appends the line with a log's name, if there is one.
+#[tactic(auto, unfolding(crate::specs::Lines::name_line))]
+pub(crate) fn put_name<A: Allocator>(
+    out: &mut Vec<u8, A>,
+    name: Option<&[u8]>,
+) -> Result<(), AllocError>
+    ensures { OnOk result (out.new.items ≡ out.old.items ++ name_line (option_copied name.entry)) }
+{
+    match name {
+        Some(name) => {
+            put_escaped(out, name)?;
+            put_text(out, b":\n")
+        }
+        None => Ok(()),
     }
 }
 

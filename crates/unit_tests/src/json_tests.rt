@@ -42,13 +42,13 @@ fn json_has_an_object_a_line(rt: HostRuntime) -> Result<(), Fail> {
     let lines =
         "{\"start\":1294,\"stop\":1474,\"time\":\"2026-11-21T03:04:00+00:00\",\"timestamp\":1795230240,\"thread\":null,\"gtid\":\"283c105d-e730-11f1-97ff-02fc00000001:12\",\"fault\":\"Statement\",\"position\":1367,\"statement\":\"create table t2 (a int)\"}
 {\"start\":1474,\"stop\":1760,\"time\":\"2026-11-21T03:05:00+00:00\",\"timestamp\":1795230300,\"thread\":16,\"gtid\":\"283c105d-e730-11f1-97ff-02fc00000001:13\",\"tables\":[{\"schema\":\"shop\",\"table\":\"items\",\"inserts\":0,\"updates\":0,\"deletes\":2}]}
-{\"units\":2,\"not_undoable\":1,\"rows\":2}
+{\"units\":2,\"not_undoable\":1,\"rows\":2,\"passed_over\":0}
 ";
     check_json(&rt, &IN_USE_PLAIN, &wanted, lines)?;
     let bytes = build(&rt, &[BEGIN, map_of(1, b"\xff\""), ONE, XID])?;
     let lines =
         "{\"start\":120,\"stop\":260,\"time\":\"1970-01-01T00:00:00+00:00\",\"timestamp\":0,\"thread\":0,\"gtid\":null,\"tables\":[{\"schema\":\"d\",\"table\":\"\u{FFFD}\\\"\",\"table_hex\":\"FF22\",\"inserts\":1,\"updates\":0,\"deletes\":0}]}
-{\"units\":1,\"not_undoable\":0,\"rows\":1}
+{\"units\":1,\"not_undoable\":0,\"rows\":1,\"passed_over\":0}
 ";
     check_json(&rt, &bytes, &ALL, lines)
 }
@@ -62,20 +62,20 @@ fn positions_of_json_are_those_of_the_log(rt: HostRuntime) -> Result<(), Fail> {
     };
     let line =
         "{\"start\":490,\"stop\":702,\"time\":\"2026-11-21T03:01:00+00:00\",\"timestamp\":1795230060,\"thread\":null,\"gtid\":\"283c105d-e730-11f1-97ff-02fc00000001:9\",\"fault\":\"Statement\",\"position\":567,\"statement\":\"alter table items add column price decimal(8,2)\"}
-{\"units\":1,\"not_undoable\":1,\"rows\":0}
+{\"units\":1,\"not_undoable\":1,\"rows\":0,\"passed_over\":0}
 ";
     check_json(&rt, &IN_USE, &wanted, line)
 }
 
 /// The totals of a list of one unit that can't be undone.
-const ONE_REFUSED: &str = "{\"units\":1,\"not_undoable\":1,\"rows\":0}\n";
+const ONE_REFUSED: &str = "{\"units\":1,\"not_undoable\":1,\"rows\":0,\"passed_over\":0}\n";
 
 #[test]
 fn a_unit_without_rows_has_no_tables(rt: HostRuntime) -> Result<(), Fail> {
     let bytes = build(&rt, &[BEGIN, XID])?;
     let lines =
         "{\"start\":120,\"stop\":186,\"time\":\"1970-01-01T00:00:00+00:00\",\"timestamp\":0,\"thread\":0,\"gtid\":null,\"tables\":[]}
-{\"units\":1,\"not_undoable\":0,\"rows\":0}
+{\"units\":1,\"not_undoable\":0,\"rows\":0,\"passed_over\":0}
 ";
     check_json(&rt, &bytes, &ALL, lines)
 }
@@ -92,7 +92,7 @@ fn a_schema_that_is_no_text_is_in_digits_too(rt: HostRuntime) -> Result<(), Fail
     let bytes = build(&rt, &[BEGIN, MAP_OF_BYTES, ONE, XID])?;
     let lines =
         "{\"start\":120,\"stop\":259,\"time\":\"1970-01-01T00:00:00+00:00\",\"timestamp\":0,\"thread\":0,\"gtid\":null,\"tables\":[{\"schema\":\"\u{FFFD}\",\"schema_hex\":\"FF\",\"table\":\"t\",\"inserts\":1,\"updates\":0,\"deletes\":0}]}
-{\"units\":1,\"not_undoable\":0,\"rows\":1}
+{\"units\":1,\"not_undoable\":0,\"rows\":1,\"passed_over\":0}
 ";
     check_json(&rt, &bytes, &ALL, lines)
 }
@@ -128,7 +128,7 @@ fn an_id_has_its_tag(rt: HostRuntime) -> Result<(), Fail> {
     let bytes = build(&rt, &[TAGGED, BEGIN, XID])?;
     let lines =
         "{\"start\":120,\"stop\":236,\"time\":\"1970-01-01T00:00:00+00:00\",\"timestamp\":0,\"thread\":0,\"gtid\":\"283c105d-e730-11f1-97ff-02fc00000001:shop\\\\x01:9\",\"tables\":[]}
-{\"units\":1,\"not_undoable\":0,\"rows\":0}
+{\"units\":1,\"not_undoable\":0,\"rows\":0,\"passed_over\":0}
 ";
     check_json(&rt, &bytes, &ALL, lines)
 }

@@ -8,6 +8,8 @@ mod list_tests;
 #[cfg(test)]
 mod lists;
 #[cfg(test)]
+mod logs_tests;
+#[cfg(test)]
 mod parts;
 #[cfg(test)]
 mod range_tests;

@@ -2,12 +2,13 @@
 
 use crate::lists::{ALL, TEXT, of_database, of_tables};
 use crate::parts::{MAP, ONE, PAYLOAD, ROLLBACK, TAGGED, event_of};
-use crate::sources::source_of;
+use crate::sources::{source_of, source_with};
 use blog_choice::TableName;
 use blog_device::Watched;
 use blog_event::Fault;
 use blog_list::{Style, list};
 use blog_request::Wanted;
+use blog_source::Reading;
 use blog_sum::SumFault;
 use sample_logs::builder::{
     BEGIN, DROP_TABLE, GTID, PREVIOUS_GTIDS, Part, ROTATE, XID, build, map_of,
@@ -191,6 +192,27 @@ fn check_damaged(rt: &(impl AllocGlobal + Abort), bytes: &[u8], lines: &str) -> 
     Ok(())
 }
 
+#[test]
+fn damaged_events_are_counted(rt: HostRuntime) -> Result<(), Fail> {
+    let mut damaged = CLOSED;
+    damaged[1060] ^= 1;
+    let how = Reading {
+        stop: None,
+        skip_damaged: true,
+    };
+    let source = source_with(&rt, &damaged, how)?;
+    let mut output = Watched::new(Vec::new(rt.alloc()));
+    let answer = list(rt.alloc(), rt.alloc(), &source, &ALL, &TEXT, &mut output);
+    assert_eq!(rt; answer, Ok(None));
+    let [first, second, _, fourth] = CLOSED_LINES;
+    let third =
+        "       811       1215  2026-11-21 02:02:00          13  `shop`.`items` deletes 1\n";
+    let last = "units 4, not undoable 0, rows 7\ndamaged events passed over 1\n";
+    let text = format!(in rt.alloc(); "{HEADER}{first}{second}{third}{fourth}{last}")?;
+    assert_eq!(rt; str::from_utf8(output.device().as_slice())?, text.as_str());
+    Ok(())
+}
+
 /// The lines of `IN_USE_PLAIN`.
 #[rattlefmt::skip]
 const SHOP_LINES: [&str; 7] = [
@@ -226,18 +248,26 @@ fn names_choose_units(rt: HostRuntime) -> Result<(), Fail> {
     let last = "units 7, not undoable 3, rows 5\n";
     check_shop(&rt, &ALL, ALL_LINES, last)?;
     check_shop(&rt, &of_database(b"shop"), ALL_LINES, last)?;
-    let last = "units 1, not undoable 1, rows 0\n";
-    check_shop(&rt, &of_database(b"items"), &[1], last)?;
     // statements about other tables are passed over
+    let last = "units 1, not undoable 1, rows 0\nstatements passed over 2\n";
+    check_shop(&rt, &of_database(b"items"), &[1], last)?;
     let items = [TableName::read(b"items")];
-    let last = "units 3, not undoable 1, rows 3\n";
+    let last = "units 3, not undoable 1, rows 3\nstatements passed over 2\n";
     check_shop(&rt, &of_tables(&items, &[]), &[1, 2, 5], last)?;
     let both = [TableName::read(b"shop.items"), TableName::read(b"t2")];
     let last = "units 5, not undoable 3, rows 3\n";
     check_shop(&rt, &of_tables(&both, &[]), &[1, 2, 4, 5, 6], last)?;
     let elsewhere = [TableName::read(b"other.orders")];
-    let last = "units 0, not undoable 0, rows 0\n";
+    let last = "units 0, not undoable 0, rows 0\nstatements passed over 3\n";
     check_shop(&rt, &of_tables(&elsewhere, &[]), &[], last)?;
+    // those that aren't wanted for another reason aren't counted
+    let last = "units 0, not undoable 0, rows 0\nstatements passed over 1\n";
+    let between = Wanted {
+        start: Some(1294),
+        stop: Some(1760),
+        ..of_tables(&elsewhere, &[])
+    };
+    check_shop(&rt, &between, &[], last)?;
     let last = "units 5, not undoable 3, rows 2\n";
     check_shop(&rt, &of_tables(&[], &items), &[0, 1, 3, 4, 6], last)
 }

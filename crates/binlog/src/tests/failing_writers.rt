@@ -74,9 +74,9 @@ fn a_failed_write_is_told(rt: HostRuntime) -> Result<(), Fail> {
 fn a_failed_write_of_a_list_is_told(rt: HostRuntime) -> Result<(), Fail> {
     let log = path_of(&rt, "unwritten-list")?;
     fs::write(&rt, log.as_path(), insert_and_drop(&rt)?.as_slice())?;
-    let text = b"{\"units\":0,\"not_undoable\":0,\"rows\":0}\n";
+    let text = b"{\"units\":0,\"not_undoable\":0,\"rows\":0,\"passed_over\":0}\n";
     let arguments = ["list", "--utc", "--json", "-j", "260", log.as_str()];
-    each_call_fails(&rt, arguments.as_slice(), text.as_slice(), 6)?;
+    each_call_fails(&rt, arguments.as_slice(), text.as_slice(), 8)?;
     fs::remove_file(&rt, log.as_path())?;
     Ok(())
 }

@@ -35,12 +35,16 @@ fn units_are_listed(rt: HostRuntime) -> Result<(), Fail> {
     let insert = [INSERT, "units 1, not undoable 0, rows 1\n"];
     let drop = [DROP, "units 1, not undoable 1, rows 0\n"];
     let last = ["units 0, not undoable 0, rows 0\n"];
+    let passed = [
+        "units 0, not undoable 0, rows 0\n",
+        "statements passed over 1\n",
+    ];
     lists(&rt, &["list", "--utc"], &all)?;
     lists(&rt, &["list", "--utc", "-d", "d", "-T", "t"], &all)?;
     lists(
         &rt,
         &["list", "--utc", "--database", "d", "--table", "u"],
-        &last,
+        &passed,
     )?;
     lists(&rt, &["list", "--utc", "-j", "121"], &drop)?;
     lists(&rt, &["list", "--utc", "--start-position", "120"], &all)?;
@@ -111,7 +115,8 @@ fn damaged_events_are_passed_over(rt: HostRuntime) -> Result<(), Fail> {
     assert!(rt; outcome.is_done(WITHOUT_DAMAGED.as_bytes()));
     let arguments = ["list", "--utc", "--skip-damaged", "--json", "-j", "4000"];
     let outcome = run_log(&rt, "passed", damaged.as_slice(), arguments.as_slice())?;
-    let text = b"{\"units\":0,\"not_undoable\":0,\"rows\":0}\n{\"damaged_events\":1}\n";
+    let text =
+        b"{\"units\":0,\"not_undoable\":0,\"rows\":0,\"passed_over\":0}\n{\"damaged_events\":1}\n";
     assert!(rt; outcome.is_done(text.as_slice()));
     Ok(())
 }
@@ -130,7 +135,7 @@ fn a_time_zone_is_asked_for(rt: HostRuntime) -> Result<(), Fail> {
 fn units_are_listed_as_json(rt: HostRuntime) -> Result<(), Fail> {
     let text =
         b"{\"start\":259,\"stop\":305,\"time\":\"1970-01-01T00:00:00+00:00\",\"timestamp\":0,\"thread\":null,\"gtid\":null,\"fault\":\"Statement\",\"position\":259,\"statement\":\"DROP TABLE t\"}
-{\"units\":1,\"not_undoable\":1,\"rows\":0}
+{\"units\":1,\"not_undoable\":1,\"rows\":0,\"passed_over\":0}
 ";
     let arguments = ["list", "--utc", "--json", "-j", "121"];
     let log = insert_and_drop(&rt)?;
@@ -226,7 +231,9 @@ fn logs_that_are_not_listed_are_told(rt: HostRuntime) -> Result<(), Fail> {
     let outcome = run_arguments(&rt, &["list", absent.as_str()])?;
     assert!(rt; outcome.begins_refusal(1, "binlog: cannot open the log /"));
     let outcome = run_log(&rt, "no-units", PLAIN.as_slice(), &["list", "--json"])?;
-    assert!(rt; outcome.is_done(b"{\"units\":0,\"not_undoable\":0,\"rows\":0}\n"));
+    assert!(rt;
+        outcome.is_done(b"{\"units\":0,\"not_undoable\":0,\"rows\":0,\"passed_over\":0}\n")
+    );
     Ok(())
 }
 

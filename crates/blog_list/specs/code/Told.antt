@@ -3,16 +3,16 @@ use Rattle.std.specs.Prelude.{◌≡◌, ℕ, Bool, List, ◌++◌, length, Opti
 use Rattle.jiff.specs.Words.{plain_zone}
 use Rattle.blog_sum.specs.declared.fault.SumFault.{SumFault}
 use Rattle.blog_source.specs.Places.{place_of, position_of}
-use Rattle.blog_source.specs.code.SourceView.{end_of, fault_of, log_of}
+use Rattle.blog_source.specs.code.SourceView.{damaged_of, end_of, fault_of, log_of}
 use Rattle.blog_source.specs.declared.source.Source.{Source}
 use Rattle.blog_units.specs.Units.{facts_of, units}
 use Rattle.blog_units.specs.declared.unit.Unit.{Unit}
 use Rattle.blog_units.specs.code.UnitsView.{facts_told}
 use Rattle.blog_list.specs.declared.column.TimeColumn.{TimeColumn}
 use Rattle.blog_request.specs.declared.wanted.Wanted.{Wanted}
-use Rattle.blog_list.specs.Lines.{Shown}
+use Rattle.blog_list.specs.Lines.{LogList, Shown}
 use Rattle.blog_list.specs.Lists.{list_end}
-use Rattle.blog_list.specs.Shown.{last_whole, shown_with, wanted_shown}
+use Rattle.blog_list.specs.Shown.{last_whole, log_list, shown_with}
 use Rattle.blog_list.specs.Texts.{IsLine}
 use Rattle.blog_request.specs.Wanted.{changes_told}
 
@@ -33,9 +33,9 @@ PutsLine column gtids s old new =
 abbrev pub inside : List ℕ → Wanted → Wanted
 inside log w = record w { start = option_map (position_of log) w.start; stop = option_map (position_of log) w.stop }
 
--- what is listed of a source
-abbrev pub listed : {A : Type 0} → Source A → Wanted → List Shown
-listed source w = wanted_shown (inside (log_of source) w) (log_of source) (source_place source)
+-- what is listed of a source, under this name
+abbrev pub listed : {A : Type 0} → Option (List ℕ) → Source A → Wanted → LogList
+listed name source w = log_list name (inside (log_of source) w) (log_of source) (source_place source) (damaged_of source)
 
 -- why that list ends early
 abbrev pub end_listed : {A : Type 0} → Source A → Wanted → Option SumFault
