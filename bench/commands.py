@@ -70,9 +70,9 @@ def main(binlog, flashback, runs, limit, out, *logs):
                                 ([binlog, "sql", "--keep-times", "--size", SIZE, log], text, sql),
                                 ([binlog, "split", "--size", SIZE, log], cut, split)),
                 runs, limit)
-        # all but the number of statements
+        # all but the number of statements, and the order of tables, which is that of their first maps
         before, after = (lines_of([flashback, "--summary", file]) for file in (log, cut))
-        if before[:1] + before[2:] != after[:1] + after[2:]:
+        if before[0] != after[0] or sorted(before[2:]) != sorted(after[2:]):
             status = 1
         with open(cut, "rb") as file, open(text, "rb") as lines:
             if events_of_log(file) != events_of_sql(lines):
