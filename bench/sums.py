@@ -58,7 +58,7 @@ def main(binlog, flashback, runs, limit, out, *logs):
         mb = size / 1e6
         print(f"| {os.path.basename(made).removesuffix('.binlog')} | {mb:,.0f} | {events:,} | {mb / cat.wall:,.0f} "
               f"| {mb / zlib_of(log, runs)[1]:,.0f} | {mb / ours.wall:,.0f} | {written / 1e6 / summary.wall:,.0f} "
-              f"| {(mb / ours.wall) / (written / 1e6 / summary.wall):.2f} | {(size + written + MOST_BESIDE) / 1e6:,.0f} | {ours.peak / 1e6:,.0f} |")
+              f"| {(mb / ours.wall) / (written / 1e6 / summary.wall):.2f} | {(size + MOST_BESIDE) / 1e6:,.0f} | {ours.peak / 1e6:,.0f} |")
     return status
 
 
