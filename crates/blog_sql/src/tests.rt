@@ -134,6 +134,49 @@ fn a_long_text_is_written_by_chunks(rt: HostRuntime) -> Result<(), Fail> {
     Ok(())
 }
 
+/// The line between two statements, and the one that begins the second.
+const NEXT_BINLOG: &[u8] = b"';\nSET @undo_errors = @undo_errors + @@error_count;\nBINLOG '\n";
+
+/// The table map and the rows event of a statement that inserts a row, in bytes.
+const STATEMENT_LEN: usize = 73;
+
+#[test]
+fn each_of_many_statements_has_its_binlog(rt: HostRuntime) -> Result<(), Fail> {
+    let mut parts = Vec::new(rt.alloc());
+    parts.push(BEGIN)?;
+    for _ in 0..300 {
+        parts.push(Part::Map(T))?;
+        parts.push(insert(1, &[5]))?;
+    }
+    parts.push(XID)?;
+    let log = build(&rt, &parts)?;
+    let end = log.len().wrapping_sub(27);
+    let events = log.get(159..end).ok_or("a short log")?;
+    let mut text = ONE_STATEMENT[..BINLOG_START].to_vec(rt.alloc())?;
+    let mut is_first = true;
+    for statement in events.chunks(STATEMENT_LEN) {
+        if !is_first {
+            text.extend_from_slice(NEXT_BINLOG)?;
+        }
+        is_first = false;
+        for line in STANDARD
+            .encode(rt.alloc(), statement)?
+            .as_bytes()
+            .chunks(76)
+        {
+            text.extend_from_slice(line)?;
+            text.push(b'\n')?;
+        }
+    }
+    text.extend_from_slice(&ONE_STATEMENT[BINLOG_END..])?;
+    let mut writer = Watched::new(Vec::new(rt.alloc()));
+    let done = sql_of_log(rt.alloc(), &mut writer, &log, LIMIT, &UNCHANGED);
+    assert!(rt; done.is_ok());
+    assert!(rt; writer.device().as_slice() == text.as_slice());
+    assert_eq!(rt; events.len(), 300 * STATEMENT_LEN);
+    Ok(())
+}
+
 /// A heap with room for the call, in bytes.
 const ROOM: usize = 1 << 19;
 
