@@ -1,9 +1,9 @@
 use Rattle.std.proofs.Common.{rules, ◌≡◌, codes, map, ℕ, List, [], Bor, Option, Some, None, sym, refl, ◌∙◌, ap, arith}
 use Rattle.std.specs.Prelude.{option_map, slice_get}
-use Rattle.std.specs.Option.{option_map_or}
 use Rattle.std.proofs.lemmas.Option.{slice_get-get_or, slice_get-map}
 use Rattle.clap.specs.Words.{found_of, matched_of, raw_values}
 use Rattle.blog_sql.specs.Changed.{read_renamed}
+use Rattle.binlog.proofs.Values.{mapped}
 use Rattle.binlog.specs.Request.{HasWrongSchemas, IsWrong, RefusesSchemas, all_values}
 use Rattle.binlog.specs.declared.arguments.ArgumentsFault.{ArgumentsFault}
 use Rattle.binlog.specs.declared.arguments.ArgumentsFault.TheVariants.{Wrong, NotText, OutOfMemory}
@@ -13,11 +13,6 @@ refused : {A : Type 0} (values : List (List ℕ)) (fault : ArgumentsFault A) →
 refused values (Wrong text) is wrong = wrong
 refused values NotText is wrong = is
 refused values OutOfMemory is wrong = tt
-
--- what an option has, where it is there
-mapped : {A B : Type 0} (f : A → List B) (o : Option A) (ys : List B) → option_map f o ≡ Some ys → option_map_or f o [] ≡ ys
-mapped f None ys is = absurd (cc)
-mapped f (Some x) ys is = search rules
 
 pub returns-in_default-read-clause-wrong : goal.returns-in_default-read-clause-wrong
 returns-in_default-read-clause-wrong g c =
