@@ -1,0 +1,94 @@
+//! Logs, event by event.
+
+use blog_sum::crc32;
+use sample_logs::builder::NEWER_FRONT;
+use sample_logs::summed::CLOSED;
+use std::alloc::{AllocError, Global};
+
+/// A log that is made event by event.
+#[derive(Drop)]
+pub struct Events {
+    /// Its bytes.
+    pub bytes: Vec<u8>,
+    /// The timestamp of events to come.
+    pub time: u32,
+    sums: bool,
+}
+
+/// A number in four bytes, the lowest first.
+fn four_bytes(number: usize) -> [u8; 4] {
+    let [first, second, third, fourth, ..] = number.to_le_bytes();
+    [first, second, third, fourth]
+}
+
+/// A number of four bytes.
+pub fn low_half(number: usize) -> u32 {
+    u32::from_le_bytes(four_bytes(number))
+}
+
+impl Events {
+    /// A log that has nothing yet.
+    pub fn new(alloc: Global) -> Events {
+        Events {
+            bytes: Vec::new(alloc),
+            time: 0,
+            sums: false,
+        }
+    }
+
+    /// Begins the next log, with checksums or without.
+    pub fn start(&mut self, time: u32, sums: bool) -> Result<(), AllocError> {
+        self.bytes.clear();
+        self.time = time;
+        self.sums = sums;
+        if sums {
+            self.bytes.extend_from_slice(&CLOSED[..127])
+        } else {
+            self.bytes.extend_from_slice(&NEWER_FRONT)
+        }
+    }
+
+    /// How long the log is.
+    pub fn len(&self) -> usize {
+        self.bytes.len()
+    }
+
+    /// Appends an event.
+    pub fn put(&mut self, kind: u8, flags: u16, body: &[&[u8]]) -> Result<(), AllocError> {
+        let start = self.bytes.len();
+        let fixed = if self.sums { 23 } else { 19usize };
+        let size = body
+            .iter()
+            .fold(fixed, |size, part| size.wrapping_add(part.len()));
+        self.bytes.extend_from_slice(&self.time.to_le_bytes())?;
+        self.bytes.extend_from_slice(&[kind, 1, 0, 0, 0])?;
+        self.bytes.extend_from_slice(&four_bytes(size))?;
+        let end = start.wrapping_add(size);
+        self.bytes.extend_from_slice(&four_bytes(end))?;
+        self.bytes.extend_from_slice(&flags.to_le_bytes())?;
+        for part in body {
+            self.bytes.extend_from_slice(part)?;
+        }
+        if self.sums {
+            let sum = match self.bytes.as_slice().get(start..) {
+                Some(event) => crc32(event),
+                None => 0,
+            };
+            self.bytes.extend_from_slice(&sum.to_le_bytes())?;
+        }
+        Ok(())
+    }
+
+    /// Begins a transaction of this number: its GTID event and its `BEGIN` in the schema `shop`.
+    pub fn begin(&mut self, number: u64, thread: u32) -> Result<(), AllocError> {
+        // of the first transaction of the sample: the flags, the server's UUID and what follows the number
+        let gtid = &CLOSED[217..273];
+        self.put(33, 0, &[&gtid[..17], &number.to_le_bytes(), &gtid[25..]])?;
+        self.put(2, 8, &[&thread.to_le_bytes(), &CLOSED[300..348]])
+    }
+
+    /// Ends a transaction of this number.
+    pub fn end(&mut self, number: u64) -> Result<(), AllocError> {
+        self.put(16, 0, &[&number.to_le_bytes()])
+    }
+}

@@ -1,0 +1,218 @@
+//! The jobs: what is done on which logs.
+
+use crate::calls::{
+    Output, cut, list_all, list_table, make_plain, of_range, of_table, print, undo, undone,
+};
+use crate::digest::Digest;
+use crate::events::{Events, low_half};
+use crate::failure::Failure;
+use crate::random::Source;
+use crate::rows::{Action, Bodies};
+use crate::shapes::{
+    LARGE, SCHEMA, SMALL, Shop, put_cascade, put_tenants, put_wide, start, table_of,
+};
+use crate::words::{Job, Task};
+use blog_device::Watched;
+use blog_flash::{Mode, Selection};
+use blog_list::Form;
+use std::alloc::Global;
+
+/// What was written.
+#[derive(Clone, Copy)]
+pub struct Written {
+    /// How many bytes.
+    pub len: u64,
+    /// The digest of them.
+    pub digest: u64,
+}
+
+/// What the rounds of a job share.
+#[derive(Drop)]
+struct Bench {
+    alloc: Global,
+    source: Source,
+    events: Events,
+    output: Output,
+    /// How large a log is made, in bytes.
+    size: usize,
+}
+
+/// Does a job on each of its logs.
+pub fn work(alloc: Global, task: &Task) -> Result<Written, Failure> {
+    let mut bench = Bench {
+        alloc,
+        source: Source::new(task.seed),
+        events: Events::new(alloc),
+        output: Watched::new(Digest::new(alloc)?),
+        size: (task.kilobytes as usize).saturating_mul(1000),
+    };
+    match task.job {
+        Job::List => bench.list(task.logs)?,
+        Job::Undo => bench.undo(task.logs)?,
+        Job::Apply => bench.apply(task.logs)?,
+        Job::Rows => bench.print_rows(task.logs)?,
+        Job::Sums => bench.check_sums(task.logs)?,
+        Job::Awkward => bench.do_awkward(task.logs)?,
+    }
+    let digest = bench.output.device();
+    Ok(Written {
+        len: digest.len(),
+        digest: digest.value(),
+    })
+}
+
+/// The numbers of the tables with large transactions: 8, 20 and 40 columns.
+static LARGE_TABLES: [usize; 3] = [0, 3, 11];
+
+/// Where a large transaction is.
+#[derive(Clone, Copy)]
+struct Large {
+    table: usize,
+    start: u32,
+    stop: u32,
+}
+
+impl Bench {
+    /// Makes the rows events of a large transaction of a table.
+    fn large_bodies(&mut self, round: u32) -> Result<(usize, Bodies), Failure> {
+        let number = LARGE_TABLES.get(round as usize % 3).copied().unwrap_or(0);
+        let action = if round % 2 == 0 {
+            Action::Delete
+        } else {
+            Action::Update
+        };
+        let table = table_of(number);
+        let bodies = Bodies::new(self.alloc, &mut self.source, &table, action, LARGE)?;
+        Ok((number, bodies))
+    }
+
+    /// Makes a log without checksums, of which a large transaction has seven tenths.
+    fn make_large(&mut self, shop: &mut Shop, round: u32) -> Result<Large, Failure> {
+        let (table, bodies) = self.large_bodies(round)?;
+        let part = self.size / 10;
+        start(&mut self.source, &mut self.events, false)?;
+        let before = part.saturating_mul(2);
+        shop.put_transactions(&mut self.source, &mut self.events, 16_000, before)?;
+        let end = part.saturating_mul(9);
+        let start = shop.put_large(&mut self.source, &mut self.events, &bodies, end)?;
+        let stop = low_half(self.events.len());
+        shop.put_transactions(&mut self.source, &mut self.events, 16_000, self.size)?;
+        Ok(Large { table, start, stop })
+    }
+
+    /// Makes a log of small transactions with checksums, and a bulk load among them.
+    fn make_small(&mut self, shop: &mut Shop, round: u32) -> Result<(), Failure> {
+        let (_, bodies) = self.large_bodies(round.wrapping_mul(2))?;
+        let part = self.size / 10;
+        start(&mut self.source, &mut self.events, true)?;
+        let before = part.saturating_mul(7);
+        shop.put_transactions(&mut self.source, &mut self.events, 500, before)?;
+        let end = part.saturating_mul(8);
+        shop.put_large(&mut self.source, &mut self.events, &bodies, end)?;
+        Ok(shop.put_transactions(&mut self.source, &mut self.events, 500, self.size)?)
+    }
+
+    /// Lists of logs of small transactions, with checksums.
+    fn list(&mut self, logs: u32) -> Result<(), Failure> {
+        let mut shop = Shop::new(self.alloc, &mut self.source, SMALL)?;
+        for round in 0..logs {
+            self.make_small(&mut shop, round)?;
+            let log = self.events.bytes.as_slice();
+            let output = &mut self.output;
+            list_all(self.alloc, log, Form::Text, output)?;
+            list_table(self.alloc, log, SCHEMA, b"stock", output)?;
+            list_all(self.alloc, log, Form::Json, output)?;
+        }
+        Ok(())
+    }
+
+    /// Logs that undo a large DELETE or UPDATE, normal forms and summaries.
+    fn undo(&mut self, logs: u32) -> Result<(), Failure> {
+        let mut shop = Shop::new(self.alloc, &mut self.source, LARGE)?;
+        for round in 0..logs {
+            let large = self.make_large(&mut shop, round)?;
+            let log = self.events.bytes.as_slice();
+            let output = &mut self.output;
+            let range = of_range(large.start, large.stop);
+            undo(self.alloc, log, Mode::Flashback, &range, output)?;
+            let table = of_table(SCHEMA, table_of(large.table).name);
+            undo(self.alloc, log, Mode::Flashback, &table, output)?;
+            undo(self.alloc, log, Mode::Forward, &Selection::all(), output)?;
+            undo(self.alloc, log, Mode::Summary, &Selection::all(), output)?;
+        }
+        Ok(())
+    }
+
+    /// Logs that are cut, and printed as SQL: that which undoes a large transaction, and one of small transactions.
+    fn apply(&mut self, logs: u32) -> Result<(), Failure> {
+        let mut large_shop = Shop::new(self.alloc, &mut self.source, LARGE)?;
+        let mut small_shop = Shop::new(self.alloc, &mut self.source, SMALL)?;
+        for round in 0..logs {
+            let large = self.make_large(&mut large_shop, round)?;
+            let range = of_range(large.start, large.stop);
+            let log = undone(self.alloc, self.events.bytes.as_slice(), &range)?;
+            print(self.alloc, &log, false, &mut self.output)?;
+            cut(self.alloc, &log, &mut self.output)?;
+            self.make_small(&mut small_shop, round)?;
+            let log = self.events.bytes.as_slice();
+            print(self.alloc, log, true, &mut self.output)?;
+            cut(self.alloc, log, &mut self.output)?;
+        }
+        Ok(())
+    }
+
+    /// Pseudo-SQL of what undoes a large transaction.
+    fn print_rows(&mut self, logs: u32) -> Result<(), Failure> {
+        let mut shop = Shop::new(self.alloc, &mut self.source, LARGE)?;
+        for round in 0..logs {
+            let large = self.make_large(&mut shop, round)?;
+            let log = self.events.bytes.as_slice();
+            let range = of_range(large.start, large.stop);
+            undo(
+                self.alloc,
+                log,
+                Mode::FlashbackSql,
+                &range,
+                &mut self.output,
+            )?;
+        }
+        Ok(())
+    }
+
+    /// Lists and plain logs of large events, with checksums; and such logs cut.
+    fn check_sums(&mut self, logs: u32) -> Result<(), Failure> {
+        let mut shop = Shop::new(self.alloc, &mut self.source, LARGE)?;
+        for _ in 0..logs {
+            start(&mut self.source, &mut self.events, true)?;
+            shop.put_transactions(&mut self.source, &mut self.events, 16_000, self.size)?;
+            let log = self.events.bytes.as_slice();
+            list_all(self.alloc, log, Form::Text, &mut self.output)?;
+            make_plain(self.alloc, log, &mut self.output)?;
+            cut(self.alloc, log, &mut self.output)?;
+        }
+        Ok(())
+    }
+
+    /// One statement of many events of one row; many tables; tables of many columns.
+    fn do_awkward(&mut self, logs: u32) -> Result<(), Failure> {
+        let (alloc, size) = (self.alloc, self.size);
+        let (source, events, output) = (&mut self.source, &mut self.events, &mut self.output);
+        let all = Selection::all();
+        for _ in 0..logs {
+            start(source, events, false)?;
+            put_cascade(alloc, source, events, size)?;
+            undo(alloc, &events.bytes, Mode::Flashback, &all, output)?;
+            cut(alloc, &events.bytes, output)?;
+            start(source, events, false)?;
+            put_tenants(alloc, source, events, size)?;
+            undo(alloc, &events.bytes, Mode::Flashback, &all, output)?;
+            undo(alloc, &events.bytes, Mode::Summary, &all, output)?;
+            list_all(alloc, &events.bytes, Form::Text, output)?;
+            start(source, events, false)?;
+            put_wide(alloc, source, events, size)?;
+            undo(alloc, &events.bytes, Mode::Flashback, &all, output)?;
+            undo(alloc, &events.bytes, Mode::Summary, &all, output)?;
+        }
+        Ok(())
+    }
+}
