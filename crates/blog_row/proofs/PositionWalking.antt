@@ -63,7 +63,7 @@ column_ends column storage at bytes end here ends =
 -- ---- one column further
 
 -- the bytes behind the values of the columns from i on
-abbrev behind_rest : Layout → List ℕ → ℕ → List ℕ → Option (List ℕ)
+abbrev pub behind_rest : Layout → List ℕ → ℕ → List ℕ → Option (List ℕ)
 behind_rest columns nulls i rest = rest_of (values_front columns nulls i rest)
 
 -- two steps are one

@@ -1,35 +1,41 @@
 -- How the code looks up how columns are stored, and how it walks over an image by that.
-use Rattle.std.proofs.Common.{◌≡◌, ◌<◌, ◌≤◌, ℕ, ◌+◌, ◌/◌, ◌%◌, min, true, false, List, [], ◌∷◌, ◌++◌, length, take, drop, get_or, Option, Some, None, refl, sym, ap, ◌∙◌, subst, arith, drop-cons, add-one}
+use Rattle.std.proofs.Common.{◌≡◌, ◌≢◌, ◌<◌, ◌≤◌, ℕ, zero, suc, ◌+◌, ◌/◌, ◌%◌, ◌^◌, min, true, false, List, [], ◌∷◌, ◌++◌, length, take, drop, get_or, Option, Some, None, option_and_then, refl, sym, ap, ◌∙◌, subst, arith}
 use Rattle.std.specs.List.{list_all}
-use Rattle.std.proofs.lemmas.List.{append-nil, drop_all}
+use Rattle.std.proofs.lemmas.List.{append-nil, drop_all, drop-drop, drop_more}
 use Rattle.blog_row.specs.declared.column.Storage as told
 use Rattle.blog_row.specs.declared.column.Storage.TheVariants as variants
 use Rattle.blog_row.specs.Column.{Column, Layout, storage_of, is_column, columns_of, value_stored, value_front}
 use Rattle.blog_row.specs.Image.{bitmap_len, is_marked}
 use Rattle.blog_row.specs.code.StorageView.{AreStored, storage_seen}
-use Rattle.blog_row.proofs.PositionWalking.{past_null, past_value, past_all, column_ends}
+use Rattle.blog_row.proofs.PositionWalking.{behind_rest, past_null, past_value, past_all, column_ends, bit_clear, bit_set}
 use Rattle.blog_row.specs.code.PositionView.{from_position, EndsAt, behind_from}
 use Rattle.blog_row.proofs.Walking.{rounded_up}
 
--- ---- the column in front
+-- ---- the columns behind others
 
--- the column that is stored as the first storage, and the others
-record First (columns : Layout) (storage : told.Storage) (storages : List told.Storage) : Type 0 where
+-- columns behind others are stored as the storages behind theirs
+pub stored_behind : (n : ℕ) (columns : Layout) (storages : List told.Storage) → AreStored columns storages → AreStored (drop n columns) (drop n storages)
+stored_behind zero columns storages stored = stored
+stored_behind (suc n) [] [] stored = tt
+stored_behind (suc n) [] (storage ∷ storages) stored = absurd stored
+stored_behind (suc n) (column ∷ columns) [] stored = absurd stored
+stored_behind (suc n) (column ∷ columns) (storage ∷ storages) stored = stored_behind n columns storages stored.1
+
+-- the column that is stored as the first storage
+record First (columns : Layout) (storage : told.Storage) : Type 0 where
   column : Column
-  others : Layout
-  are : columns ≡ column ∷ others
+  are : columns ≡ column ∷ drop 1 columns
   here : storage_of column ≡ Some (storage_seen storage)
-  behind : AreStored others storages
 
-first : (columns : Layout) (storage : told.Storage) (storages : List told.Storage) → AreStored columns (storage ∷ storages) → First columns storage storages
+first : (columns : Layout) (storage : told.Storage) (storages : List told.Storage) → AreStored columns (storage ∷ storages) → First columns storage
 first [] storage storages stored = absurd stored
-first (column ∷ columns) storage storages stored = record { column = column; others = columns; are = refl; here = stored.0; behind = stored.1 }
+first (column ∷ columns) storage storages stored = record { column = column; are = refl; here = stored.0 }
 
--- the same of the storage at i
-first_at : (columns : Layout) (storages : List told.Storage) (i : ℕ) (d : told.Storage) → i < length storages → AreStored columns (drop i storages) → First columns (get_or storages i d) (drop (i + 1) storages)
-first_at columns storages i d h stored =
-    let split : drop i storages ≡ get_or storages i d ∷ drop (i + 1) storages = drop-cons storages i d h ∙ ap (λ (n : ℕ). get_or storages i d ∷ drop n storages) (sym (add-one i)) in
-    first columns (get_or storages i d) (drop (i + 1) storages) (subst (AreStored columns) split stored)
+-- that of the k-th of the columns from column `from` on
+first_at : (columns : Layout) (storages : List told.Storage) (from k : ℕ) (d : told.Storage) → from + k < length storages → AreStored columns (drop from storages) → First (drop k columns) (get_or storages (from + k) d)
+first_at columns storages from k d h stored =
+    let split : drop k (drop from storages) ≡ get_or storages (from + k) d ∷ drop (from + k + 1) storages = drop-drop k from storages ∙ drop_more storages (from + k) d h in
+    first (drop k columns) (get_or storages (from + k) d) (drop (from + k + 1) storages) (subst (AreStored (drop k columns)) split (stored_behind k columns (drop from storages) stored))
 
 -- no storages are those of no columns
 none_left : (columns : Layout) → AreStored columns [] → columns ≡ []
@@ -38,48 +44,71 @@ none_left (column ∷ columns) stored = absurd stored
 
 -- ---- a walk over an image
 
--- how far a walk over the whole has come, i columns: the columns that are left are stored as the storages that are left
-pub record Reached (storages : List told.Storage) (nulls bytes : List ℕ) (whole : Option (List ℕ)) (i end : ℕ) : Type 0 where
-  pub columns : Layout
-  pub stored : AreStored columns (drop i storages)
-  pub so_far : whole ≡ behind_from columns nulls i end bytes
+-- the columns behind the next one
+onward : (columns : Layout) (nulls bytes : List ℕ) (from k at : ℕ) → behind_from (drop 1 (drop k columns)) nulls (from + k + 1) at bytes ≡ behind_from (drop (k + 1) columns) nulls (from + (k + 1)) at bytes
+onward columns nulls bytes from k at =
+    let next : from + k + 1 ≡ from + (k + 1) = omega arith in
+    ap (λ (t : Layout). behind_from t nulls (from + k + 1) at bytes) (drop-drop 1 k columns) ∙ ap (λ (i : ℕ). behind_from (drop (k + 1) columns) nulls i at bytes) next
 
 -- one column further, which is NULL
-pub reached_null : (storages : List told.Storage) (nulls bytes : List ℕ) (whole : Option (List ℕ)) (i end : ℕ)
-    → i < length storages → is_marked nulls i ≡ true → Reached storages nulls bytes whole i end → Reached storages nulls bytes whole (i + 1) end
-reached_null storages nulls bytes whole i end h marked r =
-    let f = first_at r.columns storages i (variants.Fixed 0) h r.stored in
-    record {
-      columns = f.others;
-      stored = f.behind;
-      so_far = r.so_far ∙ ap (λ (columns : Layout). behind_from columns nulls i end bytes) f.are ∙ past_null f.column f.others nulls i end bytes marked;
-    }
+next_null : (columns : Layout) (storages : List told.Storage) (nulls bytes : List ℕ) (from k at : ℕ)
+    → from + k < length storages → AreStored columns (drop from storages) → is_marked nulls (from + k) ≡ true
+    → behind_from (drop k columns) nulls (from + k) at bytes ≡ behind_from (drop (k + 1) columns) nulls (from + (k + 1)) at bytes
+next_null columns storages nulls bytes from k at h stored marked =
+    let f = first_at columns storages from k (variants.Fixed 0) h stored in
+    ap (λ (t : Layout). behind_from t nulls (from + k) at bytes) f.are
+    ∙ past_null f.column (drop 1 (drop k columns)) nulls (from + k) at bytes marked
+    ∙ onward columns nulls bytes from k at
 
--- one column further, whose value is there
-pub reached_value : (storages : List told.Storage) (nulls bytes : List ℕ) (whole : Option (List ℕ)) (i at end : ℕ) (d : told.Storage)
-    → i < length storages → is_marked nulls i ≡ false → EndsAt (value_stored (storage_seen (get_or storages i d))) at bytes (Some end) → Reached storages nulls bytes whole i at → Reached storages nulls bytes whole (i + 1) end
-reached_value storages nulls bytes whole i at end d h marked ends r =
-    let f = first_at r.columns storages i d h r.stored in
-    let own : EndsAt (value_front f.column) at bytes (Some end) = column_ends f.column (storage_seen (get_or storages i d)) at bytes (Some end) f.here ends in
-    record {
-      columns = f.others;
-      stored = f.behind;
-      so_far = r.so_far ∙ ap (λ (columns : Layout). behind_from columns nulls i at bytes) f.are ∙ past_value f.column f.others nulls i at bytes (Some end) marked own;
-    }
+-- one column further, whose value ends so; None where it is not there
+next_value : (columns : Layout) (storages : List told.Storage) (nulls bytes : List ℕ) (from k at : ℕ) (d : told.Storage) (end : Option ℕ)
+    → from + k < length storages → AreStored columns (drop from storages) → is_marked nulls (from + k) ≡ false → EndsAt (value_stored (storage_seen (get_or storages (from + k) d))) at bytes end
+    → behind_from (drop k columns) nulls (from + k) at bytes ≡ option_and_then (λ e. behind_from (drop (k + 1) columns) nulls (from + (k + 1)) e bytes) end
+next_value columns storages nulls bytes from k at d end h stored marked ends =
+    let f = first_at columns storages from k d h stored in
+    let own : EndsAt (value_front f.column) at bytes end = column_ends f.column (storage_seen (get_or storages (from + k) d)) at bytes end f.here ends in
+    ap (λ (t : Layout). behind_from t nulls (from + k) at bytes) f.are
+    ∙ past_value f.column (drop 1 (drop k columns)) nulls (from + k) at bytes end marked own
+    ∙ behind end
+  where
+    behind : (o : Option ℕ) → option_and_then (behind_rest (drop 1 (drop k columns)) nulls (from + k + 1)) (option_and_then (λ e. from_position e bytes) o) ≡ option_and_then (λ e. behind_from (drop (k + 1) columns) nulls (from + (k + 1)) e bytes) o
+    behind None = refl
+    behind (Some e) = onward columns nulls bytes from k e
 
--- a value that is not there ends the walk
-pub reached_stops : (storages : List told.Storage) (nulls bytes : List ℕ) (whole : Option (List ℕ)) (i at : ℕ) (d : told.Storage)
-    → i < length storages → is_marked nulls i ≡ false → EndsAt (value_stored (storage_seen (get_or storages i d))) at bytes None → Reached storages nulls bytes whole i at → whole ≡ None
-reached_stops storages nulls bytes whole i at d h marked ends r =
-    let f = first_at r.columns storages i d h r.stored in
-    let own : EndsAt (value_front f.column) at bytes None = column_ends f.column (storage_seen (get_or storages i d)) at bytes None f.here ends in
-    r.so_far ∙ ap (λ (columns : Layout). behind_from columns nulls i at bytes) f.are ∙ past_value f.column f.others nulls i at bytes None marked own
+-- the same of the k-th of all columns
+pub next_there : (columns : Layout) (storages : List told.Storage) (nulls bytes : List ℕ) (k at : ℕ) (d : told.Storage) (end : Option ℕ)
+    → k < length storages → AreStored columns storages → is_marked nulls k ≡ false → EndsAt (value_stored (storage_seen (get_or storages k d))) at bytes end
+    → behind_from (drop k columns) nulls k at bytes ≡ option_and_then (λ e. behind_from (drop (k + 1) columns) nulls (k + 1) e bytes) end
+next_there columns storages nulls bytes k at d end h stored marked ends =
+    let all : (n : ℕ) → 0 + n ≡ n = λ n. omega arith in
+    simp all at (next_value columns storages nulls bytes 0 k at d end (simp all h) stored (simp all marked) (simp all ends))
+
+-- one column further, the k-th from column `from` on, by its null bit
+pub next_column : (columns : Layout) (storages : List told.Storage) (nulls bytes : List ℕ) (from k at : ℕ) (d : told.Storage) (end : Option ℕ)
+    → from % 8 ≡ 0 → k < 8 → from + k < length storages → AreStored columns (drop from storages)
+    → ((get_or nulls (from / 8) 0 / 2 ^ k) % 2 ≡ 0 → EndsAt (value_stored (storage_seen (get_or storages (from + k) d))) at bytes end)
+    → ((get_or nulls (from / 8) 0 / 2 ^ k) % 2 ≡ 1 → end ≡ Some at)
+    → behind_from (drop k columns) nulls (from + k) at bytes ≡ option_and_then (λ e. behind_from (drop (k + 1) columns) nulls (from + (k + 1)) e bytes) end
+next_column columns storages nulls bytes from k at d end whole low h stored there absent =
+    by_case ((get_or nulls (from / 8) 0 / 2 ^ k) % 2) (omega arith) refl
+  where
+    by_case : (n : ℕ) → n < 2 → (get_or nulls (from / 8) 0 / 2 ^ k) % 2 ≡ n → behind_from (drop k columns) nulls (from + k) at bytes ≡ option_and_then (λ e. behind_from (drop (k + 1) columns) nulls (from + (k + 1)) e bytes) end
+    by_case zero below e = next_value columns storages nulls bytes from k at d end h stored (bit_clear nulls from k whole low e) (there e)
+    by_case (suc zero) below e =
+        let set : (get_or nulls (from / 8) 0 / 2 ^ k) % 2 ≢ 0 = λ none. absurd (omega (arith, e, none)) in
+        next_null columns storages nulls bytes from k at h stored (bit_set nulls from k whole low set)
+        ∙ ap (option_and_then (λ e. behind_from (drop (k + 1) columns) nulls (from + (k + 1)) e bytes)) (sym (absent e))
+    by_case (suc (suc n)) below e = absurd (omega (arith, below))
+
+-- more columns further, count of them from column `from` on
+pub next_columns : (columns : Layout) (nulls bytes : List ℕ) (from count at : ℕ) → behind_from (drop count (drop from columns)) nulls (from + count) at bytes ≡ behind_from (drop (from + count) columns) nulls (from + count) at bytes
+next_columns columns nulls bytes from count at = ap (λ (t : Layout). behind_from t nulls (from + count) at bytes) (drop-drop count from columns)
 
 -- behind the last column
-pub reached_all : (storages : List told.Storage) (nulls bytes : List ℕ) (whole : Option (List ℕ)) (i end : ℕ) → length storages ≤ i → Reached storages nulls bytes whole i end → whole ≡ from_position end bytes
-reached_all storages nulls bytes whole i end h r =
-    let none : r.columns ≡ [] = none_left r.columns (subst (AreStored r.columns) (drop_all i storages h) r.stored) in
-    r.so_far ∙ ap (λ (columns : Layout). behind_from columns nulls i end bytes) none ∙ past_all nulls i end bytes
+pub all_reached : (columns : Layout) (storages : List told.Storage) (nulls bytes : List ℕ) (i at : ℕ) → length storages ≤ i → AreStored columns storages → behind_from (drop i columns) nulls i at bytes ≡ from_position at bytes
+all_reached columns storages nulls bytes i at h stored =
+    let none : drop i columns ≡ [] = none_left (drop i columns) (subst (AreStored (drop i columns)) (drop_all i storages h) (stored_behind i columns storages stored)) in
+    ap (λ (t : Layout). behind_from t nulls i at bytes) none ∙ past_all nulls i at bytes
 
 -- there are as many storages as columns
 pub as_many_stored : (columns : Layout) (storages : List told.Storage) → AreStored columns storages → length storages ≡ length columns

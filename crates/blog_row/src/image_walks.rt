@@ -47,9 +47,10 @@ fn count(layout: &Layout<'_>, storages: Option<&[Storage]>, bytes: &[u8]) -> Opt
     ensures { result ≡ option_map length (images_of (layout_columns layout.now) bytes.now) }
 {
     let mut rest = bytes;
+    let mut look = true;
     let mut images = 0;
     while !rest.is_empty() {
-        let len = layout.image_len_by(storages, rest)?;
+        let len = layout.image_len_by(storages, &mut look, rest)?;
         let (_, behind) = rest.split_at(len);
         rest = behind;
         images += 1;
@@ -91,8 +92,9 @@ fn put(layout: &Layout<'_>, storages: Option<&[Storage]>, bytes: &[u8], to: &mut
     ensures { to.new ≡ concat (reverse (unwrap_or (images_of (layout_columns layout.now) bytes.now) [])) }
 {
     let mut rest = bytes;
+    let mut look = true;
     while !rest.is_empty() {
-        let Some(len) = layout.image_len_by(storages, rest) else {
+        let Some(len) = layout.image_len_by(storages, &mut look, rest) else {
             unreachable!();
         };
         let (image, behind) = rest.split_at(len);
