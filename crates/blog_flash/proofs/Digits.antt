@@ -1,17 +1,24 @@
--- Hexadecimal digits in upper case.
-use Rattle.std.proofs.Common.{◌≡◌, ℕ, suc, ◌/◌, ◌%◌, ◌<◌, List, [], ◌∷◌, map, slice_index, refl, sym, ap₂, arith}
-use Rattle.std.specs.Char.{to_ascii_uppercase}
-use Rattle.std.proofs.lemmas.List.{get_or-map}
-use Rattle.hex.specs.Hex.{encode_with, encode_lower, encode_upper, lower_digits, upper_digits}
+-- Hexadecimal digits in upper case, from a table of those of each byte.
+use Rattle.std.proofs.Common.{◌≡◌, ℕ, zero, suc, ◌+◌, ◌-◌, ◌*◌, ◌/◌, ◌%◌, ◌<◌, Bool, true, ◌&&◌, T, eqb, get_or, slice_index, eqb→eq, eq-zero-or-pos, inl, inr, arith}
+use Rattle.hex.specs.Hex.{upper_digits}
+use Rattle.blog_flash.specs.declared.printed.TheConstants.{DIGITS}
+use lib.Ieee.Fits.{and_l, and_r}
 
--- each digit, by its place among them
-raised : (d : ℕ) → d < 16 → to_ascii_uppercase (slice_index lower_digits d) ≡ slice_index upper_digits d
-raised d within = sym (get_or-map to_ascii_uppercase lower_digits d 0 0 within)
+-- the test of the first n bytes, which computes
+abbrev are_digits : ℕ → Bool
+are_digits zero = true
+are_digits (suc b) = (eqb (get_or DIGITS (2 * b) 0) (slice_index upper_digits (b / 16)) && eqb (get_or DIGITS (2 * b + 1) 0) (slice_index upper_digits (b % 16))) && are_digits b
 
--- digits in lower case, raised
-pub raised-digits : (bytes : List ℕ) → ((k : ℕ) → slice_index bytes k < 256) → map to_ascii_uppercase (encode_lower bytes) ≡ encode_upper bytes
-unfolding encode_with
-raised-digits [] small = refl
-raised-digits (b ∷ bytes) small =
-    let byte : b < 256 = small 0 in
-    ap₂ (λ (high : ℕ) (rest : List ℕ). high ∷ rest) (raised (b / 16) (omega arith)) (ap₂ (λ (low : ℕ) (rest : List ℕ). low ∷ rest) (raised (b % 16) (omega arith)) (raised-digits bytes (λ k. small (suc k))))
+abbrev AreDigits : ℕ → Type 0
+AreDigits b = (get_or DIGITS (2 * b) 0 ≡ slice_index upper_digits (b / 16)) × (get_or DIGITS (2 * b + 1) 0 ≡ slice_index upper_digits (b % 16))
+
+below : (n b : ℕ) → T (are_digits n) → b < n → AreDigits b
+below zero b t h = absurd (omega arith)
+below (suc n) b t h =
+    elim (eq-zero-or-pos (n - b)) [
+      | inl z ↦ let e : b ≡ n = omega arith in let a = and_l _ (are_digits n) t in rw e (eqb→eq _ _ (and_l _ _ a), eqb→eq _ _ (and_r _ _ a))
+      | inr g ↦ below n b (and_r _ (are_digits n) t) (omega arith)
+    ]
+
+pub digits-at : (b : ℕ) → b < 256 → AreDigits b
+digits-at b h = below 256 b tt h

@@ -24,6 +24,7 @@ pub mod Stops
 pub mod Printing
 pub mod Quoting
 pub mod Digits
+pub mod ShortLines
 pub mod PrintedParts
 pub mod Answering
 pub mod InTurn

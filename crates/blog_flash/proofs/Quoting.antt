@@ -1,8 +1,8 @@
 -- A name between backticks, by the parts that its own backticks leave.
 use Rattle.std.proofs.Common.{◌≡◌, ℕ, suc, ◌+◌, ◌-◌, ◌≤◌, ◌==◌, Bool, true, false, List, [], ◌∷◌, ◌++◌, length, take, drop, refl, sym, ap, ap₂, ◌∙◌, append_assoc, append-nil, arith}
 use Rattle.std.specs.Prelude.{if◌then◌else◌, nat_le}
-use Rattle.std.specs.List.{flat_map}
-use Rattle.std.proofs.lemmas.Bool.{le-leb}
+use Rattle.std.specs.List.{flat_map, list_any}
+use Rattle.std.proofs.lemmas.Bool.{le-leb, or_parts}
 use Rattle.std.proofs.lemmas.List.{drop-drop, drop-take, length-drop, take-append-drop, take-take, take_all}
 use mathlib.Core.Bool.{and-true}
 use Rattle.blog_trans.proofs.ProgressFirsts.{and-false}
@@ -78,3 +78,13 @@ pub quoted-parts : (name : List ℕ) → flat_map between_backticks (split_at na
 quoted-parts name =
     let all : length name + 1 - 0 ≡ suc (length name) = omega arith in
     ap (λ (n : ℕ). parts_quoted name 0 (matches_from name tick 0 0 n)) all ∙ parts-from name 0 0 name refl (omega arith) (omega arith)
+
+-- a name with no backtick is one part
+pub quoted-plain : (name : List ℕ) → list_any (λ byte. byte == 96) name ≡ false → quoted name ≡ between_backticks name
+quoted-plain name none = ap between_backticks (undoubled name none)
+  where
+    undoubled : (rest : List ℕ) → list_any (λ byte. byte == 96) rest ≡ false → doubled rest ≡ rest
+    undoubled [] free = refl
+    undoubled (b ∷ rest) free =
+        let parts = or_parts (b == 96) (list_any (λ byte. byte == 96) rest) free in
+        rw parts.0 (ap (λ (more : List ℕ). b ∷ more) (undoubled rest parts.1))

@@ -1,6 +1,6 @@
 //! Names, values and rows as text. Where the capacity has room for a text, appending it is no error.
 
-ghost use Rattle.std.specs.Prelude.{◌≡◌, ◌+◌, ◌*◌, ◌≤◌, ◌∷◌, ◌++◌, length, OnOk, IsOk, codes, option_map, vec_len, vec_capacity};
+ghost use Rattle.std.specs.Prelude.{◌≡◌, ◌+◌, ◌*◌, ◌<◌, ◌≤◌, ◌∷◌, ◌++◌, length, ◌↔◌, IfSome, IsTrue, OnOk, IsOk, [], codes, option_map, take, vec_len, vec_capacity};
 ghost use Rattle.std.specs.Fmt.{decimal};
 ghost use Rattle.hex.specs.Hex.{encode_upper};
 ghost use Rattle.blog_row.specs.Image.{row_of};
@@ -14,6 +14,21 @@ use blog_row::{Layout, RowChange, TableMap};
 use bstr::ByteSlice;
 use itoa::Buffer;
 use std::alloc::{AllocError, Allocator};
+
+/// The two digits of each byte, in hexadecimal and upper case.
+static DIGITS: [u8; 512] = *b"\
+000102030405060708090A0B0C0D0E0F101112131415161718191A1B1C1D1E1F\
+202122232425262728292A2B2C2D2E2F303132333435363738393A3B3C3D3E3F\
+404142434445464748494A4B4C4D4E4F505152535455565758595A5B5C5D5E5F\
+606162636465666768696A6B6C6D6E6F707172737475767778797A7B7C7D7E7F\
+808182838485868788898A8B8C8D8E8F909192939495969798999A9B9C9D9E9F\
+A0A1A2A3A4A5A6A7A8A9AAABACADAEAFB0B1B2B3B4B5B6B7B8B9BABBBCBDBEBF\
+C0C1C2C3C4C5C6C7C8C9CACBCCCDCECFD0D1D2D3D4D5D6D7D8D9DADBDCDDDEDF\
+E0E1E2E3E4E5E6E7E8E9EAEBECEDEEEFF0F1F2F3F4F5F6F7F8F9FAFBFCFDFEFF\
+";
+
+/// What the line of a short value is written over, no shorter than any such line.
+static ROOM: [u8; 80] = [0; 80];
 
 /// Appends a text.
 pub(crate) fn put_text<A: Allocator>(out: &mut Vec<u8, A>, text: &[u8]) -> Result<(), AllocError>
@@ -62,6 +77,10 @@ fn put_quoted<A: Allocator>(out: &mut Vec<u8, A>, name: &[u8]) -> Result<(), All
     ensures room { vec_len out.old + length (quoted name.now) ≤ vec_capacity out.old → IsOk result }
     ensures capacity { vec_capacity out.old ≤ vec_capacity out.new }
 {
+    // Most names have no backtick, and are one part.
+    if !name.contains(&b'`') {
+        return put_between_backticks(out, name);
+    }
     for part in name.split_str(b"`") {
         put_between_backticks(out, part)?;
     }
@@ -88,8 +107,12 @@ fn write_digits(to: &mut [u8], bytes: &[u8])
     requires { length to.old ≡ 2 * length bytes.now }
     ensures { to.new ≡ encode_upper bytes.now }
 {
-    hex::encode_to_slice(bytes, to).unwrap();
-    to.make_ascii_uppercase();
+    'bytes: for i in 0..bytes.len() {
+        let from = 2 * bytes[i] as usize;
+        let (high, low) = (DIGITS[from], DIGITS[from + 1]);
+        to[2 * i] = high;
+        to[2 * i + 1] = low;
+    }
 }
 
 /// Appends the upper-case hexadecimal digits of bytes.
@@ -120,6 +143,95 @@ fn put_value<A: Allocator>(out: &mut Vec<u8, A>, value: Option<&[u8]>) -> Result
     put_text(out, b"'")
 }
 
+/// Writes what names the column with a number of at most four digits, and returns its length.
+fn write_column(text: &mut [u8], n: u64) -> usize
+    requires few { n < 10000 }
+    requires enough { 12 ≤ length text.old }
+    ensures written { take result text.new ≡ codes "###   @" ++ (decimal n ++ 61 ∷ []) }
+    ensures len { length text.new ≡ length text.old }
+    ensures short { result ≤ 12 }
+{
+    if n < 10 {
+        text[..9].copy_from_slice(b"###   @0=");
+        text[7] = b'0' + n as u8;
+        return 9;
+    }
+    if n < 100 {
+        text[..10].copy_from_slice(b"###   @00=");
+        text[7] = b'0' + (n / 10) as u8;
+        text[8] = b'0' + (n % 10) as u8;
+        return 10;
+    }
+    let (high, low) = (n / 100, n % 100);
+    if n < 1000 {
+        text[..11].copy_from_slice(b"###   @000=");
+        text[7] = b'0' + high as u8;
+        text[8] = b'0' + (low / 10) as u8;
+        text[9] = b'0' + (low % 10) as u8;
+        return 11;
+    }
+    text[..12].copy_from_slice(b"###   @0000=");
+    text[7] = b'0' + (high / 10) as u8;
+    text[8] = b'0' + (high % 10) as u8;
+    text[9] = b'0' + (low / 10) as u8;
+    text[10] = b'0' + (low % 10) as u8;
+    12
+}
+
+/// Writes a short value and the end of its line from a place on, and returns where they end.
+fn write_value(text: &mut [u8], at: usize, value: Option<&[u8]>) -> usize
+    requires short { IfSome value (λ bytes. length bytes.now ≤ 32) }
+    requires enough { at + 68 ≤ length text.old }
+    ensures written { take result text.new ≡ take at text.old ++ line (value_text (option_map (λ bytes. bytes.now) value.entry)) }
+    ensures len { length text.new ≡ length text.old }
+    ensures within { result ≤ at + 68 }
+{
+    let Some(bytes) = value else {
+        text[at..at + 5].copy_from_slice(b"NULL\n");
+        return at + 5;
+    };
+    text[at] = b'X';
+    text[at + 1] = b'\'';
+    let end = at + 2 + 2 * bytes.len();
+    write_digits(&mut text[at + 2..end], bytes);
+    text[end] = b'\'';
+    text[end + 1] = b'\n';
+    end + 2
+}
+
+/// Whether a value is NULL or of at most 32 bytes.
+fn is_short(value: Option<&[u8]>) -> bool
+    ensures { IsTrue result ↔ IfSome value.entry (λ bytes. length bytes.now ≤ 32) }
+{
+    match value {
+        Some(bytes) => bytes.len() <= 32,
+        None => true,
+    }
+}
+
+/// Appends the line of a short value, where there is room for any such line. A text as long as the longest is appended,
+/// the line is written over its front, and the rest of it goes again: else each part of the line took an append.
+fn put_short_line<A: Allocator>(
+    out: &mut Vec<u8, A>,
+    n: u64,
+    value: Option<&[u8]>,
+) -> Result<(), AllocError>
+    requires few { n < 10000 }
+    requires short { IfSome value (λ bytes. length bytes.now ≤ 32) }
+    requires enough { vec_len out.old + 80 ≤ vec_capacity out.old }
+    ensures ok { OnOk result (out.new.items ≡ out.old.items ++ value_line n (option_map (λ bytes. bytes.now) value.entry)) }
+    ensures room { IsOk result }
+    ensures capacity { vec_capacity out.old ≤ vec_capacity out.new }
+{
+    let start = out.len();
+    put_text(out, &ROOM)?;
+    let text = &mut out[start..];
+    let at = write_column(text, n);
+    let len = write_value(text, at, value);
+    out.truncate(start + len);
+    Ok(())
+}
+
 /// Appends the line of the value of the column with a number, from 1.
 fn put_value_line<A: Allocator>(
     out: &mut Vec<u8, A>,
@@ -130,6 +242,10 @@ fn put_value_line<A: Allocator>(
     ensures room { vec_len out.old + length (value_line n (option_map (λ bytes. bytes.now) value.entry)) ≤ vec_capacity out.old → IsOk result }
     ensures capacity { vec_capacity out.old ≤ vec_capacity out.new }
 {
+    // Numbers of columns have four digits at most, and most values are short.
+    if n < 10_000 && is_short(value) && ROOM.len() <= out.capacity() - out.len() {
+        return put_short_line(out, n, value);
+    }
     put_text(out, b"###   @")?;
     put_number(out, n)?;
     put_text(out, b"=")?;

@@ -1,9 +1,15 @@
-use Rattle.std.proofs.Common.{map, ap, ◌∙◌, arith}
-use Rattle.std.specs.Char.{to_ascii_uppercase}
-use Rattle.blog_flash.proofs.Digits.{raised-digits}
+use Rattle.std.proofs.Common.{ℕ, arith, slice_index}
+use Rattle.hex.specs.Hex.{upper_digits}
+use Rattle.hex.proofs.Pairs.{encode_step, encode_done}
+use Rattle.blog_flash.proofs.Digits.{digits-at}
 use Rattle.blog_flash.proofs.printed.write_digits.Goals as goal
+
+pub bytes-preserved : goal.bytes-preserved
+bytes-preserved c =
+    let byte : ℕ = slice_index c.args.bytes.now c.bytes.i in
+    let digits = digits-at byte (omega (arith, c.type_inv.bytes c.bytes.i)) in
+    encode_step upper_digits c.args.bytes.now c.bytes.to c.bytes.i _ _ (omega arith) (omega arith) digits.0 digits.1 c.bytes.invariant
 
 pub returns : goal.returns
 returns c =
-    let lower = rw c.unwrap.ensures at c.encode_to_slice.ensures.written in
-    c.make_ascii_uppercase.ensures.after ∙ ap (map to_ascii_uppercase) lower ∙ raised-digits c.args.bytes.now (λ k. omega (arith, c.type_inv.bytes k))
+    encode_done _ _ _ c.bytes.i (omega arith) (omega arith) c.bytes.invariant
