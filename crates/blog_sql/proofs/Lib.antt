@@ -1,4 +1,7 @@
 pub mod Lines
+pub mod SixBits
+pub mod Characters
+pub mod FullLine
 pub mod Names
 pub mod Adding
 pub mod Changing

@@ -1,4 +1,5 @@
 -- What only contracts of code need: running states.
 pub mod Adding
+pub mod FullLine
 pub mod Views
 pub mod Walk

@@ -7,6 +7,7 @@ ghost use Rattle.blog_sql.specs.Sql.{base64_lines};
 ghost use Rattle.blog_sql.specs.code.Adding.{Adds, full_part};
 
 use crate::chunk::append;
+use crate::full_line::encoded_line;
 use base64::engine::general_purpose::STANDARD;
 use blog_device::{RunFault, Watched};
 use std::alloc::Allocator;
@@ -37,6 +38,23 @@ fn put_line<A: Allocator, W: Write>(
     append(writer, chunk, &line[..len + 1])
 }
 
+/// Adds a full line.
+fn put_full_line<A: Allocator, W: Write>(
+    writer: &mut Watched<W>,
+    chunk: &mut Vec<u8, A>,
+    bytes: &[u8],
+) -> Result<(), RunFault>
+    requires full { length bytes.now ≡ 57 }
+    requires room { 77 ≤ vec_capacity chunk.old }
+    ensures adds { OnOk result (Adds (W.contents (device_of writer.old)) (W.contents (device_of writer.new)) chunk.old.items chunk.new.items (base64_lines bytes.now)) }
+    ensures beginning { OnErr result (AppendsBeginning (W.contents (device_of writer.old)) (W.contents (device_of writer.new)) (chunk.old.items ++ base64_lines bytes.now)) }
+    ensures fault { IfErr result (λ e. e ≡ RunFault.Write) }
+    ensures capacity { vec_capacity chunk.old ≤ vec_capacity chunk.new }
+    ensures mark { has_failed writer.new ≡ (has_failed writer.old || is_write_fault result) }
+{
+    append(writer, chunk, &encoded_line(bytes))
+}
+
 /// Adds all full lines. Returns how many bytes they encode.
 pub(crate) fn put_full_lines<A: Allocator, W: Write>(
     writer: &mut Watched<W>,
@@ -55,7 +73,7 @@ pub(crate) fn put_full_lines<A: Allocator, W: Write>(
 {
     let mut done = 0;
     'lines: while bytes.len() - done >= LINE_BYTES {
-        put_line(writer, chunk, &bytes[done..done + LINE_BYTES])?;
+        put_full_line(writer, chunk, &bytes[done..done + LINE_BYTES])?;
         done += LINE_BYTES;
     }
     Ok(done)

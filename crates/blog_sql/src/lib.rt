@@ -4,6 +4,7 @@
 mod base64_lines;
 mod changed;
 mod chunk;
+mod full_line;
 mod laws;
 mod of_log;
 mod options;

@@ -2,6 +2,7 @@
 
 ghost use Rattle.blog_sql.specs.Changed.{HasShortNames};
 
+use crate::full_line::encoded_line;
 use crate::{NAME_AND_VERSION, Renamed, SqlOptions, sql_of_log};
 use base64::engine::general_purpose::STANDARD;
 use blog_device::Watched;
@@ -132,6 +133,21 @@ fn a_long_text_is_written_by_chunks(rt: HostRuntime) -> Result<(), Fail> {
     // Two writes and a flush.
     assert_eq!(rt; writer.device().calls, 3);
     Ok(())
+}
+
+/// The bytes of a line with each character.
+const EACH_CHARACTER: [u8; 57] = [
+    0, 16, 131, 16, 81, 135, 32, 146, 139, 48, 211, 143, 65, 20, 147, 81, 85, 151, 97, 150, 155,
+    113, 215, 159, 130, 24, 163, 146, 89, 167, 162, 154, 171, 178, 219, 175, 195, 28, 179, 211, 93,
+    183, 227, 158, 187, 243, 223, 191, 247, 207, 191, 107, 48, 25, 255, 237, 61,
+];
+
+#[test]
+fn a_full_line_has_each_character(rt: HostRuntime) {
+    let line = encoded_line(&EACH_CHARACTER);
+    assert!(rt;
+        &line == b"ABCDEFGHIJKLMNOPQRSTUVWXYZabcdefghijklmnopqrstuvwxyz0123456789+/98+/azAZ/+09\n"
+    );
 }
 
 /// The line between two statements, and the one that begins the second.
