@@ -1,5 +1,7 @@
+mod Blocks
 mod Ending
 mod Growing
 mod Marking
 mod OnTheWay
+mod Plain
 mod Whole

@@ -1,6 +1,7 @@
 -- What only contracts of code need: its structs as values, and running states.
 pub mod Held
 pub mod MarksView
+pub mod Plain
 pub mod Told
 pub mod Totals
 pub mod WriterView

@@ -1,13 +1,34 @@
 //! Bytes of a log for people: escaped, so that no control character reaches a terminal.
 
-ghost use Rattle.std.specs.Prelude.{◌≡◌, ◌++◌, ◌∷◌, [], OnOk, true, false, encode_utf8};
+ghost use Rattle.std.specs.Prelude.{◌≡◌, ◌≤◌, ◌++◌, ◌∷◌, [], OnOk, true, false, encode_utf8, length};
 ghost use Rattle.std.specs.List.{flat_map};
 ghost use Rattle.blog_list.specs.Escapes.{beginning, byte_escape, char_columns, char_shown, columns_of, escaped, marks, quoted, quoted_mark, quoted_table, shown};
+ghost use Rattle.blog_list.specs.code.Plain.{is_plain, plain_len};
 
 use crate::marks::{Mark, Marks};
 use crate::texts::{put_byte, put_text};
 use std::alloc::{AllocError, Allocator};
 use unicode_width::UnicodeWidthChar;
+
+/// Whether a byte is printed as it is, in names too: a blank, or a visible character of ASCII but `\` and the backtick.
+fn is_plain(byte: u8) -> bool
+    ensures { result ≡ is_plain byte }
+{
+    byte >= b' ' && byte <= b'~' && byte != b'\\' && byte != b'`'
+}
+
+/// Returns how many bytes at the beginning of a text are printed as they are.
+fn plain_len(text: &[u8]) -> usize
+    ensures all { result ≡ plain_len text.now }
+    ensures within { result ≤ length text.now }
+{
+    'plain: for i in 0..text.len() {
+        if !is_plain(text[i]) {
+            return i;
+        }
+    }
+    text.len()
+}
 
 /// Appends a byte as `\x1b`.
 fn put_escape<A: Allocator>(out: &mut Vec<u8, A>, byte: u8) -> Result<(), AllocError>
@@ -55,7 +76,9 @@ fn put_mark<A: Allocator>(out: &mut Vec<u8, A>, mark: Mark) -> Result<(), AllocE
 pub(crate) fn put_escaped<A: Allocator>(out: &mut Vec<u8, A>, text: &[u8]) -> Result<(), AllocError>
     ensures { OnOk result (out.new.items ≡ out.old.items ++ escaped text.now) }
 {
-    for mark in Marks::new(text) {
+    let plain = plain_len(text);
+    put_text(out, &text[..plain])?;
+    for mark in Marks::new(&text[plain..]) {
         put_mark(out, mark)?;
     }
     Ok(())
@@ -65,8 +88,10 @@ pub(crate) fn put_escaped<A: Allocator>(out: &mut Vec<u8, A>, text: &[u8]) -> Re
 fn put_quoted<A: Allocator>(out: &mut Vec<u8, A>, name: &[u8]) -> Result<(), AllocError>
     ensures { OnOk result (out.new.items ≡ out.old.items ++ quoted name.now) }
 {
+    let plain = plain_len(name);
     put_text(out, b"`")?;
-    for mark in Marks::new(name) {
+    put_text(out, &name[..plain])?;
+    for mark in Marks::new(&name[plain..]) {
         put_quoted_mark(out, mark)?;
     }
     put_text(out, b"`")

@@ -1,12 +1,15 @@
 //! Texts that grow at their end.
 
-ghost use Rattle.std.specs.Prelude.{◌≡◌, ◌≤◌, ◌-◌, ◌∷◌, ◌++◌, [], OnOk, codes, drop, take};
+ghost use Rattle.std.specs.Prelude.{◌≡◌, ◌≤◌, ◌-◌, ◌∷◌, ◌++◌, [], OnOk, codes, drop, length, take};
 ghost use Rattle.std.specs.Fmt.{decimal};
 ghost use Rattle.hex.specs.Hex.{encode_lower};
 ghost use Rattle.blog_list.specs.Lines.{digits, hyphened, padded, server_text};
 
 use itoa::Buffer;
 use std::alloc::{AllocError, Allocator};
+
+/// How many bytes are put in hexadecimal digits at once: as many as a server's id has.
+const BLOCK_LEN: usize = 16;
 
 /// Appends a text.
 pub(crate) fn put_text<A: Allocator>(out: &mut Vec<u8, A>, text: &[u8]) -> Result<(), AllocError>
@@ -32,15 +35,28 @@ pub(crate) fn put_byte<A: Allocator>(out: &mut Vec<u8, A>, byte: u8) -> Result<(
     put_text(out, &digits)
 }
 
+/// Appends at most 16 bytes in hexadecimal digits.
+fn put_block<A: Allocator>(out: &mut Vec<u8, A>, bytes: &[u8]) -> Result<(), AllocError>
+    requires { length bytes.now ≤ 16 }
+    ensures { OnOk result (out.new.items ≡ out.old.items ++ encode_lower bytes.now) }
+{
+    let mut digits = [0; 2 * BLOCK_LEN];
+    let len = 2 * bytes.len();
+    hex::encode_to_slice(bytes, &mut digits[..len]).unwrap();
+    put_text(out, &digits[..len])
+}
+
 /// Appends bytes in hexadecimal digits.
-#[tactic(auto, unfolding(hex::specs::Hex::encode_with))]
 pub(crate) fn put_hex<A: Allocator>(out: &mut Vec<u8, A>, bytes: &[u8]) -> Result<(), AllocError>
     ensures { OnOk result (out.new.items ≡ out.old.items ++ encode_lower bytes.now) }
 {
-    for byte in bytes {
-        put_byte(out, *byte)?;
+    let mut rest = bytes;
+    'digits: while rest.len() > BLOCK_LEN {
+        let (block, behind) = rest.split_at(BLOCK_LEN);
+        put_block(out, block)?;
+        rest = behind;
     }
-    Ok(())
+    put_block(out, rest)
 }
 
 /// Appends a number in decimal digits, behind blanks up to ten columns.
