@@ -1,3 +1,4 @@
+mod Bare
 mod Blocks
 mod Ending
 mod Growing

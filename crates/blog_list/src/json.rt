@@ -1,72 +1,25 @@
 //! Units as lines of JSON.
 
+ghost use Rattle.std.specs.Prelude.{◌≡◌, ◌++◌, OnOk, option_map};
+ghost use Rattle.blog_units.specs.code.UnitsView.{id_told};
+ghost use Rattle.blog_list.specs.code.Json.{json_damaged, json_gtid, json_id, json_thread, json_totals};
+
 use crate::beginning::Beginning;
 use crate::fault_events::{statement_of, words_of};
+use crate::json_text::put_string;
 use crate::lines::put_id;
+use crate::texts::put_text;
 use crate::times::rfc_3339_text;
-use crate::totals::Totals;
-use blog_event::Log;
+use crate::totals::{Totals, put_numbered};
+use blog_event::{Fault, Log};
 use blog_source::Source;
-use blog_trans::TableCount;
+use blog_trans::{Index, TableCount};
 use blog_units::{GlobalId, Unit};
-use bstr::ByteSlice;
 use jiff::tz::TimeZone;
-use serde::Serialize;
 use std::alloc::{AllocError, Allocator, Global};
 
 /// How many columns of a statement's text are printed.
 const TEXT_COLUMNS: usize = 1000;
-
-/// The numbers of a table's rows. Names that aren't UTF-8 stand in hexadecimal digits as well.
-#[derive(Drop, Serialize)]
-struct TableLine {
-    schema: String,
-    #[serde(skip_serializing_if = "Option::is_none")]
-    schema_hex: Option<String>,
-    table: String,
-    #[serde(skip_serializing_if = "Option::is_none")]
-    table_hex: Option<String>,
-    inserts: u64,
-    updates: u64,
-    deletes: u64,
-}
-
-#[derive(Drop, Serialize)]
-struct UnitLine {
-    #[serde(skip_serializing_if = "Option::is_none")]
-    log: Option<String>,
-    #[serde(skip_serializing_if = "Option::is_none")]
-    log_hex: Option<String>,
-    start: u32,
-    stop: u32,
-    time: String,
-    timestamp: u32,
-    thread: Option<u32>,
-    gtid: Option<String>,
-    #[serde(skip_serializing_if = "Option::is_none")]
-    tables: Option<Vec<TableLine>>,
-    #[serde(skip_serializing_if = "Option::is_none")]
-    fault: Option<&'static str>,
-    #[serde(skip_serializing_if = "Option::is_none")]
-    position: Option<u32>,
-    #[serde(skip_serializing_if = "Option::is_none")]
-    statement: Option<String>,
-    #[serde(skip_serializing_if = "Option::is_none")]
-    event: Option<&'static str>,
-}
-
-#[derive(Drop, Serialize)]
-struct TotalsLine {
-    units: u64,
-    not_undoable: u64,
-    rows: u64,
-    passed_over: u64,
-}
-
-#[derive(Drop, Serialize)]
-struct DamagedLine {
-    damaged_events: u64,
-}
 
 /// Appends the line of a unit, with positions of the server's log, and with the log's name, if there is one.
 pub(crate) fn put_unit<A: Allocator + Copy, B: Allocator>(
@@ -78,123 +31,188 @@ pub(crate) fn put_unit<A: Allocator + Copy, B: Allocator>(
     name: Option<&[u8]>,
     unit: &Unit<'_, B>,
 ) -> Result<(), AllocError> {
-    let gtid = match unit.id {
-        Some(id) => Some(id_text(global, &id)?),
-        None => None,
-    };
-    let (log_text, log_hex) = name_of(global, name)?;
-    let mut line = UnitLine {
-        log: log_text,
-        log_hex,
-        start: source.place(unit.start),
-        stop: source.place(unit.stop),
-        time: String::from_str(global, rfc_3339_text(zone, unit.time).as_str())?,
-        timestamp: unit.time,
-        thread: unit.thread,
-        gtid,
-        tables: None,
-        fault: None,
-        position: None,
-        statement: None,
-        event: None,
-    };
-    match &unit.groups {
-        Ok(groups) => {
-            let mut tables = Vec::new(global);
-            for n in 0..groups.tables() {
-                tables.push(table_line(global, &groups.table(n))?)?;
-            }
-            line.tables = Some(tables);
-        }
-        Err(fault) => {
-            line.fault = Some(fault.name());
-            line.position = source.at_place(fault).at();
-            line.statement = match statement_of(log, fault, unit.stop) {
-                Some(text) => {
-                    let columns = TEXT_COLUMNS;
-                    Some(format!(in global; "{}", Beginning { text, columns })?)
-                }
-                None => None,
-            };
-            line.event = words_of(log, fault, unit.stop);
-        }
+    put_text(out, b"{")?;
+    if let Some(name) = name {
+        put_name(global, out, b"\"log\":", b",\"log_hex\":\"", name)?;
+        put_text(out, b",")?;
     }
-    put_line(global, out, &line)
+    put_numbered(out, b"\"start\":", u64::from(source.place(unit.start)))?;
+    put_numbered(out, b",\"stop\":", u64::from(source.place(unit.stop)))?;
+    put_time(out, zone, unit.time)?;
+    put_thread(out, unit.thread)?;
+    put_gtid(global, out, unit.id)?;
+    match &unit.groups {
+        Ok(groups) => put_tables(global, out, groups)?,
+        Err(fault) => put_refusal(global, out, source, log, fault, unit.stop)?,
+    }
+    put_text(out, b"}\n")
+}
+
+/// Appends when a unit was. No character of a time needs an escape.
+fn put_time<A: Allocator>(
+    out: &mut Vec<u8, A>,
+    zone: TimeZone<'_>,
+    seconds: u32,
+) -> Result<(), AllocError> {
+    put_text(out, b",\"time\":\"")?;
+    put_text(out, rfc_3339_text(zone, seconds).as_str().as_bytes())?;
+    put_numbered(out, b"\",\"timestamp\":", u64::from(seconds))
+}
+
+/// Appends the thread of a unit, or that none is known.
+fn put_thread<A: Allocator>(out: &mut Vec<u8, A>, thread: Option<u32>) -> Result<(), AllocError>
+    ensures { OnOk result (out.new.items ≡ out.old.items ++ json_thread thread) }
+{
+    match thread {
+        Some(thread) => put_numbered(out, b",\"thread\":", u64::from(thread)),
+        None => put_text(out, b",\"thread\":null"),
+    }
+}
+
+/// Appends the global transaction id of a unit, or that it has none.
+fn put_gtid<A: Allocator>(
+    global: Global,
+    out: &mut Vec<u8, A>,
+    id: Option<GlobalId<'_>>,
+) -> Result<(), AllocError>
+    ensures { OnOk result (out.new.items ≡ out.old.items ++ json_gtid (option_map id_told id.entry)) }
+{
+    match id {
+        Some(id) => {
+            put_text(out, b",\"gtid\":")?;
+            put_id_string(global, out, &id)
+        }
+        None => put_text(out, b",\"gtid\":null"),
+    }
+}
+
+/// Appends a global transaction id as a string. Only a tag can have characters that need an escape.
+fn put_id_string<A: Allocator>(
+    global: Global,
+    out: &mut Vec<u8, A>,
+    id: &GlobalId<'_>,
+) -> Result<(), AllocError>
+    ensures { OnOk result (out.new.items ≡ out.old.items ++ json_id (id_told id.now)) }
+{
+    if id.tag.is_empty() {
+        put_text(out, b"\"")?;
+        put_id(out, id)?;
+        return put_text(out, b"\"");
+    }
+    let mut text = Vec::new(global);
+    put_id(&mut text, id)?;
+    put_string(out, &text)
+}
+
+/// Appends the numbers of rows by table.
+fn put_tables<A: Allocator, B: Allocator>(
+    global: Global,
+    out: &mut Vec<u8, A>,
+    index: &Index<'_, '_, B>,
+) -> Result<(), AllocError> {
+    put_text(out, b",\"tables\":[")?;
+    for n in 0..index.tables() {
+        if n > 0 {
+            put_text(out, b",")?;
+        }
+        put_count(global, out, &index.table(n))?;
+    }
+    put_text(out, b"]")
+}
+
+/// Appends the numbers of a table's rows. Names that aren't UTF-8 stand in hexadecimal digits as well.
+fn put_count<A: Allocator>(
+    global: Global,
+    out: &mut Vec<u8, A>,
+    count: &TableCount<'_>,
+) -> Result<(), AllocError> {
+    put_name(
+        global,
+        out,
+        b"{\"schema\":",
+        b",\"schema_hex\":\"",
+        count.schema,
+    )?;
+    put_name(
+        global,
+        out,
+        b",\"table\":",
+        b",\"table_hex\":\"",
+        count.table,
+    )?;
+    put_numbered(out, b",\"inserts\":", count.inserts)?;
+    put_numbered(out, b",\"updates\":", count.updates)?;
+    put_numbered(out, b",\"deletes\":", count.deletes)?;
+    put_text(out, b"}")
+}
+
+/// Appends a name as text, and in hexadecimal digits if it isn't UTF-8, each behind the name of its field.
+fn put_name<A: Allocator>(
+    global: Global,
+    out: &mut Vec<u8, A>,
+    field: &[u8],
+    hex_field: &[u8],
+    name: &[u8],
+) -> Result<(), AllocError> {
+    put_text(out, field)?;
+    put_string(out, name)?;
+    if str::from_utf8(name).is_ok() {
+        return Ok(());
+    }
+    put_text(out, hex_field)?;
+    put_text(out, hex::encode_upper(global, name)?.as_bytes())?;
+    put_text(out, b"\"")
+}
+
+/// Appends why a unit can't be undone that stops at a position.
+fn put_refusal<A: Allocator, B: Allocator>(
+    global: Global,
+    out: &mut Vec<u8, A>,
+    source: &Source<B>,
+    log: &Log<'_>,
+    fault: &Fault,
+    stop: u32,
+) -> Result<(), AllocError> {
+    put_text(out, b",\"fault\":")?;
+    put_string(out, fault.name().as_bytes())?;
+    if let Some(position) = source.at_place(fault).at() {
+        put_numbered(out, b",\"position\":", u64::from(position))?;
+    }
+    if let Some(text) = statement_of(log, fault, stop) {
+        let columns = TEXT_COLUMNS;
+        let shown = format!(in global; "{}", Beginning { text, columns })?;
+        put_text(out, b",\"statement\":")?;
+        put_string(out, shown.as_bytes())?;
+    }
+    if let Some(words) = words_of(log, fault, stop) {
+        put_text(out, b",\"event\":")?;
+        put_string(out, words.as_bytes())?;
+    }
+    Ok(())
 }
 
 /// Appends the last lines.
 pub(crate) fn put_totals<A: Allocator>(
-    global: Global,
     out: &mut Vec<u8, A>,
     totals: &Totals,
-) -> Result<(), AllocError> {
-    let line = TotalsLine {
-        units: totals.units,
-        not_undoable: totals.refused,
-        rows: totals.rows,
-        passed_over: totals.passed_over,
-    };
-    put_line(global, out, &line)?;
-    if totals.damaged == 0 {
+) -> Result<(), AllocError>
+    ensures { OnOk result (out.new.items ≡ out.old.items ++ json_totals totals.now) }
+{
+    put_numbered(out, b"{\"units\":", totals.units)?;
+    put_numbered(out, b",\"not_undoable\":", totals.refused)?;
+    put_numbered(out, b",\"rows\":", totals.rows)?;
+    put_numbered(out, b",\"passed_over\":", totals.passed_over)?;
+    put_text(out, b"}\n")?;
+    put_damaged(out, totals.damaged)
+}
+
+/// Appends the line of the damaged events, where there are any.
+fn put_damaged<A: Allocator>(out: &mut Vec<u8, A>, count: u64) -> Result<(), AllocError>
+    ensures { OnOk result (out.new.items ≡ out.old.items ++ json_damaged count) }
+{
+    if count == 0 {
         return Ok(());
     }
-    let damaged_events = totals.damaged;
-    put_line(global, out, &DamagedLine { damaged_events })
-}
-
-fn put_line<A: Allocator, T: Serialize>(
-    global: Global,
-    out: &mut Vec<u8, A>,
-    line: &T,
-) -> Result<(), AllocError> {
-    let Ok(text) = serde_json::to_string(global, line) else {
-        return Err(AllocError);
-    };
-    out.extend_from_slice(text.as_bytes())?;
-    out.extend_from_slice(b"\n")
-}
-
-fn table_line(global: Global, count: &TableCount<'_>) -> Result<TableLine, AllocError> {
-    Ok(TableLine {
-        schema: lossy(global, count.schema)?,
-        schema_hex: digits(global, count.schema)?,
-        table: lossy(global, count.table)?,
-        table_hex: digits(global, count.table)?,
-        inserts: count.inserts,
-        updates: count.updates,
-        deletes: count.deletes,
-    })
-}
-
-/// The name of a log as text, and in hexadecimal digits if it isn't UTF-8.
-fn name_of(
-    global: Global,
-    name: Option<&[u8]>,
-) -> Result<(Option<String>, Option<String>), AllocError> {
-    match name {
-        Some(name) => Ok((Some(lossy(global, name)?), digits(global, name)?)),
-        None => Ok((None, None)),
-    }
-}
-
-/// A global transaction id as text.
-fn id_text(global: Global, id: &GlobalId<'_>) -> Result<String, AllocError> {
-    let mut text = Vec::new(global);
-    put_id(&mut text, id)?;
-    lossy(global, text.as_slice())
-}
-
-/// The text of bytes, with U+FFFD for what is no character.
-fn lossy(global: Global, bytes: &[u8]) -> Result<String, AllocError> {
-    let mut text = String::new(global);
-    bytes.to_str_lossy_into(&mut text)?;
-    Ok(text)
-}
-
-/// The hexadecimal digits of bytes that aren't UTF-8.
-fn digits(global: Global, bytes: &[u8]) -> Result<Option<String>, AllocError> {
-    if str::from_utf8(bytes).is_ok() {
-        return Ok(None);
-    }
-    Ok(Some(hex::encode_upper(global, bytes)?))
+    put_numbered(out, b"{\"damaged_events\":", count)?;
+    put_text(out, b"}\n")
 }

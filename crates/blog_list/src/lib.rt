@@ -7,6 +7,7 @@ mod column;
 mod escapes;
 mod fault_events;
 mod json;
+mod json_text;
 mod laws;
 mod lines;
 mod list_end;

@@ -245,7 +245,7 @@ impl<'z, A: Allocator + Copy> ListWriter<'z, A> {
     {
         match self.style.form {
             Form::Text => totals::put_totals(out, totals),
-            Form::Json => json::put_totals(self.global, out, totals),
+            Form::Json => json::put_totals(out, totals),
         }
     }
 }

@@ -101,7 +101,11 @@ pub(crate) fn put_totals<A: Allocator>(
 
 /// Appends words and a number.
 #[tactic(auto, unfolding(crate::specs::Lines::numbered))]
-fn put_numbered<A: Allocator>(out: &mut Vec<u8, A>, words: &[u8], n: u64) -> Result<(), AllocError>
+pub(crate) fn put_numbered<A: Allocator>(
+    out: &mut Vec<u8, A>,
+    words: &[u8],
+    n: u64,
+) -> Result<(), AllocError>
     ensures { OnOk result (out.new.items ≡ out.old.items ++ numbered words.now n) }
 {
     put_text(out, words)?;

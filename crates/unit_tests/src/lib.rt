@@ -2,6 +2,10 @@
 #![tactic(auto)]
 
 #[cfg(test)]
+mod json_form_tests;
+#[cfg(test)]
+mod json_lines;
+#[cfg(test)]
 mod json_tests;
 #[cfg(test)]
 mod list_tests;

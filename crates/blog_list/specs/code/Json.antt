@@ -1,0 +1,69 @@
+-- Texts as strings of JSON, and parts of its lines.
+use Rattle.std.specs.Prelude.{ℕ, suc, ◌==◌, ◌&&◌, Bool, not, nat_le, nat_lt, if◌then◌else◌, List, [], ◌∷◌, ◌++◌, Option, Some, None, codes, encode_utf8}
+use Rattle.std.specs.List.{flat_map}
+use Rattle.bstr.specs.Utf8.{lossy_chars}
+use Rattle.hex.specs.Hex.{encode_lower}
+use Rattle.blog_units.specs.Units.{Id}
+use Rattle.blog_list.specs.declared.totals.Totals.{Totals}
+use Rattle.blog_list.specs.Lines.{id_text, numbered}
+
+-- a control character by its number
+abbrev pub json_control : ℕ → List ℕ
+json_control byte = codes "\\u00" ++ encode_lower (byte ∷ [])
+
+-- a character of a string
+abbrev pub json_char : ℕ → List ℕ
+json_char c =
+    if c == 0x22 then codes "\\\""
+    else if c == 0x5C then codes "\\\\"
+    else if c == 0x0A then codes "\\n"
+    else if c == 0x09 then codes "\\t"
+    else if c == 0x0D then codes "\\r"
+    else if c == 0x08 then codes "\\b"
+    else if c == 0x0C then codes "\\f"
+    else if nat_lt c 0x20 then json_control c
+    else encode_utf8 c
+
+-- bytes as a string, with U+FFFD for what is no character
+abbrev pub json_string : List ℕ → List ℕ
+json_string text = 34 ∷ (flat_map json_char (lossy_chars text) ++ 34 ∷ [])
+
+-- a byte that is a character by itself, and needs no escape
+abbrev pub is_bare : ℕ → Bool
+is_bare byte = nat_le 0x20 byte && nat_lt byte 0x80 && not (byte == 0x22) && not (byte == 0x5C)
+
+-- how many of them are at the beginning of bytes
+abbrev pub bare_len : List ℕ → ℕ
+bare_len [] = 0
+bare_len (byte ∷ rest) = if is_bare byte then suc (bare_len rest) else 0
+
+-- ---- the parts of a line
+
+-- the thread of a unit
+abbrev pub json_thread : Option ℕ → List ℕ
+json_thread (Some thread) = numbered (codes ",\"thread\":") thread
+json_thread None = codes ",\"thread\":null"
+
+-- a text as a string, which needs no escape where there is no tag
+abbrev pub json_tagged : List ℕ → List ℕ → List ℕ
+json_tagged [] text = codes "\"" ++ (text ++ codes "\"")
+json_tagged (byte ∷ tag) text = json_string text
+
+-- a global transaction id
+abbrev pub json_id : Id → List ℕ
+json_id id = json_tagged id.tag (id_text id)
+
+-- that of a unit
+abbrev pub json_gtid : Option Id → List ℕ
+json_gtid (Some id) = codes ",\"gtid\":" ++ json_id id
+json_gtid None = codes ",\"gtid\":null"
+
+-- the line of the damaged events, where there are any
+abbrev pub json_damaged : ℕ → List ℕ
+json_damaged n = if n == 0 then [] else numbered (codes "{\"damaged_events\":") n ++ codes "}\n"
+
+-- the last lines
+abbrev pub json_totals : Totals → List ℕ
+json_totals t =
+    numbered (codes "{\"units\":") t.units ++ (numbered (codes ",\"not_undoable\":") t.refused ++ (numbered (codes ",\"rows\":") t.rows
+    ++ (numbered (codes ",\"passed_over\":") t.passed_over ++ (codes "}\n" ++ json_damaged t.damaged))))

@@ -1,0 +1,187 @@
+//! Lists of units as JSON, compared with what serde writes, for names, statements, ids, times and faults of many kinds.
+
+use crate::json_lines::{lines_of, put_totals};
+use crate::lists::ALL;
+use crate::parts::{ONE, event_of};
+use crate::sources::{source_of, source_with};
+use crate::zones::{BERLIN, KOLKATA, LORD_HOWE};
+use blog_device::Watched;
+use blog_event::Log;
+use blog_list::{Form, ListWriter, Style, Totals};
+use blog_source::{Reading, Source};
+use jiff::tz::{TimeZone, Tzif};
+use sample_logs::builder::{BEGIN, Part, XID, build, with_bytes};
+use sample_logs::samples::MULTI_TABLE;
+use sample_logs::summed::{CLOSED, IN_USE, IN_USE_PLAIN};
+use server_logs::tagged;
+use std::process::Abort;
+use std::test::Fail;
+
+/// Texts with characters of each length, with bytes that are none, and with what stands between two kinds.
+#[rattlefmt::skip]
+static TEXTS: [&'static [u8]; 36] = [
+    b"", b"orders", b"a b.c-d_e$1", b"`", b"``", b"\"", b"\\", b"\\\"", b"a\"b\\c", b"/", b"\x08\x0c\n\r\t", b"\0", b"\x1f \x7f",
+    b"tab\tin it", b"\xc2\x80", b"\xc2\x9f\xc2\xa0", b"\xc3\xa9t\xc3\xa9", b"\xe2\x80\xa8\xe2\x80\xa9", b"\xef\xbb\xbfx", b"\xef\xbf\xbd",
+    b"\xe6\x97\xa5\xe6\x9c\xac", b"\xf0\x9f\x98\x80 \"", b"\xf4\x8f\xbf\xbf", b"\x80", b"\xbf\xbf", b"\xc0\xaf", b"\xc3", b"\xc3(",
+    b"\xe2\x82", b"\xe2\x82\"", b"\xed\xa0\x80", b"\xf0\x9f\x98", b"\xf0\x9f\x98\\", b"\xf4\x90\x80\x80", b"\xf8\x88\x80\x80\x80", b"\xff\xfe",
+];
+
+/// Checks the lines of a source, under a name or without, and its totals.
+fn check_source(
+    rt: &(impl AllocGlobal + Abort),
+    source: &Source,
+    name: Option<&[u8]>,
+    zone: TimeZone<'_>,
+) -> Result<(), Fail> {
+    let mut wanted = lines_of(rt.alloc(), zone, source, name)?;
+    let style = Style {
+        form: Form::Json,
+        zone,
+        gtids: false,
+    };
+    let mut output = Watched::new(Vec::new(rt.alloc()));
+    let list = ListWriter::new(rt.alloc(), rt.alloc(), &style)?;
+    let mut totals = Totals::NONE;
+    assert_eq!(rt; list.write_header(&mut output), Ok(()));
+    let answer = list.write_log(source, name, &ALL, &mut totals, &mut output);
+    assert!(rt; answer.is_ok());
+    assert_eq!(rt; list.write_totals(&totals, &mut output), Ok(()));
+    put_totals(rt.alloc(), &mut wanted, &totals)?;
+    let text = str::from_utf8(output.device().as_slice())?;
+    assert_eq!(rt; text, str::from_utf8(&wanted)?);
+    Ok(())
+}
+
+/// Checks the lines of a log, if it can be opened, without a name and in UTC.
+fn check_bytes(rt: &(impl AllocGlobal + Abort), bytes: &[u8]) -> Result<(), Fail> {
+    let Ok(source) = Source::open(bytes.to_vec(rt.alloc())?, Reading::ALL) else {
+        return Ok(());
+    };
+    if Log::open(source.bytes()).is_err() {
+        return Ok(());
+    }
+    check_source(rt, &source, None, TimeZone::UTC)
+}
+
+/// Checks the lines of a log that changes a table of this name in a schema of this name, and that is named so itself.
+fn check_name(rt: &(impl AllocGlobal + Abort), name: &[u8]) -> Result<(), Fail> {
+    let [low, ..] = name.len().to_le_bytes();
+    let mut body = Vec::new(rt.alloc());
+    body.extend_from_slice(&[1, 0, 0, 0, 0, 0, 1, 0, low])?;
+    body.extend_from_slice(name)?;
+    body.extend_from_slice(&[0, low])?;
+    body.extend_from_slice(name)?;
+    body.extend_from_slice(&[0, 1, 3, 0, 1])?;
+    let map = Part::Other {
+        kind: 19,
+        flags: 0,
+        body: &body,
+    };
+    let source = source_of(rt, &build(rt, &[BEGIN, map, ONE, XID])?)?;
+    check_source(rt, &source, Some(name), TimeZone::UTC)
+}
+
+/// Checks the lines of a log of a statement of this text.
+fn check_statement(rt: &(impl AllocGlobal + Abort), text: &[u8]) -> Result<(), Fail> {
+    let status = &[];
+    check_bytes(rt, &build(rt, &[Part::Query { status, text }])?)
+}
+
+/// Checks the lines of a log of a transaction whose id has this tag.
+fn check_tag(rt: &(impl AllocGlobal + Abort), tag: &[u8]) -> Result<(), Fail> {
+    let mut body = Vec::new(rt.alloc());
+    body.extend_from_slice(b"\0\x28\x3c\x10\x5d\xe7\x30\x11\xf1\x97\xff\x02\xfc\0\0\0\x01")?;
+    body.extend_from_slice(&[9, 1, 0, 0, 0, 0, 0, 0, 42])?;
+    body.extend_from_slice(tag)?;
+    let id = Part::Other {
+        kind: 33,
+        flags: 0,
+        body: &body,
+    };
+    check_bytes(rt, &build(rt, &[id, BEGIN, XID])?)
+}
+
+/// Checks a text as each of what a log has texts for.
+fn check_text(rt: &(impl AllocGlobal + Abort), text: &[u8]) -> Result<(), Fail> {
+    check_name(rt, text)?;
+    check_statement(rt, text)?;
+    check_tag(rt, text)
+}
+
+#[test]
+fn each_byte_is_written_as_serde_does(rt: HostRuntime) -> Result<(), Fail> {
+    for n in 0..256_usize {
+        let [byte, ..] = n.to_le_bytes();
+        check_text(&rt, &[byte])?;
+        check_text(&rt, &[b'a', byte, b'b'])?;
+        check_text(&rt, &[0xE2, 0x82, byte, b'"'])?;
+    }
+    Ok(())
+}
+
+#[test]
+fn texts_are_written_as_serde_does(rt: HostRuntime) -> Result<(), Fail> {
+    for text in TEXTS {
+        check_text(&rt, text)?;
+        let mut more = Vec::new(rt.alloc());
+        for other in TEXTS {
+            more.clear();
+            more.extend_from_slice(text)?;
+            more.extend_from_slice(other)?;
+            check_text(&rt, &more)?;
+        }
+    }
+    Ok(())
+}
+
+#[test]
+fn long_texts_are_written_as_serde_does(rt: HostRuntime) -> Result<(), Fail> {
+    let mut text = Vec::new(rt.alloc());
+    for n in 0..260_usize {
+        let part = TEXTS.get(n % TEXTS.len()).copied().unwrap_or(b"");
+        text.extend_from_slice(part)?;
+        text.extend_from_slice(b"create table ")?;
+        check_statement(&rt, &text)?;
+        check_name(&rt, text.get(..n.min(255)).unwrap_or(b""))?;
+    }
+    Ok(())
+}
+
+#[test]
+fn times_are_written_as_before(rt: HostRuntime) -> Result<(), Fail> {
+    for file in [BERLIN, KOLKATA, LORD_HOWE] {
+        let table = Tzif::parse(rt.alloc(), None, file)?;
+        let zone = TimeZone::tzif(&table);
+        for byte in [0x00, 0x0f, 0x6a, 0x6b, 0x80, 0xff] {
+            let edits = [(194 + 2, byte), (194 + 3, byte)];
+            let bytes = with_bytes(&rt, &CLOSED, &edits)?;
+            let how = Reading {
+                stop: None,
+                skip_damaged: true,
+            };
+            check_source(&rt, &source_with(&rt, &bytes, how)?, Some(b"a.1"), zone)?;
+        }
+        check_source(&rt, &source_of(&rt, &IN_USE)?, None, zone)?;
+    }
+    Ok(())
+}
+
+#[test]
+fn each_fault_is_written_as_serde_does(rt: HostRuntime) -> Result<(), Fail> {
+    for bytes in [IN_USE_PLAIN.as_slice(), &MULTI_TABLE, &tagged::TAGGED_PLAIN] {
+        for at in (0..bytes.len()).step_by(7) {
+            check_bytes(&rt, bytes.get(..at).unwrap_or(b""))?;
+            let mut changed = bytes.to_vec(rt.alloc())?;
+            if let Some(byte) = changed.get_mut(at) {
+                *byte ^= 0x15;
+            }
+            check_bytes(&rt, &changed)?;
+        }
+    }
+    for kind in 0..256_usize {
+        let [kind, ..] = kind.to_le_bytes();
+        check_bytes(&rt, &build(&rt, &[event_of(kind)])?)?;
+        check_bytes(&rt, &build(&rt, &[BEGIN, event_of(kind), XID])?)?;
+    }
+    Ok(())
+}
