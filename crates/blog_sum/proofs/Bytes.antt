@@ -54,7 +54,7 @@ four-bytes c a b d e fa fb fd =
     ∙ above-byte 24 c a (b + 256 * (d + 256 * e)) fa
 
 -- the bytes of a list begin with a word
-first-word : (c : ℕ) (xs : List ℕ) → ((i : ℕ) → get_or xs i 0 < 256) → 4 ≤ length xs
+pub first-word : (c : ℕ) (xs : List ℕ) → ((i : ℕ) → get_or xs i 0 < 256) → 4 ≤ length xs
     → register_after c xs ≡ register_after (step_bits 32 (bit_xor c (little_number 4 xs))) (drop 4 xs)
 unfolding register_after
 first-word c [] are h = absurd (omega arith)

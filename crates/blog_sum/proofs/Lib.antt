@@ -1,5 +1,11 @@
 pub mod Steps
 pub mod Entries
+pub mod Reach
+pub mod Chunks
+pub mod Registers
+pub mod Folded
+pub mod Rest
+pub mod Begin
 pub mod Bytes
 pub mod Texts
 pub mod Walk

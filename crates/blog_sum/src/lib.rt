@@ -3,6 +3,7 @@
 
 mod crc;
 mod fault;
+mod folding;
 mod laws;
 mod register;
 mod sums;

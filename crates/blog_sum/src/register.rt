@@ -3,11 +3,26 @@
 ghost use Rattle.std.specs.Prelude.{◌≡◌, ◌+◌, ◌*◌, ◌<◌, bit_xor, length};
 ghost use Rattle.blog_sum.specs.Crc.{register_after, step_bits};
 
+use crate::folding::after_long;
 use crate::tables::TABLES;
 use byteorder::{ByteOrder, LittleEndian};
 
+/// From so many bytes on it is faster to fold them.
+const LONG: usize = 800;
+
 /// The register after the bytes.
-pub fn after_bytes(mut register: u32, mut bytes: &[u8]) -> u32
+pub fn after_bytes(register: u32, bytes: &[u8]) -> u32
+    ensures { result ≡ register_after register bytes.entry.now }
+{
+    if bytes.len() < LONG {
+        after_blocks(register, bytes)
+    } else {
+        after_long(register, bytes)
+    }
+}
+
+/// The register after the bytes, block by block.
+pub fn after_blocks(mut register: u32, mut bytes: &[u8]) -> u32
     ensures { result ≡ register_after register bytes.entry.now }
 {
     'blocks: while let Some((block, rest)) = bytes.split_first_chunk::<16>() {
@@ -38,7 +53,7 @@ fn after_byte(register: u32, byte: u8) -> u32
 
 /// The register after sixteen bytes.
 #[inline]
-fn after_block(register: u32, block: &[u8]) -> u32
+pub fn after_block(register: u32, block: &[u8]) -> u32
     requires { length block.now ≡ 16 }
     ensures { result ≡ register_after register block.now }
 {
