@@ -1,9 +1,12 @@
 -- How the code walks over an image by positions, which may lie past the bytes.
 use Rattle.std.proofs.Common.{◌≡◌, ◌≢◌, ◌<◌, ◌≤◌, ℕ, ◌+◌, ◌-◌, ◌/◌, ◌%◌, ◌^◌, Bool, true, false, leb, eqb, List, [], ◌∷◌, length, take, drop, get_or, Option, Some, None, option_and_then, option_map, refl, sym, ap, ◌∙◌, subst, arith, le-leb, length-append, length-drop, take_at}
 use Rattle.std.specs.Prelude.{IfSome}
-use Rattle.std.proofs.lemmas.Bool.{cond-true, cond-false, lt-leb, eq-eqb}
+use Rattle.std.proofs.lemmas.Bool.{cond-true, cond-false, lt-leb, eq-eqb, leb-true, leb-false}
+use Rattle.std.proofs.lemmas.List.{drop-drop}
+use Rattle.byteorder.specs.Endian.{little_number}
+use Rattle.byteorder.specs.Numbers.{little_from-take}
 use Rattle.blog_row.specs.Checks.{cut}
-use Rattle.blog_row.specs.Column.{Column, Layout, Storage, storage_of, value_stored, value_front}
+use Rattle.blog_row.specs.Column.{Column, Layout, Storage, Counted, storage_of, value_stored, value_front}
 use Rattle.blog_row.specs.Image.{Row, bitmap_len, is_marked, IsImage, IsSomeImage, values_front, image_front, image_len_of}
 use Rattle.blog_row.specs.code.ImageView.{AreNull}
 use Rattle.blog_row.specs.code.PositionView.{from_position, EndsAt, behind_from}
@@ -59,6 +62,30 @@ behind_value_of o = option_map (λ v. v.1) o
 pub column_ends : (column : Column) (storage : Storage) (at : ℕ) (bytes : List ℕ) (end : Option ℕ) → storage_of column ≡ Some storage → EndsAt (value_stored storage) at bytes end → EndsAt (value_front column) at bytes end
 column_ends column storage at bytes end here ends =
     (λ k. option_and_then (λ rest. behind_value_of (front_is column storage rest here k)) (from_position at bytes)) ∙ ends
+
+-- so many bytes from a position on end behind them
+bytes_end : (len at : ℕ) (bytes : List ℕ) → at ≤ length bytes → option_map (λ p. p.1) (cut len (drop at bytes)) ≡ from_position (at + len) bytes
+bytes_end len at bytes h = by_case (leb len (length (drop at bytes))) refl
+  where
+    by_case : (t : Bool) → leb len (length (drop at bytes)) ≡ t → option_map (λ p. p.1) (cut len (drop at bytes)) ≡ from_position (at + len) bytes
+    by_case true e =
+        let long : at + len ≤ length bytes = omega (arith, leb-true len (length (drop at bytes)) e, length-drop at bytes, h) in
+        sym (position_cut len (drop at bytes)) ∙ cond-true (leb len (length (drop at bytes))) _ _ e ∙ ap Some (drop-drop len at bytes) ∙ sym (position_within (at + len) bytes long)
+    by_case false e =
+        let short : length bytes < at + len = omega (arith, leb-false len (length (drop at bytes)) e, length-drop at bytes, h) in
+        sym (position_cut len (drop at bytes)) ∙ cond-false (leb len (length (drop at bytes))) _ _ e ∙ sym (position_past (at + len) bytes short)
+
+-- a value behind its length
+pub counted_ends : (p at : ℕ) (bytes : List ℕ) → at + p ≤ length bytes → EndsAt (value_stored (Counted p)) at bytes (Some (at + p + little_number p (drop at bytes)))
+counted_ends p at bytes h =
+    let rest = drop at bytes in
+    let within : from_position at bytes ≡ Some rest = position_within at bytes (omega (arith, h)) in
+    let front : cut p rest ≡ Some (take p rest, drop p rest) = cond-true (leb p (length rest)) _ _ (le-leb p (length rest) (omega (arith, h, length-drop at bytes))) in
+    ap (option_and_then (λ r. behind_value_of (value_stored (Counted p) r))) within
+    ∙ ap (λ o. behind_value_of (option_and_then (λ q. cut (little_number p q.0) q.1) o)) front
+    ∙ ap (λ n. behind_value_of (cut n (drop p rest))) (little_from-take 0 p p rest (omega arith))
+    ∙ ap (λ (r : List ℕ). behind_value_of (cut (little_number p rest) r)) (drop-drop p at bytes)
+    ∙ bytes_end (little_number p rest) (at + p) bytes h
 
 -- ---- one column further
 

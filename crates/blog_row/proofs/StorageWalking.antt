@@ -75,14 +75,6 @@ next_value columns storages nulls bytes from k at d end h stored marked ends =
     behind None = refl
     behind (Some e) = onward columns nulls bytes from k e
 
--- the same of the k-th of all columns
-pub next_there : (columns : Layout) (storages : List told.Storage) (nulls bytes : List ℕ) (k at : ℕ) (d : told.Storage) (end : Option ℕ)
-    → k < length storages → AreStored columns storages → is_marked nulls k ≡ false → EndsAt (value_stored (storage_seen (get_or storages k d))) at bytes end
-    → behind_from (drop k columns) nulls k at bytes ≡ option_and_then (λ e. behind_from (drop (k + 1) columns) nulls (k + 1) e bytes) end
-next_there columns storages nulls bytes k at d end h stored marked ends =
-    let all : (n : ℕ) → 0 + n ≡ n = λ n. omega arith in
-    simp all at (next_value columns storages nulls bytes 0 k at d end (simp all h) stored (simp all marked) (simp all ends))
-
 -- one column further, the k-th from column `from` on, by its null bit
 pub next_column : (columns : Layout) (storages : List told.Storage) (nulls bytes : List ℕ) (from k at : ℕ) (d : told.Storage) (end : Option ℕ)
     → from % 8 ≡ 0 → k < 8 → from + k < length storages → AreStored columns (drop from storages)

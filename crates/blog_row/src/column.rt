@@ -1,6 +1,6 @@
 //! How the value of a column is stored.
 
-ghost use Rattle.std.specs.Prelude.{◌≡◌, ◌≤◌, ◌==◌, [], ◌∷◌, option_map, IfSome};
+ghost use Rattle.std.specs.Prelude.{◌≡◌, ◌≤◌, ◌==◌, ◌^◌, ◌-◌, [], ◌∷◌, option_map, IfSome};
 ghost use Rattle.blog_row.specs.Column.{Fixed, when, with_fraction, counted_in, counted_up_to, decimal_storage, string_storage, metadata_len_of, storage_by};
 ghost use Rattle.blog_row.specs.code.StorageView.{prefix_seen, storage_seen};
 
@@ -17,14 +17,17 @@ use crate::type_tables::digits_bytes;
 #[derive(Clone, Copy, Debug)]
 pub(crate) enum Prefix {
     /// One byte.
-    One,
+    One = 1,
     /// Two bytes, the lower first.
-    Two,
+    Two = 2,
     /// Three bytes, the lowest first.
-    Three,
+    Three = 3,
     /// Four bytes, the lowest first.
-    Four,
+    Four = 4,
 }
+
+/// The bits of a length of so many bytes, from 0 to 4, in a number of four bytes that begins with it.
+static LENGTH_BITS: [u32; 5] = [0, 0xFF, 0xFFFF, 0xFF_FFFF, 0xFFFF_FFFF];
 
 impl Prefix {
     /// The bytes of the length.
@@ -32,12 +35,15 @@ impl Prefix {
     pub(crate) fn bytes(self) -> usize
         ensures { result ≡ prefix_seen self }
     {
-        match self {
-            Prefix::One => 1,
-            Prefix::Two => 2,
-            Prefix::Three => 3,
-            Prefix::Four => 4,
-        }
+        self as usize
+    }
+
+    /// The bits of the length in a number of four bytes that begins with it.
+    #[inline(always)]
+    pub(crate) fn mask(self) -> u32
+        ensures { result ≡ 256 ^ prefix_seen self - 1 }
+    {
+        LENGTH_BITS[self as usize]
     }
 }
 

@@ -43,14 +43,14 @@ fn many_images_in(layout: &Layout<'_>, bytes: &[u8]) -> Option<usize>
 /// Counts the images, by the storages of the columns where they were looked up.
 #[inline(always)]
 fn count(layout: &Layout<'_>, storages: Option<&[Storage]>, bytes: &[u8]) -> Option<usize>
-    requires { IfSome storages (λ each. AreStored (layout_columns layout.now) each.now) }
+    requires stored { IfSome storages (λ each. AreStored (layout_columns layout.now) each.now) }
+    requires few { IfSome storages (λ each. length each.now ≤ 64) }
     ensures { result ≡ option_map length (images_of (layout_columns layout.now) bytes.now) }
 {
     let mut rest = bytes;
-    let mut look = true;
     let mut images = 0;
     while !rest.is_empty() {
-        let len = layout.image_len_by(storages, &mut look, rest)?;
+        let len = layout.image_len_by(storages, rest)?;
         let (_, behind) = rest.split_at(len);
         rest = behind;
         images += 1;
@@ -87,14 +87,14 @@ fn put_many_from_last(layout: &Layout<'_>, bytes: &[u8], to: &mut [u8])
 #[inline(always)]
 fn put(layout: &Layout<'_>, storages: Option<&[Storage]>, bytes: &[u8], to: &mut [u8])
     requires stored { IfSome storages (λ each. AreStored (layout_columns layout.now) each.now) }
+    requires few { IfSome storages (λ each. length each.now ≤ 64) }
     requires imaged { is_some (images_of (layout_columns layout.now) bytes.now) ≡ true }
     requires room { length to.old ≡ length bytes.now }
     ensures { to.new ≡ concat (reverse (unwrap_or (images_of (layout_columns layout.now) bytes.now) [])) }
 {
     let mut rest = bytes;
-    let mut look = true;
     while !rest.is_empty() {
-        let Some(len) = layout.image_len_by(storages, &mut look, rest) else {
+        let Some(len) = layout.image_len_by(storages, rest) else {
             unreachable!();
         };
         let (image, behind) = rest.split_at(len);

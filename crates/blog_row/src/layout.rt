@@ -165,21 +165,16 @@ impl Layout<'_> {
         storages_of(self.kinds, self.metadata)
     }
 
-    /// Answers as `image_len` does, by the storages of the columns where they were looked up. While `look` holds, all null
-    /// bits are first looked at together; a NULL ends that.
+    /// Answers as `image_len` does, by the storages of the columns where they were looked up.
     #[inline(always)]
-    pub(crate) fn image_len_by(
-        &self,
-        storages: Option<&[Storage]>,
-        look: &mut bool,
-        bytes: &[u8],
-    ) -> Option<usize>
-        requires { IfSome storages (λ each. AreStored (layout_columns self.now) each.now) }
+    pub(crate) fn image_len_by(&self, storages: Option<&[Storage]>, bytes: &[u8]) -> Option<usize>
+        requires stored { IfSome storages (λ each. AreStored (layout_columns self.now) each.now) }
+        requires few { IfSome storages (λ each. length each.now ≤ 64) }
         ensures exact { result ≡ image_len_of (layout_columns self.now) bytes.now }
         ensures within { IfSome result (λ m. m ≤ length bytes.now) }
     {
         match storages {
-            Some(storages) => len_by(storages, look, bytes),
+            Some(storages) => len_by(storages, bytes),
             None => self.image_len(bytes),
         }
     }

@@ -1,15 +1,17 @@
 //! How the columns of a table are stored, looked up once for many images.
 
-ghost use Rattle.std.specs.Prelude.{◌≡◌, ◌<◌, ◌≤◌, ◌+◌, ◌*◌, ◌/◌, ◌%◌, ℕ, true, false, List, Some, length, take, drop, option_and_then, IfSome};
+ghost use Rattle.std.specs.Prelude.{◌≡◌, ◌<◌, ◌≤◌, ◌+◌, ◌*◌, ◌/◌, ◌%◌, ◌^◌, true, Some, length, take, drop, IfSome};
 ghost use Rattle.std.specs.List.{list_all};
-ghost use Rattle.blog_row.specs.Column.{Layout, columns_of, is_column, value_stored};
-ghost use Rattle.blog_row.specs.Image.{image_len_of, is_marked};
+ghost use Rattle.byteorder.specs.Endian.{little_number};
+ghost use Rattle.blog_row.specs.Column.{Layout, Counted, columns_of, is_column, value_stored};
+ghost use Rattle.blog_row.specs.Image.{image_len_of};
 ghost use Rattle.blog_row.specs.code.PositionView.{EndsAt, behind_from, from_position};
-ghost use Rattle.blog_row.specs.code.StorageView.{AreStored, storage_seen};
+ghost use Rattle.blog_row.specs.code.StorageView.{AreStored, prefix_seen, storage_seen};
 
-use crate::column::Storage;
+use crate::column::{Prefix, Storage};
 use crate::image::{cut_at, stored_end};
 use crate::layout::column_at;
+use byteorder::{ByteOrder, LittleEndian};
 
 /// The most columns whose storages are looked up for many images.
 pub(crate) const MOST_STORAGES: usize = 64;
@@ -31,25 +33,82 @@ pub(crate) fn storages_of(kinds: &[u8], metadata: &[u8]) -> [Storage; MOST_STORA
     storages
 }
 
-/// Where the value of a column ends that begins at a position, and that position where it is NULL, by its null bit.
+/// A number where a value is there, by its null bit, and 0 where it is NULL. No jump depends on the null bit, since a
+/// processor can't foresee irregular ones.
 #[inline(always)]
-fn value_end(storage: Storage, null: u8, at: usize, bytes: &[u8]) -> Option<usize>
+fn if_there(number: u32, null: u8) -> u32
     requires bit { null ≤ 1 }
-    ensures there { null ≡ 0 → EndsAt (value_stored (storage_seen storage)) at bytes.now result }
-    ensures absent { null ≡ 1 → result ≡ Some at }
+    ensures there { null ≡ 0 → result ≡ number }
+    ensures absent { null ≡ 1 → result ≡ 0 }
+{
+    number & u32::from(null).wrapping_sub(1)
+}
+
+/// The length with which the bytes begin, the lowest first, and 0 where the value is NULL. The length may have fewer
+/// bytes than are loaded.
+#[inline(always)]
+fn length_if_there(prefix: Prefix, null: u8, bytes: &[u8]) -> u32
+    requires bit { null ≤ 1 }
+    requires long { 4 ≤ length bytes.now }
+    ensures there { null ≡ 0 → result ≡ little_number (prefix_seen prefix) bytes.now }
+    ensures absent { null ≡ 1 → result ≡ 0 }
+{
+    LittleEndian::read_u32(bytes) & if_there(prefix.mask(), null)
+}
+
+/// Where a value behind its length ends that begins near the end of the bytes, and its position where it is NULL. The
+/// end of a value that isn't there is past the bytes.
+#[inline(never)]
+fn last_counted_end(prefix: Prefix, null: u8, at: usize, bytes: &[u8]) -> usize
+    requires bit { null ≤ 1 }
+    requires last { length bytes.now < at + 4 }
+    ensures there { null ≡ 0 → EndsAt (value_stored (Counted (prefix_seen prefix))) at bytes.now (Some result) }
+    ensures absent { null ≡ 1 → result ≡ at }
+    ensures near { result ≤ at + 4 }
+{
+    if null != 0 {
+        return at;
+    }
+    match stored_end(Storage::Counted(prefix), at, bytes) {
+        Some(end) if end <= bytes.len() => end,
+        _ => bytes.len() + 1,
+    }
+}
+
+/// Where a value behind its length ends that begins at a position, and that position where it is NULL.
+#[inline(always)]
+fn counted_end(prefix: Prefix, null: u8, at: usize, bytes: &[u8]) -> usize
+    requires bit { null ≤ 1 }
+    requires low { at < 2 ^ 62 }
+    ensures there { null ≡ 0 → EndsAt (value_stored (Counted (prefix_seen prefix))) at bytes.now (Some result) }
+    ensures absent { null ≡ 1 → result ≡ at }
+    ensures near { result ≤ at + 2 ^ 33 }
+{
+    if bytes.len() < at + 4 {
+        return last_counted_end(prefix, null, at, bytes);
+    }
+    let len = length_if_there(prefix, null, &bytes[at..]) as usize;
+    at + if_there(prefix.bytes() as u32, null) as usize + len
+}
+
+/// Where the value of a column ends that begins at a position, and that position where it is NULL, by its null bit. The
+/// end of a value that isn't there is past the bytes.
+#[inline(always)]
+fn value_end(storage: Storage, null: u8, at: usize, bytes: &[u8]) -> usize
+    requires bit { null ≤ 1 }
+    requires low { at < 2 ^ 62 }
+    ensures there { null ≡ 0 → EndsAt (value_stored (storage_seen storage)) at bytes.now (Some result) }
+    ensures absent { null ≡ 1 → result ≡ at }
+    ensures near { result ≤ at + 2 ^ 33 }
 {
     match storage {
-        Storage::Fixed(width) => {
-            // No jump depends on the null bit: a processor can't foresee irregular ones.
-            let len = usize::from(width) * usize::from(1 - null);
-            Some(at.saturating_add(len))
-        }
-        Storage::Counted(_) if null == 0 => stored_end(storage, at, bytes),
-        Storage::Counted(_) => Some(at),
+        Storage::Fixed(width) => at + if_there(u32::from(width), null) as usize,
+        Storage::Counted(prefix) => counted_end(prefix, null, at, bytes),
     }
 }
 
 /// Where the values of the next columns end, `count` of them from column `from` on, whose null bits are in one byte.
+/// Each has less than 2^33 bytes, so that no addition has to be checked.
 #[inline(always)]
 fn columns_end(
     storages: &[Storage],
@@ -58,104 +117,55 @@ fn columns_end(
     nulls: &[u8],
     at: usize,
     bytes: &[u8],
-) -> Option<usize>
+) -> usize
     requires whole { from % 8 ≡ 0 }
     requires few { count ≤ 8 }
     requires below { from + count ≤ length storages.now }
     requires there { from / 8 < length nulls.now }
-    ensures { (columns : Layout) → AreStored columns (drop from storages.now) → behind_from columns nulls.now from at bytes.now ≡ option_and_then (λ end. behind_from (drop count columns) nulls.now (from + count) end bytes.now) result }
+    requires low { at < 2 ^ 61 }
+    ensures behind { (columns : Layout) → AreStored columns (drop from storages.now) → behind_from columns nulls.now from at bytes.now ≡ behind_from (drop count columns) nulls.now (from + count) result bytes.now }
+    ensures near { result ≤ at + count * 2 ^ 33 }
 {
     let bits = nulls[from / 8];
     let mut end = at;
     for k in 0..count {
         let null = (bits >> k) % 2;
-        end = value_end(storages[from + k], null, end, bytes)?;
+        end = value_end(storages[from + k], null, end, bytes);
     }
-    Some(end)
+    end
 }
 
-/// Where the values of columns end that begin at a position, by their null bits, eight columns at a time.
+/// Where the values of columns end that begin at a position, by their null bits, eight columns at a time. Where a value
+/// isn't there, that is past the bytes.
 #[inline(always)]
-fn some_values_end(storages: &[Storage], nulls: &[u8], at: usize, bytes: &[u8]) -> Option<usize>
+fn values_end(storages: &[Storage], nulls: &[u8], at: usize, bytes: &[u8]) -> usize
     requires long { length storages.now ≤ 8 * length nulls.now }
-    ensures { (columns : Layout) → AreStored columns storages.now → behind_from columns nulls.now 0 at bytes.now ≡ option_and_then (λ end. from_position end bytes.now) result }
+    requires few { length storages.now ≤ 64 }
+    requires low { at ≤ 8 }
+    ensures { (columns : Layout) → AreStored columns storages.now → behind_from columns nulls.now 0 at bytes.now ≡ from_position result bytes.now }
 {
     let mut end = at;
     let mut from = 0;
     'columns: while storages.len() - from >= 8 {
-        end = columns_end(storages, from, 8, nulls, end, bytes)?;
+        end = columns_end(storages, from, 8, nulls, end, bytes);
         from += 8;
     }
     if from < storages.len() {
-        end = columns_end(storages, from, storages.len() - from, nulls, end, bytes)?;
+        end = columns_end(storages, from, storages.len() - from, nulls, end, bytes);
     }
-    Some(end)
-}
-
-/// Whether no column is NULL, by the null bits of so many columns. Bits past the last column are free.
-#[inline(always)]
-fn none_is_null(count: usize, nulls: &[u8]) -> bool
-    requires long { count ≤ 8 * length nulls.now }
-    ensures { result ≡ true → (i : ℕ) → i < count → is_marked nulls.now i ≡ false }
-{
-    let whole = count / 8;
-    for i in 0..whole {
-        if nulls[i] != 0 {
-            return false;
-        }
-    }
-    let others = count % 8;
-    if others == 0 {
-        return true;
-    }
-    nulls[whole] % (1 << others) == 0
-}
-
-/// Where the values of columns end that begin at a position, where none of them is NULL.
-#[inline(always)]
-fn all_values_end(storages: &[Storage], at: usize, bytes: &[u8]) -> Option<usize>
-    ensures { (columns : Layout) (nulls : List ℕ) → AreStored columns storages.now → ((i : ℕ) → i < length storages.now → is_marked nulls i ≡ false) → behind_from columns nulls 0 at bytes.now ≡ option_and_then (λ end. from_position end bytes.now) result }
-{
-    let mut end = at;
-    for storage in storages {
-        end = stored_end(*storage, end, bytes)?;
-    }
-    Some(end)
-}
-
-/// Where the values of columns end that begin at a position, by their null bits. While `look` holds, these are
-/// first looked at together; a NULL ends that.
-#[inline(always)]
-fn values_end(
-    storages: &[Storage],
-    look: &mut bool,
-    nulls: &[u8],
-    at: usize,
-    bytes: &[u8],
-) -> Option<usize>
-    requires long { length storages.now ≤ 8 * length nulls.now }
-    ensures { (columns : Layout) → AreStored columns storages.now → behind_from columns nulls.now 0 at bytes.now ≡ option_and_then (λ end. from_position end bytes.now) result }
-{
-    // Where no image has a NULL, one look at all null bits costs less than one at each. Where some have, a processor
-    // can't foresee which, and a wrong guess for an image costs more than that saves.
-    if *look {
-        if none_is_null(storages.len(), nulls) {
-            return all_values_end(storages, at, bytes);
-        }
-        *look = false;
-    }
-    some_values_end(storages, nulls, at, bytes)
+    end
 }
 
 /// How long the image is with which the bytes begin, in bytes; None where they begin with none. Its columns are stored
-/// so. While `look` holds, all null bits are first looked at together; a NULL ends that.
+/// so.
 #[inline(always)]
-pub(crate) fn len_by(storages: &[Storage], look: &mut bool, bytes: &[u8]) -> Option<usize>
+pub(crate) fn len_by(storages: &[Storage], bytes: &[u8]) -> Option<usize>
+    requires few { length storages.now ≤ 64 }
     ensures exact { (columns : Layout) → AreStored columns storages.now → result ≡ image_len_of columns bytes.now }
     ensures within { IfSome result (λ m. m ≤ length bytes.now) }
 {
     let count = storages.len().div_ceil(8);
     let (nulls, _) = cut_at(count, bytes)?;
-    let end = values_end(storages, look, nulls, count, bytes)?;
+    let end = values_end(storages, nulls, count, bytes);
     if end <= bytes.len() { Some(end) } else { None }
 }

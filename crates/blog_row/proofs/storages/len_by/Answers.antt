@@ -12,21 +12,15 @@ returns-in_err-nulls-clause-exact c columns stored =
     let short = nulls_short columns c.args.bytes.now (ap (λ n. cut n c.args.bytes.now) (sym few) ∙ sym c.in_err-nulls.ensures) in
     c.from_residual.ensures ∙ sym (image_none columns c.args.bytes.now (ap rest_of short))
 
-pub returns-in_err-end-clause-exact : goal.returns-in_err-end-clause-exact
-returns-in_err-end-clause-exact c columns stored =
-    let few : c.div_ceil-count.result ≡ bitmap_len (length columns) = sym (nulls_stored columns c.args.storages.now _ stored c.div_ceil-count.ensures) in
-    let begins = image_begins columns c.args.bytes.now c.in_ok-nulls.nulls.now c.in_ok-nulls.field-0-1.now c.div_ceil-count.result few (sym c.in_ok-nulls.ensures) in
-    c.from_residual-in_err-end.ensures ∙ sym (image_none columns c.args.bytes.now (sym begins ∙ c.in_err-end.ensures columns stored))
-
 pub returns-then-end-bytes-clause-exact : goal.returns-then-end-bytes-clause-exact
 returns-then-end-bytes-clause-exact c columns stored =
     let few : c.div_ceil-count.result ≡ bitmap_len (length columns) = sym (nulls_stored columns c.args.storages.now _ stored c.div_ceil-count.ensures) in
     let begins = image_begins columns c.args.bytes.now c.in_ok-nulls.nulls.now c.in_ok-nulls.field-0-1.now c.div_ceil-count.result few (sym c.in_ok-nulls.ensures) in
-    sym (image_ends columns c.args.bytes.now c.in_ok-end.end (sym begins ∙ c.in_ok-end.ensures columns stored) c.if-end-bytes.true)
+    sym (image_ends columns c.args.bytes.now c.values_end-end.result (sym begins ∙ c.values_end-end.ensures columns stored) c.if-end-bytes.true)
 
 pub returns-else-end-bytes-clause-exact : goal.returns-else-end-bytes-clause-exact
 returns-else-end-bytes-clause-exact c columns stored =
     let few : c.div_ceil-count.result ≡ bitmap_len (length columns) = sym (nulls_stored columns c.args.storages.now _ stored c.div_ceil-count.ensures) in
     let begins = image_begins columns c.args.bytes.now c.in_ok-nulls.nulls.now c.in_ok-nulls.field-0-1.now c.div_ceil-count.result few (sym c.in_ok-nulls.ensures) in
-    let past : length c.args.bytes.now < c.in_ok-end.end = omega (arith, c.if-end-bytes.false) in
-    sym (image_cut columns c.args.bytes.now c.in_ok-end.end (sym begins ∙ c.in_ok-end.ensures columns stored) past)
+    let past : length c.args.bytes.now < c.values_end-end.result = omega (arith, c.if-end-bytes.false) in
+    sym (image_cut columns c.args.bytes.now c.values_end-end.result (sym begins ∙ c.values_end-end.ensures columns stored) past)

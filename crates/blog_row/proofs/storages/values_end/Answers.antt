@@ -1,0 +1,29 @@
+use Rattle.std.proofs.Common.{◌∙◌, ◌≤◌, ◌+◌, ◌-◌, length, arith}
+use Rattle.blog_row.proofs.StorageWalking.{stored_behind, next_columns, all_reached}
+use Rattle.blog_row.proofs.storages.values_end.Goals as goal
+
+pub columns-preserved : goal.columns-preserved
+columns-preserved c = record {
+  below = omega (arith, c.columns-test.true);
+  whole = omega (arith, c.columns.invariant.whole);
+  near = omega (arith, c.columns.invariant.near, c.columns_end-end.ensures.near);
+  behind = λ columns stored.
+      c.columns.invariant.behind columns stored
+      ∙ c.columns_end-end.ensures.behind _ (stored_behind c.columns.from columns c.args.storages.now stored)
+      ∙ next_columns columns c.args.nulls.now c.args.bytes.now c.columns.from 8 c.columns_end-end.result;
+}
+
+pub returns-then-from-storages : goal.returns-then-from-storages
+returns-then-from-storages c columns stored =
+    let count = length c.args.storages.now - c.columns.from in
+    let all : length c.args.storages.now ≤ c.columns.from + count = omega (arith, c.columns.invariant.below) in
+    let end = c.columns_end-end-then-from-storages.result in
+    c.columns.invariant.behind columns stored
+    ∙ c.columns_end-end-then-from-storages.ensures.behind _ (stored_behind c.columns.from columns c.args.storages.now stored)
+    ∙ next_columns columns c.args.nulls.now c.args.bytes.now c.columns.from count end
+    ∙ all_reached columns c.args.storages.now c.args.nulls.now c.args.bytes.now (c.columns.from + count) end all stored
+
+pub returns-else-from-storages : goal.returns-else-from-storages
+returns-else-from-storages c columns stored =
+    let all : length c.args.storages.now ≤ c.columns.from = omega (arith, c.if-from-storages.false) in
+    c.columns.invariant.behind columns stored ∙ all_reached columns c.args.storages.now c.args.nulls.now c.args.bytes.now c.columns.from c.columns.end all stored
