@@ -11,12 +11,12 @@ use crate::layout::Layout;
 use crate::storages::MOST_STORAGES;
 
 /// Whether it pays to look up how the columns are stored before images of so many bytes are read: where the columns are
-/// few, and the images are many beside them.
+/// few, and the images are several, or have many values of some length.
 fn pays(layout: &Layout<'_>, len: usize) -> bool
     ensures { result ≡ true → length (layout_columns layout.now) ≤ 64 }
 {
     let columns = layout.columns();
-    columns <= MOST_STORAGES && 64 * columns < len
+    columns <= MOST_STORAGES && 8 * columns + 128 < len
 }
 
 /// How many images the bytes are, one after the other and without a remainder.

@@ -1,4 +1,4 @@
-//! How the columns of a table are stored, looked up once for many images.
+//! How the columns of a table are stored, looked up once for the images of an event.
 
 ghost use Rattle.std.specs.Prelude.{◌≡◌, ◌<◌, ◌≤◌, ◌+◌, ◌*◌, ◌/◌, ◌%◌, ◌^◌, true, Some, length, take, drop, IfSome};
 ghost use Rattle.std.specs.List.{list_all};
