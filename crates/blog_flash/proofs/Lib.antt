@@ -23,7 +23,8 @@ pub mod Headline
 pub mod Stops
 pub mod Printing
 pub mod Quoting
-pub mod Digits
+pub mod ByTable
+pub mod BySixteen
 pub mod ShortLines
 pub mod PrintedParts
 pub mod Answering

@@ -1,6 +1,7 @@
 //! The log that undoes a selection of a log's changes.
 #![tactic(auto)]
 
+mod digits;
 mod laid_out;
 mod log_sizes;
 mod modes;

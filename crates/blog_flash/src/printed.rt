@@ -10,22 +10,11 @@ ghost use Rattle.blog_flash.specs.Printed.{line, between_backticks, quoted, quot
 ghost use Rattle.blog_flash.specs.code.PrintedRows.{value_line, table_line, image_lines};
 ghost use Rattle.blog_trans.specs.Changes.{Inserted, Deleted, Updated};
 
+use crate::digits::write_digits;
 use blog_row::{Layout, RowChange, TableMap};
 use bstr::ByteSlice;
 use itoa::Buffer;
 use std::alloc::{AllocError, Allocator};
-
-/// The two digits of each byte, in hexadecimal and upper case.
-static DIGITS: [u8; 512] = *b"\
-000102030405060708090A0B0C0D0E0F101112131415161718191A1B1C1D1E1F\
-202122232425262728292A2B2C2D2E2F303132333435363738393A3B3C3D3E3F\
-404142434445464748494A4B4C4D4E4F505152535455565758595A5B5C5D5E5F\
-606162636465666768696A6B6C6D6E6F707172737475767778797A7B7C7D7E7F\
-808182838485868788898A8B8C8D8E8F909192939495969798999A9B9C9D9E9F\
-A0A1A2A3A4A5A6A7A8A9AAABACADAEAFB0B1B2B3B4B5B6B7B8B9BABBBCBDBEBF\
-C0C1C2C3C4C5C6C7C8C9CACBCCCDCECFD0D1D2D3D4D5D6D7D8D9DADBDCDDDEDF\
-E0E1E2E3E4E5E6E7E8E9EAEBECEDEEEFF0F1F2F3F4F5F6F7F8F9FAFBFCFDFEFF\
-";
 
 /// What the line of a short value is written over, no shorter than any such line.
 static ROOM: [u8; 80] = [0; 80];
@@ -100,19 +89,6 @@ pub fn put_table<A: Allocator>(
     put_quoted(out, schema)?;
     put_text(out, b".")?;
     put_quoted(out, table)
-}
-
-/// Writes the upper-case hexadecimal digits of bytes over as many.
-fn write_digits(to: &mut [u8], bytes: &[u8])
-    requires { length to.old ≡ 2 * length bytes.now }
-    ensures { to.new ≡ encode_upper bytes.now }
-{
-    'bytes: for i in 0..bytes.len() {
-        let from = 2 * bytes[i] as usize;
-        let (high, low) = (DIGITS[from], DIGITS[from + 1]);
-        to[2 * i] = high;
-        to[2 * i + 1] = low;
-    }
 }
 
 /// Appends the upper-case hexadecimal digits of bytes.

@@ -1,8 +1,8 @@
 use Rattle.std.proofs.Common.{ℕ, arith, slice_index}
 use Rattle.hex.specs.Hex.{upper_digits}
 use Rattle.hex.proofs.Pairs.{encode_step, encode_done}
-use Rattle.blog_flash.proofs.Digits.{digits-at}
-use Rattle.blog_flash.proofs.printed.write_digits.Goals as goal
+use Rattle.blog_flash.proofs.ByTable.{digits-at}
+use Rattle.blog_flash.proofs.digits.write_few.Goals as goal
 
 pub bytes-preserved : goal.bytes-preserved
 bytes-preserved c =

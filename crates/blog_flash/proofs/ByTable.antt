@@ -1,7 +1,7 @@
 -- Hexadecimal digits in upper case, from a table of those of each byte.
 use Rattle.std.proofs.Common.{◌≡◌, ℕ, zero, suc, ◌+◌, ◌-◌, ◌*◌, ◌/◌, ◌%◌, ◌<◌, Bool, true, ◌&&◌, T, eqb, get_or, slice_index, eqb→eq, eq-zero-or-pos, inl, inr, arith}
 use Rattle.hex.specs.Hex.{upper_digits}
-use Rattle.blog_flash.specs.declared.printed.TheConstants.{DIGITS}
+use Rattle.blog_flash.specs.declared.digits.TheConstants.{DIGITS}
 use lib.Ieee.Fits.{and_l, and_r}
 
 -- the test of the first n bytes, which computes

@@ -1,6 +1,6 @@
 use Rattle.std.proofs.Common.{◌≡◌, ◌*◌, ◌++◌, take, drop}
 use Rattle.hex.specs.Hex.{encode_upper}
-use Rattle.blog_flash.proofs.printed.write_digits.Given as goal
+use Rattle.blog_flash.proofs.digits.write_few.Given as goal
 
 -- the digits of the bytes from i on are left
 abbrev pub invariant-bytes : goal.invariant-bytes
