@@ -4,14 +4,14 @@ ghost use Rattle.std.specs.Prelude.{◌≡◌, ◌+◌, ◌*◌, ◌<◌, ◌≤
 ghost use Rattle.std.specs.Fmt.{decimal};
 ghost use Rattle.hex.specs.Hex.{encode_upper};
 ghost use Rattle.blog_row.specs.Image.{row_of};
-ghost use Rattle.blog_row.specs.code.LayoutView.{layout_columns};
+ghost use Rattle.blog_row.specs.code.StoredLayoutView.{stored_columns};
 ghost use Rattle.blog_row.specs.TableMap.{map_names};
 ghost use Rattle.blog_flash.specs.Printed.{line, between_backticks, quoted, quoted_table, value_text, value_lines, row_lines, change_lines};
 ghost use Rattle.blog_flash.specs.code.PrintedRows.{value_line, table_line, image_lines};
 ghost use Rattle.blog_trans.specs.Changes.{Inserted, Deleted, Updated};
 
 use crate::digits::write_digits;
-use blog_row::{Layout, RowChange, TableMap};
+use blog_row::{RowChange, StoredLayout, TableMap};
 use bstr::ByteSlice;
 use itoa::Buffer;
 use std::alloc::{AllocError, Allocator};
@@ -232,11 +232,11 @@ fn put_value_line<A: Allocator>(
 /// Appends a line for each value of an image.
 fn put_values<A: Allocator>(
     out: &mut Vec<u8, A>,
-    layout: &Layout<'_>,
+    layout: &StoredLayout<'_>,
     image: &[u8],
 ) -> Result<(), AllocError>
-    ensures ok { OnOk result (out.new.items ≡ out.old.items ++ value_lines 1 (row_of (layout_columns layout.now) image.now)) }
-    ensures room { vec_len out.old + length (value_lines 1 (row_of (layout_columns layout.now) image.now)) ≤ vec_capacity out.old → IsOk result }
+    ensures ok { OnOk result (out.new.items ≡ out.old.items ++ value_lines 1 (row_of (stored_columns layout.now) image.now)) }
+    ensures room { vec_len out.old + length (value_lines 1 (row_of (stored_columns layout.now) image.now)) ≤ vec_capacity out.old → IsOk result }
     ensures capacity { vec_capacity out.old ≤ vec_capacity out.new }
 {
     let mut n = 1;
@@ -251,11 +251,11 @@ fn put_values<A: Allocator>(
 fn put_row<A: Allocator>(
     out: &mut Vec<u8, A>,
     heading: &[u8],
-    layout: &Layout<'_>,
+    layout: &StoredLayout<'_>,
     image: &[u8],
 ) -> Result<(), AllocError>
-    ensures ok { OnOk result (out.new.items ≡ out.old.items ++ row_lines heading.now (row_of (layout_columns layout.now) image.now)) }
-    ensures room { vec_len out.old + length (row_lines heading.now (row_of (layout_columns layout.now) image.now)) ≤ vec_capacity out.old → IsOk result }
+    ensures ok { OnOk result (out.new.items ≡ out.old.items ++ row_lines heading.now (row_of (stored_columns layout.now) image.now)) }
+    ensures room { vec_len out.old + length (row_lines heading.now (row_of (stored_columns layout.now) image.now)) ≤ vec_capacity out.old → IsOk result }
     ensures capacity { vec_capacity out.old ≤ vec_capacity out.new }
 {
     put_line(out, heading)?;
@@ -281,11 +281,11 @@ fn put_table_line<A: Allocator>(
 fn put_insert<A: Allocator>(
     out: &mut Vec<u8, A>,
     map: &TableMap<'_>,
-    layout: &Layout<'_>,
+    layout: &StoredLayout<'_>,
     after: &[u8],
 ) -> Result<(), AllocError>
-    ensures ok { OnOk result (out.new.items ≡ out.old.items ++ change_lines (Inserted (map_names map.now).table (row_of (layout_columns layout.now) after.now))) }
-    ensures room { vec_len out.old + length (change_lines (Inserted (map_names map.now).table (row_of (layout_columns layout.now) after.now))) ≤ vec_capacity out.old → IsOk result }
+    ensures ok { OnOk result (out.new.items ≡ out.old.items ++ change_lines (Inserted (map_names map.now).table (row_of (stored_columns layout.now) after.now))) }
+    ensures room { vec_len out.old + length (change_lines (Inserted (map_names map.now).table (row_of (stored_columns layout.now) after.now))) ≤ vec_capacity out.old → IsOk result }
     ensures capacity { vec_capacity out.old ≤ vec_capacity out.new }
 {
     put_table_line(out, b"### INSERT INTO ", map)?;
@@ -296,11 +296,11 @@ fn put_insert<A: Allocator>(
 fn put_delete<A: Allocator>(
     out: &mut Vec<u8, A>,
     map: &TableMap<'_>,
-    layout: &Layout<'_>,
+    layout: &StoredLayout<'_>,
     before: &[u8],
 ) -> Result<(), AllocError>
-    ensures ok { OnOk result (out.new.items ≡ out.old.items ++ change_lines (Deleted (map_names map.now).table (row_of (layout_columns layout.now) before.now))) }
-    ensures room { vec_len out.old + length (change_lines (Deleted (map_names map.now).table (row_of (layout_columns layout.now) before.now))) ≤ vec_capacity out.old → IsOk result }
+    ensures ok { OnOk result (out.new.items ≡ out.old.items ++ change_lines (Deleted (map_names map.now).table (row_of (stored_columns layout.now) before.now))) }
+    ensures room { vec_len out.old + length (change_lines (Deleted (map_names map.now).table (row_of (stored_columns layout.now) before.now))) ≤ vec_capacity out.old → IsOk result }
     ensures capacity { vec_capacity out.old ≤ vec_capacity out.new }
 {
     put_table_line(out, b"### DELETE FROM ", map)?;
@@ -311,12 +311,12 @@ fn put_delete<A: Allocator>(
 fn put_update<A: Allocator>(
     out: &mut Vec<u8, A>,
     map: &TableMap<'_>,
-    layout: &Layout<'_>,
+    layout: &StoredLayout<'_>,
     before: &[u8],
     after: &[u8],
 ) -> Result<(), AllocError>
-    ensures ok { OnOk result (out.new.items ≡ out.old.items ++ change_lines (Updated (map_names map.now).table (row_of (layout_columns layout.now) before.now) (row_of (layout_columns layout.now) after.now))) }
-    ensures room { vec_len out.old + length (change_lines (Updated (map_names map.now).table (row_of (layout_columns layout.now) before.now) (row_of (layout_columns layout.now) after.now))) ≤ vec_capacity out.old → IsOk result }
+    ensures ok { OnOk result (out.new.items ≡ out.old.items ++ change_lines (Updated (map_names map.now).table (row_of (stored_columns layout.now) before.now) (row_of (stored_columns layout.now) after.now))) }
+    ensures room { vec_len out.old + length (change_lines (Updated (map_names map.now).table (row_of (stored_columns layout.now) before.now) (row_of (stored_columns layout.now) after.now))) ≤ vec_capacity out.old → IsOk result }
     ensures capacity { vec_capacity out.old ≤ vec_capacity out.new }
 {
     put_table_line(out, b"### UPDATE ", map)?;
@@ -328,11 +328,11 @@ fn put_update<A: Allocator>(
 pub(crate) fn put_change<A: Allocator>(
     out: &mut Vec<u8, A>,
     map: &TableMap<'_>,
-    layout: &Layout<'_>,
+    layout: &StoredLayout<'_>,
     row: &RowChange<'_>,
 ) -> Result<(), AllocError>
-    ensures ok { OnOk result (out.new.items ≡ out.old.items ++ image_lines (map_names map.now).table (layout_columns layout.now) (option_map (λ image. image.now) row.now.before) (option_map (λ image. image.now) row.now.after)) }
-    ensures room { vec_len out.old + length (image_lines (map_names map.now).table (layout_columns layout.now) (option_map (λ image. image.now) row.now.before) (option_map (λ image. image.now) row.now.after)) ≤ vec_capacity out.old → IsOk result }
+    ensures ok { OnOk result (out.new.items ≡ out.old.items ++ image_lines (map_names map.now).table (stored_columns layout.now) (option_map (λ image. image.now) row.now.before) (option_map (λ image. image.now) row.now.after)) }
+    ensures room { vec_len out.old + length (image_lines (map_names map.now).table (stored_columns layout.now) (option_map (λ image. image.now) row.now.before) (option_map (λ image. image.now) row.now.after)) ≤ vec_capacity out.old → IsOk result }
     ensures capacity { vec_capacity out.old ≤ vec_capacity out.new }
 {
     match (row.before, row.after) {

@@ -9,7 +9,7 @@ ghost use Rattle.blog_flash.specs.Printed.{sql_text};
 ghost use Rattle.blog_flash.specs.code.PrintedRows.{event_lines};
 
 use crate::printed::{put_change, put_line};
-use blog_row::Order;
+use blog_row::{Order, StoredLayout};
 use blog_trans::{GroupEvent, GroupRows, Index};
 use std::alloc::{AllocError, Allocator};
 
@@ -20,7 +20,7 @@ fn put_changes<A: Allocator>(out: &mut Vec<u8, A>, group: &GroupRows<'_>) -> Res
     ensures room { vec_len out.old + length (event_lines (event_seen (GroupEvent.Rows group.now))) ≤ vec_capacity out.old → IsOk result }
     ensures capacity { vec_capacity out.old ≤ vec_capacity out.new }
 {
-    let layout = group.rows.layout();
+    let layout = StoredLayout::new(&group.rows.layout(), group.rows.rows_len());
     for row in group.rows.rows() {
         put_change(out, &group.table, &layout, &row)?;
     }

@@ -21,3 +21,4 @@ pub mod WrittenBody
 pub mod TypeTables
 pub mod PositionWalking
 pub mod StorageWalking
+pub mod StoredWalking

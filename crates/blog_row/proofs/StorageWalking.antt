@@ -22,12 +22,12 @@ stored_behind (suc n) (column ∷ columns) [] stored = absurd stored
 stored_behind (suc n) (column ∷ columns) (storage ∷ storages) stored = stored_behind n columns storages stored.1
 
 -- the column that is stored as the first storage
-record First (columns : Layout) (storage : told.Storage) : Type 0 where
-  column : Column
-  are : columns ≡ column ∷ drop 1 columns
-  here : storage_of column ≡ Some (storage_seen storage)
+pub record First (columns : Layout) (storage : told.Storage) : Type 0 where
+  pub column : Column
+  pub are : columns ≡ column ∷ drop 1 columns
+  pub here : storage_of column ≡ Some (storage_seen storage)
 
-first : (columns : Layout) (storage : told.Storage) (storages : List told.Storage) → AreStored columns (storage ∷ storages) → First columns storage
+pub first : (columns : Layout) (storage : told.Storage) (storages : List told.Storage) → AreStored columns (storage ∷ storages) → First columns storage
 first [] storage storages stored = absurd stored
 first (column ∷ columns) storage storages stored = record { column = column; are = refl; here = stored.0 }
 

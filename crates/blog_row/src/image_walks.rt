@@ -2,9 +2,9 @@
 
 ghost use Rattle.std.specs.Prelude.{◌≡◌, ◌≤◌, true, length, is_some, option_map, unwrap_or, reverse, [], IfSome};
 ghost use Rattle.std.specs.List.{concat};
-ghost use Rattle.blog_row.specs.Image.{images_of};
+ghost use Rattle.blog_row.specs.Image.{image_len_of, images_of};
 ghost use Rattle.blog_row.specs.code.LayoutView.{layout_columns};
-ghost use Rattle.blog_row.specs.code.StorageView.{AreStored};
+ghost use Rattle.blog_row.specs.code.StorageView.{AreStored, AreLookedUp};
 
 use crate::column::Storage;
 use crate::layout::Layout;
@@ -17,6 +17,35 @@ fn pays(layout: &Layout<'_>, len: usize) -> bool
 {
     let columns = layout.columns();
     columns <= MOST_STORAGES && 8 * columns + 128 < len
+}
+
+/// How each column is stored, where it pays to look it up before images of so many bytes are read.
+pub(crate) fn storages_for(layout: &Layout<'_>, len: usize) -> Option<[Storage; MOST_STORAGES]>
+    ensures { AreLookedUp (layout_columns layout.now) result }
+{
+    if pays(layout, len) {
+        Some(layout.storages())
+    } else {
+        None
+    }
+}
+
+/// How long the image is with which the bytes begin, in bytes, by the storages of the columns where they were looked up;
+/// None where the bytes begin with no image.
+#[inline(always)]
+pub(crate) fn first_len(
+    layout: &Layout<'_>,
+    storages: &Option<[Storage; MOST_STORAGES]>,
+    bytes: &[u8],
+) -> Option<usize>
+    requires { AreLookedUp (layout_columns layout.now) storages.now }
+    ensures exact { result ≡ image_len_of (layout_columns layout.now) bytes.now }
+    ensures within { IfSome result (λ m. m ≤ length bytes.now) }
+{
+    match storages {
+        Some(all) => layout.image_len_by(Some(&all[..layout.columns()]), bytes),
+        None => layout.image_len_by(None, bytes),
+    }
 }
 
 /// How many images the bytes are, one after the other and without a remainder.

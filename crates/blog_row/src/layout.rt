@@ -112,8 +112,8 @@ fn metadata_at(len: usize, bytes: &[u8]) -> Option<(&[u8], &[u8])>
 /// (MySQL Internals manual, "Table_map_event").
 #[derive(Clone, Copy, Debug)]
 pub struct Layout<'a> {
-    kinds: &'a [u8],
-    metadata: &'a [u8],
+    pub(crate) kinds: &'a [u8],
+    pub(crate) metadata: &'a [u8],
     pub ghost some: { 0 < length kinds.now },
     pub ghost few: { length kinds.now ≤ 4096 },
     pub ghost whole: { metadata_total kinds.now ≡ length metadata.now },

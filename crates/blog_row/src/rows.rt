@@ -3,10 +3,15 @@
 ghost use Rattle.std.specs.Prelude.{◌≡◌, ◌≤◌, ◌+◌, is_some, true, length, option_to_list, Some, IfSome};
 ghost use Rattle.blog_row.specs.Image.{images_of};
 ghost use Rattle.blog_row.specs.code.LayoutView.{layout_columns};
+ghost use Rattle.blog_row.specs.code.StorageView.{AreLookedUp};
+ghost use Rattle.blog_row.specs.code.StorageProps.{looked_up_prop};
 
+use crate::column::Storage;
+use crate::image_walks::{first_len, storages_for};
 use crate::kind::RowsAction;
 use crate::layout::Layout;
 use crate::rows_event::RowsEvent;
+use crate::storages::MOST_STORAGES;
 
 /// A row of a rows event: its images as they stand in the log.
 #[derive(Clone, Copy, Debug, PartialEq, Eq)]
@@ -22,9 +27,12 @@ pub struct RowChange<'a> {
 pub struct Rows<'a> {
     action: RowsAction,
     layout: Layout<'a>,
+    // How each column is stored, where it was looked up.
+    storages: Option<[Storage; MOST_STORAGES]>,
     // The images that are left.
     rest: &'a [u8],
     pub ghost imaged: { is_some (images_of (layout_columns layout) rest.now) ≡ true },
+    pub ghost stored: { AreLookedUp (layout_columns layout) storages } by { looked_up_prop _ _ },
 }
 
 impl<'a> RowsEvent<'a> {
@@ -39,9 +47,11 @@ impl<'a> RowsEvent<'a> {
         ensures rows { rows_left result ≡ rows_by (rows_kind self.now).action (rows_body self.now).images }
         ensures most { most_left result ≡ length (concat (rows_body self.now).images) }
     {
+        let layout = self.layout();
         Rows {
             action: self.kind().action,
-            layout: self.layout(),
+            layout,
+            storages: storages_for(&layout, self.rows_len()),
             rest: self.images(),
         }
     }
@@ -57,7 +67,7 @@ impl<'a> Rows<'a> {
         ensures action { self.new.action ≡ self.old.action }
         ensures bytes { length self.new.rest.now + length (option_to_list result) ≤ length self.old.rest.now }
     {
-        let len = self.layout.image_len(self.rest)?;
+        let len = first_len(&self.layout, &self.storages, self.rest)?;
         let (image, behind) = self.rest.split_at(len);
         self.rest = behind;
         Some(image)

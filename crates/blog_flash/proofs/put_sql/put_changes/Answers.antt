@@ -20,5 +20,5 @@ returns-in_err-put_change-clause-room g c enough =
     let layout = layout_columns c.args.group.now.rows.layout in
     let row = row_seen c.in-Some.row in
     has-room _ _ _ _ (image_lines table layout row.before row.after) (images_lines table layout (rows_left c.next.new.self)) _ _ _ _ _ _ c.in_err-put_change.was
-    (rw c.layout-layout.ensures at c.put_change.ensures.room) c.loop-row.invariant.text (ap (images_lines table layout) c.in-Some.ensures.steps)
+    (rw (c.new-layout.ensures, c.layout.ensures) at c.put_change.ensures.room) c.loop-row.invariant.text (ap (images_lines table layout) c.in-Some.ensures.steps)
     c.loop-row.out.ok.0 c.args.out.now.ok.0 c.loop-row.invariant.capacity enough
