@@ -8,7 +8,7 @@ ghost use Rattle.blog_row.specs.code.StorageView.{AreStored, AreLookedUp};
 
 use crate::column::Storage;
 use crate::layout::Layout;
-use crate::storages::MOST_STORAGES;
+use crate::storages::{MOST_STORAGES, MOST_WIDE_STORAGES};
 
 /// Whether it pays to look up how the columns are stored before images of so many bytes are read: where the columns are
 /// few, and the images are several, or have many values of some length.
@@ -17,6 +17,14 @@ fn pays(layout: &Layout<'_>, len: usize) -> bool
 {
     let columns = layout.columns();
     columns <= MOST_STORAGES && 8 * columns + 128 < len
+}
+
+/// The same where the columns are more. The room of their storages is large, so that it takes as many bytes at least.
+fn pays_wide(layout: &Layout<'_>, len: usize) -> bool
+    ensures { result ≡ true → length (layout_columns layout.now) ≤ 4096 }
+{
+    let columns = layout.columns();
+    MOST_STORAGES < columns && columns + MOST_WIDE_STORAGES < len
 }
 
 /// How each column is stored, where it pays to look it up before images of so many bytes are read.
@@ -53,27 +61,29 @@ pub(crate) fn images_in(layout: &Layout<'_>, bytes: &[u8]) -> Option<usize>
     ensures { result ≡ option_map length (images_of (layout_columns layout.now) bytes.now) }
 {
     if pays(layout, bytes.len()) {
-        many_images_in(layout, bytes)
+        many_images_in::<MOST_STORAGES>(layout, bytes)
+    } else if pays_wide(layout, bytes.len()) {
+        many_images_in::<MOST_WIDE_STORAGES>(layout, bytes)
     } else {
         count(layout, None, bytes)
     }
 }
 
-/// The same, where the columns are few.
+/// The same, where there are at most so many columns. It stands alone, since each call pays for the room of its storages.
 #[inline(never)]
-fn many_images_in(layout: &Layout<'_>, bytes: &[u8]) -> Option<usize>
-    requires { length (layout_columns layout.now) ≤ 64 }
+fn many_images_in<const MOST: usize>(layout: &Layout<'_>, bytes: &[u8]) -> Option<usize>
+    requires small { MOST ≤ 4096 }
+    requires few { length (layout_columns layout.now) ≤ MOST }
     ensures { result ≡ option_map length (images_of (layout_columns layout.now) bytes.now) }
 {
-    let storages = layout.storages();
+    let storages: [Storage; MOST] = layout.storages();
     count(layout, Some(&storages[..layout.columns()]), bytes)
 }
 
 /// Counts the images, by the storages of the columns where they were looked up.
 #[inline(always)]
 fn count(layout: &Layout<'_>, storages: Option<&[Storage]>, bytes: &[u8]) -> Option<usize>
-    requires stored { IfSome storages (λ each. AreStored (layout_columns layout.now) each.now) }
-    requires few { IfSome storages (λ each. length each.now ≤ 64) }
+    requires { IfSome storages (λ each. AreStored (layout_columns layout.now) each.now) }
     ensures { result ≡ option_map length (images_of (layout_columns layout.now) bytes.now) }
 {
     let mut rest = bytes;
@@ -94,21 +104,24 @@ pub(crate) fn put_from_last(layout: &Layout<'_>, bytes: &[u8], to: &mut [u8])
     ensures { to.new ≡ concat (reverse (unwrap_or (images_of (layout_columns layout.now) bytes.now) [])) }
 {
     if pays(layout, bytes.len()) {
-        put_many_from_last(layout, bytes, to);
+        put_many_from_last::<MOST_STORAGES>(layout, bytes, to);
+    } else if pays_wide(layout, bytes.len()) {
+        put_many_from_last::<MOST_WIDE_STORAGES>(layout, bytes, to);
     } else {
         put(layout, None, bytes, to);
     }
 }
 
-/// The same, where the columns are few.
+/// The same, where there are at most so many columns.
 #[inline(never)]
-fn put_many_from_last(layout: &Layout<'_>, bytes: &[u8], to: &mut [u8])
-    requires few { length (layout_columns layout.now) ≤ 64 }
+fn put_many_from_last<const MOST: usize>(layout: &Layout<'_>, bytes: &[u8], to: &mut [u8])
+    requires small { MOST ≤ 4096 }
+    requires few { length (layout_columns layout.now) ≤ MOST }
     requires imaged { is_some (images_of (layout_columns layout.now) bytes.now) ≡ true }
     requires room { length to.old ≡ length bytes.now }
     ensures { to.new ≡ concat (reverse (unwrap_or (images_of (layout_columns layout.now) bytes.now) [])) }
 {
-    let storages = layout.storages();
+    let storages: [Storage; MOST] = layout.storages();
     put(layout, Some(&storages[..layout.columns()]), bytes, to);
 }
 
@@ -116,7 +129,6 @@ fn put_many_from_last(layout: &Layout<'_>, bytes: &[u8], to: &mut [u8])
 #[inline(always)]
 fn put(layout: &Layout<'_>, storages: Option<&[Storage]>, bytes: &[u8], to: &mut [u8])
     requires stored { IfSome storages (λ each. AreStored (layout_columns layout.now) each.now) }
-    requires few { IfSome storages (λ each. length each.now ≤ 64) }
     requires imaged { is_some (images_of (layout_columns layout.now) bytes.now) ≡ true }
     requires room { length to.old ≡ length bytes.now }
     ensures { to.new ≡ concat (reverse (unwrap_or (images_of (layout_columns layout.now) bytes.now) [])) }

@@ -12,7 +12,7 @@ use crate::fault::RowFault;
 use crate::image::cut_at;
 use crate::names::names_at;
 use crate::packed::packed_at;
-use crate::storages::{MOST_STORAGES, len_by, storages_of};
+use crate::storages::{len_by, storages_of};
 use crate::type_tables::own_len;
 use crate::typed_walk::len_by_types;
 use crate::values::Values;
@@ -155,11 +155,11 @@ impl Layout<'_> {
         len_by_types(self.kinds, self.metadata, bytes)
     }
 
-    /// How each column is stored, where there are at most 64; what stands behind them means nothing.
+    /// How each column is stored, where there are at most so many; what stands behind them means nothing.
     #[tactic(auto, using(crate::proofs::Layouts::length_of_columns))]
     #[inline(always)]
-    pub(crate) fn storages(&self) -> [Storage; MOST_STORAGES]
-        requires few { length (layout_columns self.now) ≤ 64 }
+    pub(crate) fn storages<const MOST: usize>(&self) -> [Storage; MOST]
+        requires few { length (layout_columns self.now) ≤ MOST }
         ensures { AreStored (layout_columns self.now) (take (length (layout_columns self.now)) result) }
     {
         storages_of(self.kinds, self.metadata)
@@ -168,8 +168,7 @@ impl Layout<'_> {
     /// Answers as `image_len` does, by the storages of the columns where they were looked up.
     #[inline(always)]
     pub(crate) fn image_len_by(&self, storages: Option<&[Storage]>, bytes: &[u8]) -> Option<usize>
-        requires stored { IfSome storages (λ each. AreStored (layout_columns self.now) each.now) }
-        requires few { IfSome storages (λ each. length each.now ≤ 64) }
+        requires { IfSome storages (λ each. AreStored (layout_columns self.now) each.now) }
         ensures exact { result ≡ image_len_of (layout_columns self.now) bytes.now }
         ensures within { IfSome result (λ m. m ≤ length bytes.now) }
     {

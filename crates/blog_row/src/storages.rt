@@ -13,17 +13,20 @@ use crate::image::{cut_at, stored_end};
 use crate::layout::column_at;
 use byteorder::{ByteOrder, LittleEndian};
 
-/// The most columns whose storages are looked up for many images.
+/// The most columns whose storages take little room. They are looked up where rows are read one by one, too.
 pub(crate) const MOST_STORAGES: usize = 64;
+
+/// The most columns whose storages are looked up for many images: as many as a table has.
+pub(crate) const MOST_WIDE_STORAGES: usize = 4096;
 
 /// The storages of columns, in order; those behind them mean nothing.
 #[inline(always)]
-pub(crate) fn storages_of(kinds: &[u8], metadata: &[u8]) -> [Storage; MOST_STORAGES]
-    requires few { length kinds.now ≤ 64 }
+pub(crate) fn storages_of<const MOST: usize>(kinds: &[u8], metadata: &[u8]) -> [Storage; MOST]
+    requires few { length kinds.now ≤ MOST }
     requires known { list_all is_column (columns_of kinds.now metadata.now) ≡ true }
     ensures { AreStored (columns_of kinds.now metadata.now) (take (length kinds.now) result) }
 {
-    let mut storages = [Storage::Fixed(0); MOST_STORAGES];
+    let mut storages = [Storage::Fixed(0); MOST];
     let mut left = metadata;
     for i in 0..kinds.len() {
         let (storage, others) = column_at(kinds, i, left);
@@ -140,8 +143,8 @@ fn columns_end(
 #[inline(always)]
 fn values_end(storages: &[Storage], nulls: &[u8], at: usize, bytes: &[u8]) -> usize
     requires long { length storages.now ≤ 8 * length nulls.now }
-    requires few { length storages.now ≤ 64 }
-    requires low { at ≤ 8 }
+    requires few { length storages.now ≤ 4096 }
+    requires low { at ≤ 512 }
     ensures { (columns : Layout) → AreStored columns storages.now → behind_from columns nulls.now 0 at bytes.now ≡ from_position result bytes.now }
 {
     let mut end = at;
@@ -160,7 +163,7 @@ fn values_end(storages: &[Storage], nulls: &[u8], at: usize, bytes: &[u8]) -> us
 /// so.
 #[inline(always)]
 pub(crate) fn len_by(storages: &[Storage], bytes: &[u8]) -> Option<usize>
-    requires few { length storages.now ≤ 64 }
+    requires few { length storages.now ≤ 4096 }
     ensures exact { (columns : Layout) → AreStored columns storages.now → result ≡ image_len_of columns bytes.now }
     ensures within { IfSome result (λ m. m ≤ length bytes.now) }
 {

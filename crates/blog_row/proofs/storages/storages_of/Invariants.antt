@@ -3,4 +3,4 @@ use Rattle.blog_row.proofs.StorageWalking.{LookedUp}
 use Rattle.blog_row.proofs.storages.storages_of.Given as goal
 
 abbrev pub invariant-loop-i : goal.invariant-loop-i
-invariant-loop-i l = LookedUp l.kinds l.metadata l.storages l.i l.left × (length l.storages ≡ 64)
+invariant-loop-i g l = LookedUp l.kinds l.metadata l.storages l.i l.left × (length l.storages ≡ g.row.MOST)

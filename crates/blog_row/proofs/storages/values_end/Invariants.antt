@@ -8,7 +8,7 @@ abbrev pub invariant-columns : goal.invariant-columns
 invariant-columns l = record {
   below : l.from ≤ length l.storages;
   whole : l.from % 8 ≡ 0;
-  near : l.end ≤ 8 + l.from * 2 ^ 33;
+  near : l.end ≤ 512 + l.from * 2 ^ 33;
   behind : (columns : Layout) → AreStored columns l.storages → behind_from columns l.nulls 0 l.at l.bytes ≡ behind_from (drop l.from columns) l.nulls l.from l.end l.bytes;
 }
 
