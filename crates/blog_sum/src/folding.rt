@@ -11,7 +11,7 @@ ghost use Rattle.std.specs.Simd.Lanes.{put_chunk};
 ghost use Rattle.blog_sum.specs.Crc.{register_after};
 ghost use Rattle.blog_sum.specs.code.Folding.{AreFolded, StandsFor, folded_at};
 
-use crate::register::{after_block, after_blocks};
+use crate::register::after_block;
 use byteorder::{ByteOrder, LittleEndian};
 use std::simd::prelude::*;
 
@@ -21,10 +21,11 @@ const REACH: usize = 304;
 /// How many blocks are folded before the last folded bytes are moved to the front of the scratch.
 const BLOCKS: usize = 64;
 
-/// The register after the bytes.
-pub fn after_long(register: u32, mut bytes: &[u8]) -> u32
+/// The register after all but the last bytes, which are fewer than sixteen, and these bytes.
+pub fn after_long(register: u32, mut bytes: &[u8]) -> (u32, &[u8])
     requires { 304 ≤ length bytes.now }
-    ensures { result ≡ register_after register bytes.entry.now }
+    ensures few { length result.1.now < 16 }
+    ensures same { register_after result.0 result.1.now ≡ register_after register bytes.entry.now }
 {
     let mut scratch = [0; REACH + 16 * BLOCKS];
     // 300 places before the first four bytes, so that the register is added to them
@@ -35,7 +36,7 @@ pub fn after_long(register: u32, mut bytes: &[u8]) -> u32
         keep_last(&mut scratch, chunk.len());
         bytes = rest;
     }
-    after_blocks(after_rest(bytes, &mut scratch), &bytes[REACH..])
+    (after_rest(bytes, &mut scratch), &bytes[REACH..])
 }
 
 /// Folds the bytes, behind the 304 folded bytes before them.

@@ -11,20 +11,12 @@ use byteorder::{ByteOrder, LittleEndian};
 const LONG: usize = 800;
 
 /// The register after the bytes.
-pub fn after_bytes(register: u32, bytes: &[u8]) -> u32
+pub fn after_bytes(mut register: u32, mut bytes: &[u8]) -> u32
     ensures { result ≡ register_after register bytes.entry.now }
 {
-    if bytes.len() < LONG {
-        after_blocks(register, bytes)
-    } else {
-        after_long(register, bytes)
+    if bytes.len() >= LONG {
+        (register, bytes) = after_long(register, bytes);
     }
-}
-
-/// The register after the bytes, block by block.
-pub fn after_blocks(mut register: u32, mut bytes: &[u8]) -> u32
-    ensures { result ≡ register_after register bytes.entry.now }
-{
     'blocks: while let Some((block, rest)) = bytes.split_first_chunk::<16>() {
         register = after_block(register, block);
         bytes = rest;

@@ -31,9 +31,9 @@ chunks-preserved c =
       rest = omega arith;
     }
 
-pub returns : goal.returns
-returns c =
+pub returns-clause-same : goal.returns-clause-same
+returns-clause-same c =
     let bytes = c.chunks.bytes.now in
     let register = c.chunks.invariant.register in
-    c.after_blocks.ensures ∙ (λ i. register_after (c.after_rest.ensures register c.chunks.invariant.stands i) (to-the-end 304 bytes i))
+    (λ i. register_after (c.after_rest.ensures register c.chunks.invariant.stands i) (to-the-end 304 bytes i))
     ∙ in-two 304 register bytes ∙ c.chunks.invariant.same

@@ -1,7 +1,7 @@
 use Rattle.std.proofs.Common.{drop, ap, ◌∙◌}
 use Rattle.blog_sum.specs.Crc.{register_after}
 use Rattle.blog_sum.proofs.Bytes.{in-two}
-use Rattle.blog_sum.proofs.register.after_blocks.Goals as goal
+use Rattle.blog_sum.proofs.register.after_bytes.Goals as goal
 
 pub blocks-2-preserved : goal.blocks-2-preserved
 blocks-2-preserved c =

@@ -1,6 +1,6 @@
 use Rattle.std.proofs.Common.{◌≡◌, length}
 use Rattle.blog_sum.specs.Crc.{register_after}
-use Rattle.blog_sum.proofs.register.after_blocks.Given as goal
+use Rattle.blog_sum.proofs.register.after_bytes.Given as goal
 
 -- what is still to be done
 abbrev pub invariant-blocks-2 : goal.invariant-blocks-2
