@@ -1,5 +1,5 @@
 -- What the table of column types says of the metadata of a type. No type is named: it holds whatever the table has.
-use Rattle.std.proofs.Common.{◌≡◌, ◌<◌, ℕ, true, List, [], ◌∷◌, length, get_or, Option, Some, None, option_map, option_and_then, is_some, refl, ap, ◌∙◌, arith}
+use Rattle.std.proofs.Common.{◌≡◌, ◌<◌, ◌≤◌, ℕ, true, List, [], ◌∷◌, length, get_or, Option, Some, None, option_map, option_and_then, is_some, refl, ap, ◌∙◌, arith}
 use Rattle.std.proofs.lemmas.List.{nil_from_length}
 use Rattle.blog_row.specs.Column.{Column, Storage, Rule, Plain, ByByte, ByPair, rule_of, rule_len, rule_storage, metadata_len_of, storage_by, storage_of, is_column}
 use Rattle.blog_row.proofs.Cutting.{none_is_not, and_then_found}
@@ -28,11 +28,40 @@ column_len column e = by_case (storage_of column) refl e
     by_case None found h = absurd (cc)
     by_case (Some s) found h = stored_len column.kind column.metadata s found
 
+-- a type of the profile has at most two bytes of metadata
+rule_few : (rule : Rule) → rule_len rule ≤ 2
+rule_few (Plain storage) = omega arith
+rule_few (ByByte storage) = omega arith
+rule_few (ByPair storage) = omega arith
+
+pub len_few : (kind len : ℕ) → metadata_len_of kind ≡ Some len → len ≤ 2
+unfolding metadata_len_of
+len_few kind len e = by_rule (rule_of kind) e
+  where
+    by_rule : (o : Option Rule) → option_map rule_len o ≡ Some len → len ≤ 2
+    by_rule None h = none_is_not len h
+    by_rule (Some rule) h = let same : rule_len rule ≡ len = cc in omega (arith, rule_few rule)
+
 -- ---- metadata of so many bytes
 
 -- of no byte
 pub stored_by_none : (kind : ℕ) (metadata : List ℕ) → length metadata ≡ 0 → storage_by kind metadata ≡ storage_by kind []
 stored_by_none kind metadata e = ap (storage_by kind) (nil_from_length metadata e)
+
+-- which is allowed where the type has none
+rule_without : (rule : Rule) (metadata : List ℕ) → rule_len rule ≡ 0 → length metadata ≡ 0 → is_some (rule_storage rule metadata) ≡ true
+rule_without (Plain storage) [] none e = refl
+rule_without (Plain storage) (x ∷ more) none e = absurd (omega arith)
+rule_without (ByByte storage) metadata none e = absurd (omega arith)
+rule_without (ByPair storage) metadata none e = absurd (omega arith)
+
+pub stored_without : (kind : ℕ) (metadata : List ℕ) → metadata_len_of kind ≡ Some (length metadata) → length metadata ≡ 0 → is_some (storage_by kind metadata) ≡ true
+unfolding storage_by metadata_len_of
+stored_without kind metadata len none = by_rule (rule_of kind) len
+  where
+    by_rule : (o : Option Rule) → option_map rule_len o ≡ Some (length metadata) → is_some (option_and_then (λ (rule : Rule). rule_storage rule metadata) o) ≡ true
+    by_rule None h = none_is_not (length metadata) h
+    by_rule (Some rule) h = let same : rule_len rule ≡ length metadata = cc in rule_without rule metadata (same ∙ none) none
 
 -- of one byte
 pub stored_by_byte : (kind : ℕ) (metadata : List ℕ) → length metadata ≡ 1 → storage_by kind metadata ≡ storage_by kind (get_or metadata 0 0 ∷ [])

@@ -3,6 +3,7 @@ pub mod Cutting
 pub mod PackedLemmas
 pub mod Images
 pub mod ColumnTypes
+pub mod MetadataBounds
 pub mod NameLemmas
 pub mod Layouts
 pub mod Bodies

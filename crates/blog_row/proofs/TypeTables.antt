@@ -2,9 +2,9 @@
 use Rattle.std.proofs.Common.{◌≡◌, ◌≢◌, ℕ, zero, suc, ◌+◌, ◌<◌, Bool, true, false, ◌&&◌, ◌||◌, T, eqb, List, [], ◌∷◌, length, take, get_or, Option, Some, None, option_and_then, is_some, ◌==◌, refl, sym, ap, ◌∙◌, subst, arith, eqb→eq}
 use Rattle.std.proofs.lemmas.Bool.{eqb-true, and_parts}
 use lib.Ieee.Fits.{and_l, and_r}
-use Rattle.blog_row.specs.declared.type_tables.TheConstants.{METADATA_LENS, PLAIN_WIDTHS, DIGITS_WIDTHS}
+use Rattle.blog_row.specs.declared.type_tables.TheConstants.{METADATA_LENS, MARKED_LENS, PLAIN_WIDTHS, DIGITS_WIDTHS}
 use Rattle.blog_row.specs.Column.{Storage, Fixed, Counted, Rule, ByByte, when, column_types, digits_width, rule_of, rule_storage, metadata_len_of, own_metadata_len, storage_by, storage_of, is_column}
-use Rattle.blog_row.specs.code.LayoutReading.{column_here}
+use Rattle.blog_row.specs.code.LayoutReading.{column_here, marked_metadata_len}
 
 -- each entry passes a test, with its number
 abbrev are_right : (ℕ → ℕ → Bool) → ℕ → List ℕ → Bool
@@ -31,6 +31,16 @@ unfolding metadata_len_of column_types
 own_len_at kind h =
     let same : 0 + kind ≡ kind = omega arith in
     eqb→eq (get_or METADATA_LENS kind 0) (own_metadata_len kind) (subst (λ n. T (is_len n (get_or METADATA_LENS kind 0))) same (right_at is_len 0 METADATA_LENS tt kind h))
+
+abbrev is_marked_len : ℕ → ℕ → Bool
+is_marked_len kind len = eqb len (marked_metadata_len kind)
+
+-- computed over all entries
+pub marked_len_at : (kind : ℕ) → kind < 256 → get_or MARKED_LENS kind 0 ≡ marked_metadata_len kind
+unfolding metadata_len_of column_types
+marked_len_at kind h =
+    let same : 0 + kind ≡ kind = omega arith in
+    eqb→eq (get_or MARKED_LENS kind 0) (marked_metadata_len kind) (subst (λ n. T (is_marked_len n (get_or MARKED_LENS kind 0))) same (right_at is_marked_len 0 MARKED_LENS tt kind h))
 
 -- ---- widths
 

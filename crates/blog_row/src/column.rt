@@ -1,7 +1,7 @@
 //! How the value of a column is stored.
 
-ghost use Rattle.std.specs.Prelude.{◌≡◌, ◌≤◌, ◌==◌, ◌^◌, ◌-◌, [], ◌∷◌, option_map, IfSome};
-ghost use Rattle.blog_row.specs.Column.{Fixed, when, with_fraction, counted_in, counted_up_to, decimal_storage, string_storage, metadata_len_of, storage_by};
+ghost use Rattle.std.specs.Prelude.{◌≡◌, ◌≤◌, ◌==◌, ◌^◌, ◌-◌, [], ◌∷◌, option_map};
+ghost use Rattle.blog_row.specs.Column.{Fixed, when, with_fraction, counted_in, counted_up_to, decimal_storage, string_storage, storage_by};
 ghost use Rattle.blog_row.specs.code.StorageView.{prefix_seen, storage_seen};
 
 use crate::constants::{
@@ -54,38 +54,6 @@ pub(crate) enum Storage {
     Fixed(u16),
     /// Behind its length in bytes.
     Counted(Prefix),
-}
-
-/// How many bytes of metadata a type has, where the profile has the type
-/// (MySQL Internals manual, "Table_map_event").
-#[inline(always)]
-#[tactic(auto, unfolding(crate::specs::Column::metadata_len_of, crate::specs::Column::column_types))]
-pub(crate) fn metadata_len(kind: u8) -> Option<usize>
-    ensures exact { result ≡ metadata_len_of kind }
-    ensures few { IfSome result (λ len. len ≤ 2) }
-{
-    match kind {
-        MYSQL_TYPE_TINY
-        | MYSQL_TYPE_SHORT
-        | MYSQL_TYPE_LONG
-        | MYSQL_TYPE_TIMESTAMP
-        | MYSQL_TYPE_LONGLONG
-        | MYSQL_TYPE_INT24
-        | MYSQL_TYPE_DATE
-        | MYSQL_TYPE_TIME
-        | MYSQL_TYPE_DATETIME
-        | MYSQL_TYPE_YEAR => Some(0),
-        MYSQL_TYPE_FLOAT
-        | MYSQL_TYPE_DOUBLE
-        | MYSQL_TYPE_TIMESTAMP2
-        | MYSQL_TYPE_DATETIME2
-        | MYSQL_TYPE_TIME2
-        | MYSQL_TYPE_JSON
-        | MYSQL_TYPE_BLOB
-        | MYSQL_TYPE_GEOMETRY => Some(1),
-        MYSQL_TYPE_VARCHAR | MYSQL_TYPE_BIT | MYSQL_TYPE_NEWDECIMAL | MYSQL_TYPE_STRING => Some(2),
-        _ => None,
-    }
 }
 
 /// The bytes of a length up to the greatest length.

@@ -7,15 +7,18 @@ ghost use Rattle.blog_row.specs.Column.{metadata_total, columns_of, storage_of, 
 ghost use Rattle.blog_row.specs.code.LayoutReading.{column_here, are_known, total_of, types_front, metadata_front};
 ghost use Rattle.blog_row.specs.code.StorageView.{storage_seen};
 
-use crate::column::{Storage, metadata_len, stored_as};
+use crate::column::{Storage, stored_as};
 use crate::fault::RowFault;
 use crate::image::cut_at;
 use crate::names::names_at;
 use crate::packed::packed_at;
 use crate::storages::{len_by, storages_of};
-use crate::type_tables::own_len;
+use crate::type_tables::{is_allowed, marked_len, own_len};
 use crate::typed_walk::len_by_types;
 use crate::values::Values;
+
+/// The most bytes of metadata that 4,096 types of the profile have together.
+const MOST_METADATA: usize = 8192;
 
 /// How many bytes of metadata the types have together, where the profile has each of them.
 fn metadata_len_of_all(kinds: &[u8]) -> Option<usize>
@@ -24,30 +27,33 @@ fn metadata_len_of_all(kinds: &[u8]) -> Option<usize>
 {
     let mut total = 0;
     for kind in kinds {
-        let Some(len) = metadata_len(*kind) else {
+        total += marked_len(*kind);
+        if total > MOST_METADATA {
             return None;
-        };
-        total += len;
+        }
     }
     Some(total)
 }
 
-/// Whether each column's metadata is allowed.
+/// Whether each column's metadata is allowed. Each column is asked for by the two bytes at its place, without a branch on
+/// how many of them it has; at the end the last byte stands for those that are not there.
 fn are_columns(kinds: &[u8], metadata: &[u8]) -> bool
     requires known { are_known kinds.now ≡ true }
     requires whole { metadata_total kinds.now ≡ length metadata.now }
     ensures { result ≡ list_all is_column (columns_of kinds.now metadata.now) }
 {
-    let mut left = metadata;
+    if metadata.is_empty() {
+        return true;
+    }
+    let last = metadata.len() - 1;
+    let mut at: usize = 0;
     for kind in kinds {
-        let Some(len) = metadata_len(*kind) else {
-            unreachable!();
-        };
-        let (own, others) = left.split_at(len);
-        if stored_as(*kind, own).is_none() {
+        let first = metadata[at.min(last)];
+        let second = metadata[(at + 1).min(last)];
+        if !is_allowed(*kind, first, second) {
             return false;
         }
-        left = others;
+        at += own_len(*kind);
     }
     true
 }

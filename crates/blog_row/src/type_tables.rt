@@ -1,11 +1,14 @@
 //! What the number of a column's type says by itself, and a number of digits, in tables: a look-up takes less time than
-//! going by the cases of `metadata_len` and `stored_as`, or dividing.
+//! going by the cases of `stored_as`, or dividing.
 
-ghost use Rattle.std.specs.Prelude.{◌≡◌, ℕ, List, Some, IfSome, true};
-ghost use Rattle.blog_row.specs.Column.{Fixed, digits_width, own_metadata_len, storage_of, is_column};
-ghost use Rattle.blog_row.specs.code.LayoutReading.{column_here};
+ghost use Rattle.std.specs.Prelude.{◌≡◌, ℕ, List, [], ◌∷◌, Some, IfSome, is_some, true};
+ghost use Rattle.blog_row.specs.Column.{Fixed, digits_width, metadata_len_of, own_metadata_len, storage_of, is_column};
+ghost use Rattle.blog_row.specs.code.LayoutReading.{column_here, marked_metadata_len};
 
-/// How many bytes of metadata each type has; 0 where the profile lacks it.
+use crate::constants::MYSQL_TYPE_NEWDECIMAL;
+
+/// How many bytes of metadata each type has; 0 where the profile lacks it
+/// (MySQL Internals manual, "Table_map_event").
 #[rattlefmt::skip]
 static METADATA_LENS: [u8; 256] = [
     0, 0, 0, 0, 1, 1, 0, 0, 0, 0, 0, 0, 0, 0, 0, 2,
@@ -24,6 +27,71 @@ static METADATA_LENS: [u8; 256] = [
     0, 0, 0, 0, 0, 0, 0, 0, 0, 0, 0, 0, 0, 0, 0, 0,
     0, 0, 0, 0, 0, 0, 0, 0, 0, 0, 0, 0, 0, 0, 0, 0,
     0, 0, 0, 0, 0, 1, 2, 0, 0, 0, 0, 0, 1, 0, 2, 1,
+];
+
+/// The same, but 16,384 where the profile lacks the type: more than 4,096 types of the profile have together, so that
+/// a sum over them shows it.
+#[rattlefmt::skip]
+static MARKED_LENS: [u16; 256] = [
+    16384, 0, 0, 0, 1, 1, 16384, 0, 0, 0, 0, 0, 0, 0, 16384, 2,
+    2, 1, 1, 1, 16384, 16384, 16384, 16384, 16384, 16384, 16384, 16384, 16384, 16384, 16384, 16384,
+    16384, 16384, 16384, 16384, 16384, 16384, 16384, 16384, 16384, 16384, 16384, 16384, 16384, 16384, 16384, 16384,
+    16384, 16384, 16384, 16384, 16384, 16384, 16384, 16384, 16384, 16384, 16384, 16384, 16384, 16384, 16384, 16384,
+    16384, 16384, 16384, 16384, 16384, 16384, 16384, 16384, 16384, 16384, 16384, 16384, 16384, 16384, 16384, 16384,
+    16384, 16384, 16384, 16384, 16384, 16384, 16384, 16384, 16384, 16384, 16384, 16384, 16384, 16384, 16384, 16384,
+    16384, 16384, 16384, 16384, 16384, 16384, 16384, 16384, 16384, 16384, 16384, 16384, 16384, 16384, 16384, 16384,
+    16384, 16384, 16384, 16384, 16384, 16384, 16384, 16384, 16384, 16384, 16384, 16384, 16384, 16384, 16384, 16384,
+    16384, 16384, 16384, 16384, 16384, 16384, 16384, 16384, 16384, 16384, 16384, 16384, 16384, 16384, 16384, 16384,
+    16384, 16384, 16384, 16384, 16384, 16384, 16384, 16384, 16384, 16384, 16384, 16384, 16384, 16384, 16384, 16384,
+    16384, 16384, 16384, 16384, 16384, 16384, 16384, 16384, 16384, 16384, 16384, 16384, 16384, 16384, 16384, 16384,
+    16384, 16384, 16384, 16384, 16384, 16384, 16384, 16384, 16384, 16384, 16384, 16384, 16384, 16384, 16384, 16384,
+    16384, 16384, 16384, 16384, 16384, 16384, 16384, 16384, 16384, 16384, 16384, 16384, 16384, 16384, 16384, 16384,
+    16384, 16384, 16384, 16384, 16384, 16384, 16384, 16384, 16384, 16384, 16384, 16384, 16384, 16384, 16384, 16384,
+    16384, 16384, 16384, 16384, 16384, 16384, 16384, 16384, 16384, 16384, 16384, 16384, 16384, 16384, 16384, 16384,
+    16384, 16384, 16384, 16384, 16384, 1, 2, 16384, 16384, 16384, 16384, 16384, 1, 16384, 2, 1,
+];
+
+/// The least that the first byte of each type's metadata may be; a decimal's may be no less than its second byte
+/// (MySQL's field.cc on the metadata of each type).
+#[rattlefmt::skip]
+static LEAST_FIRST: [u8; 256] = [
+    0, 0, 0, 0, 4, 8, 0, 0, 0, 0, 0, 0, 0, 0, 0, 0,
+    0, 0, 0, 0, 0, 0, 0, 0, 0, 0, 0, 0, 0, 0, 0, 0,
+    0, 0, 0, 0, 0, 0, 0, 0, 0, 0, 0, 0, 0, 0, 0, 0,
+    0, 0, 0, 0, 0, 0, 0, 0, 0, 0, 0, 0, 0, 0, 0, 0,
+    0, 0, 0, 0, 0, 0, 0, 0, 0, 0, 0, 0, 0, 0, 0, 0,
+    0, 0, 0, 0, 0, 0, 0, 0, 0, 0, 0, 0, 0, 0, 0, 0,
+    0, 0, 0, 0, 0, 0, 0, 0, 0, 0, 0, 0, 0, 0, 0, 0,
+    0, 0, 0, 0, 0, 0, 0, 0, 0, 0, 0, 0, 0, 0, 0, 0,
+    0, 0, 0, 0, 0, 0, 0, 0, 0, 0, 0, 0, 0, 0, 0, 0,
+    0, 0, 0, 0, 0, 0, 0, 0, 0, 0, 0, 0, 0, 0, 0, 0,
+    0, 0, 0, 0, 0, 0, 0, 0, 0, 0, 0, 0, 0, 0, 0, 0,
+    0, 0, 0, 0, 0, 0, 0, 0, 0, 0, 0, 0, 0, 0, 0, 0,
+    0, 0, 0, 0, 0, 0, 0, 0, 0, 0, 0, 0, 0, 0, 0, 0,
+    0, 0, 0, 0, 0, 0, 0, 0, 0, 0, 0, 0, 0, 0, 0, 0,
+    0, 0, 0, 0, 0, 0, 0, 0, 0, 0, 0, 0, 0, 0, 0, 0,
+    0, 0, 0, 0, 0, 1, 0, 0, 0, 0, 0, 0, 1, 0, 0, 1,
+];
+
+/// The most that the first byte of each type's metadata may be; 255 where there is none.
+#[rattlefmt::skip]
+static MOST_FIRST: [u8; 256] = [
+    255, 255, 255, 255, 4, 8, 255, 255, 255, 255, 255, 255, 255, 255, 255, 255,
+    255, 6, 6, 6, 255, 255, 255, 255, 255, 255, 255, 255, 255, 255, 255, 255,
+    255, 255, 255, 255, 255, 255, 255, 255, 255, 255, 255, 255, 255, 255, 255, 255,
+    255, 255, 255, 255, 255, 255, 255, 255, 255, 255, 255, 255, 255, 255, 255, 255,
+    255, 255, 255, 255, 255, 255, 255, 255, 255, 255, 255, 255, 255, 255, 255, 255,
+    255, 255, 255, 255, 255, 255, 255, 255, 255, 255, 255, 255, 255, 255, 255, 255,
+    255, 255, 255, 255, 255, 255, 255, 255, 255, 255, 255, 255, 255, 255, 255, 255,
+    255, 255, 255, 255, 255, 255, 255, 255, 255, 255, 255, 255, 255, 255, 255, 255,
+    255, 255, 255, 255, 255, 255, 255, 255, 255, 255, 255, 255, 255, 255, 255, 255,
+    255, 255, 255, 255, 255, 255, 255, 255, 255, 255, 255, 255, 255, 255, 255, 255,
+    255, 255, 255, 255, 255, 255, 255, 255, 255, 255, 255, 255, 255, 255, 255, 255,
+    255, 255, 255, 255, 255, 255, 255, 255, 255, 255, 255, 255, 255, 255, 255, 255,
+    255, 255, 255, 255, 255, 255, 255, 255, 255, 255, 255, 255, 255, 255, 255, 255,
+    255, 255, 255, 255, 255, 255, 255, 255, 255, 255, 255, 255, 255, 255, 255, 255,
+    255, 255, 255, 255, 255, 255, 255, 255, 255, 255, 255, 255, 255, 255, 255, 255,
+    255, 255, 255, 255, 255, 4, 255, 255, 255, 255, 255, 255, 4, 255, 255, 4,
 ];
 
 /// How many bytes the values of each type have, where all have as many: of a type without metadata, and of FLOAT and
@@ -76,6 +144,31 @@ pub(crate) fn own_len(kind: u8) -> usize
     ensures { result ≡ own_metadata_len kind }
 {
     usize::from(METADATA_LENS[usize::from(kind)])
+}
+
+/// How many bytes of metadata a type has; 16,384 where the profile lacks it.
+#[inline(always)]
+#[tactic(auto, using(crate::proofs::TypeTables::marked_len_at))]
+pub(crate) fn marked_len(kind: u8) -> usize
+    ensures { result ≡ marked_metadata_len kind }
+{
+    usize::from(MARKED_LENS[usize::from(kind)])
+}
+
+/// Whether a type of the profile allows metadata that begins with these bytes. It has two of them, one or none.
+#[inline(always)]
+#[tactic(auto, using(crate::proofs::MetadataBounds::allowed_is))]
+pub(crate) fn is_allowed(kind: u8, first: u8, second: u8) -> bool
+    requires { is_some (metadata_len_of kind) ≡ true }
+    ensures { result ≡ is_column (column_here kind (first ∷ second ∷ [])) }
+{
+    let index = usize::from(kind);
+    let least = if kind == MYSQL_TYPE_NEWDECIMAL {
+        second
+    } else {
+        LEAST_FIRST[index]
+    };
+    least <= first && first <= MOST_FIRST[index]
 }
 
 /// How many bytes each value of a type has, where its metadata says no more of that.

@@ -1,5 +1,5 @@
 -- Steps of reading a layout: what a walk over type bytes and metadata bytes meets at each column, and the parts of a table map.
-use Rattle.std.specs.Prelude.{ℕ, ◌==◌, nat_le, ◌&&◌, if◌then◌else◌, Bool, List, take, Option, Some, None, is_some, option_and_then, Result, Ok}
+use Rattle.std.specs.Prelude.{ℕ, ◌+◌, ◌==◌, nat_le, ◌&&◌, if◌then◌else◌, Bool, List, [], ◌∷◌, take, Option, Some, None, is_some, option_and_then, unwrap_or, Result, Ok}
 use Rattle.std.specs.List.{list_all}
 use Rattle.blog_row.specs.declared.fault.RowFault.{RowFault}
 use Rattle.blog_row.specs.Checks.{◌>>=◌, cut}
@@ -20,6 +20,15 @@ are_known kinds = list_all (λ kind. is_some (metadata_len_of kind)) kinds
 -- how many bytes of metadata the types have together, where the profile has each of them
 abbrev pub total_of : List ℕ → Option ℕ
 total_of kinds = if are_known kinds then Some (metadata_total kinds) else None
+
+-- how many bytes of metadata a type has; 16,384 where the profile lacks it
+abbrev pub marked_metadata_len : ℕ → ℕ
+marked_metadata_len kind = unwrap_or (metadata_len_of kind) 16384
+
+-- the sum of these
+abbrev pub marked_total : List ℕ → ℕ
+marked_total [] = 0
+marked_total (kind ∷ kinds) = marked_metadata_len kind + marked_total kinds
 
 -- ---- parts of a table map
 
