@@ -1,5 +1,5 @@
 -- How the code looks up how columns are stored, and how it walks over an image by that.
-use Rattle.std.proofs.Common.{◌≡◌, ◌≢◌, ◌<◌, ◌≤◌, ℕ, zero, suc, ◌+◌, ◌/◌, ◌%◌, ◌^◌, min, true, false, List, [], ◌∷◌, ◌++◌, length, take, drop, get_or, Option, Some, None, option_and_then, refl, sym, ap, ◌∙◌, subst, arith}
+use Rattle.std.proofs.Common.{◌≡◌, ◌≢◌, ◌<◌, ◌≤◌, ℕ, zero, suc, ◌+◌, ◌/◌, ◌%◌, ◌^◌, min, true, false, List, [], ◌∷◌, ◌++◌, length, take, drop, map, get_or, Option, Some, None, option_and_then, refl, sym, ap, ◌∙◌, subst, arith}
 use Rattle.std.specs.List.{list_all}
 use Rattle.std.proofs.lemmas.List.{append-nil, drop_all, drop-drop, drop_more}
 use Rattle.blog_row.specs.declared.column.Storage as told
@@ -127,3 +127,19 @@ looked_up_all kinds metadata left storages i e l =
     let stored : AreStored [] [] = tt in
     let all = l.so_far [] (subst (λ (columns : Layout). AreStored columns []) none stored) in
     subst (AreStored (columns_of kinds metadata)) (append-nil (take i storages) ∙ ap (λ (n : ℕ). take n storages) e) all
+
+-- ---- as an equation of lists, which a struct can hold
+
+-- how columns are stored that are stored so
+pub stored_lists : (columns : Layout) (storages : List told.Storage) → AreStored columns storages → map storage_of columns ≡ map (λ storage. Some (storage_seen storage)) storages
+stored_lists [] [] stored = refl
+stored_lists [] (storage ∷ storages) stored = absurd stored
+stored_lists (column ∷ columns) [] stored = absurd stored
+stored_lists (column ∷ columns) (storage ∷ storages) stored = let here = stored.0 in let others = stored_lists columns storages stored.1 in cc
+
+-- and the reverse
+pub stored_by_lists : (columns : Layout) (storages : List told.Storage) → map storage_of columns ≡ map (λ storage. Some (storage_seen storage)) storages → AreStored columns storages
+stored_by_lists [] [] e = tt
+stored_by_lists [] (storage ∷ storages) e = absurd (cc)
+stored_by_lists (column ∷ columns) [] e = absurd (cc)
+stored_by_lists (column ∷ columns) (storage ∷ storages) e = (cc, stored_by_lists columns storages cc)

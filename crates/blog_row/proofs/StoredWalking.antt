@@ -7,7 +7,7 @@ use Rattle.blog_row.specs.Image.{is_marked, values_front}
 use Rattle.blog_row.specs.code.StorageView.{AreStored, AreLookedUp, storage_seen}
 use Rattle.blog_row.specs.code.StoredLayoutView.{IsStoredAt}
 use Rattle.blog_row.proofs.Walking.{front_is}
-use Rattle.blog_row.proofs.StorageWalking.{First, first, stored_behind, as_many_stored}
+use Rattle.blog_row.proofs.StorageWalking.{First, first, stored_behind, as_many_stored, stored_by_lists}
 use Rattle.blog_row.proofs.ValueWalking.{FirstOf, row_read, none_read, null_first, value_first, value_there}
 
 -- ---- how a column is stored
@@ -22,8 +22,9 @@ pub stored_looked_up : (columns : Layout) (storages : Option (List told.Storage)
 stored_looked_up columns storages all i d e known below =
     let own : List told.Storage = take (length columns) all in
     let there : AreLookedUp columns (Some all) = subst (AreLookedUp columns) e known in
-    let long : i < length own = let same = as_many_stored columns own there.1 in omega (arith, same, below) in
-    let f : First (drop i columns) (get_or own i d) = first (drop i columns) (get_or own i d) (drop (i + 1) own) (subst (AreStored (drop i columns)) (drop_more own i d long) (stored_behind i columns own there.1)) in
+    let stored : AreStored columns own = stored_by_lists columns own there.1 in
+    let long : i < length own = let same = as_many_stored columns own stored in omega (arith, same, below) in
+    let f : First (drop i columns) (get_or own i d) = first (drop i columns) (get_or own i d) (drop (i + 1) own) (subst (AreStored (drop i columns)) (drop_more own i d long) (stored_behind i columns own stored)) in
     let same : get_or own i d ≡ get_or all i d = get_or-take (length columns) all i d below in
     subst (IsStoredAt columns i) same (f.column, f.are ∙ ap (λ (t : Layout). f.column ∷ t) (drop-drop 1 i columns), f.here)
 

@@ -1,6 +1,5 @@
 -- What only contracts of code need: its structs as values, and running states.
 pub mod StorageView
-pub mod StorageProps
 pub mod ImageView
 pub mod LayoutReading
 pub mod LayoutView

@@ -27,32 +27,32 @@ fn pays_wide(layout: &Layout<'_>, len: usize) -> bool
     MOST_STORAGES < columns && columns + MOST_WIDE_STORAGES < len
 }
 
-/// How each column is stored, where it pays to look it up before images of so many bytes are read.
+/// How each column is stored, where it pays to look it up before images of so many bytes are read one by one.
 pub(crate) fn storages_for(layout: &Layout<'_>, len: usize) -> Option<[Storage; MOST_STORAGES]>
     ensures { AreLookedUp (layout_columns layout.now) result }
 {
     if pays(layout, len) {
-        Some(layout.storages())
+        let mut storages = [Storage::Fixed(0); MOST_STORAGES];
+        layout.look_up(&mut storages);
+        Some(storages)
     } else {
         None
     }
 }
 
-/// How long the image is with which the bytes begin, in bytes, by the storages of the columns where they were looked up;
-/// None where the bytes begin with no image.
+/// The storages of the columns, where they were looked up.
 #[inline(always)]
-pub(crate) fn first_len(
+pub(crate) fn storages_of<'s>(
     layout: &Layout<'_>,
-    storages: &Option<[Storage; MOST_STORAGES]>,
-    bytes: &[u8],
-) -> Option<usize>
+    storages: &'s Option<[Storage; MOST_STORAGES]>,
+) -> Option<&'s [Storage]>
     requires { AreLookedUp (layout_columns layout.now) storages.now }
-    ensures exact { result ≡ image_len_of (layout_columns layout.now) bytes.now }
-    ensures within { IfSome result (λ m. m ≤ length bytes.now) }
+    ensures told { is_some result ≡ is_some storages.now }
+    ensures stored { IfSome result (λ each. AreStored (layout_columns layout.now) each.now) }
 {
     match storages {
-        Some(all) => layout.image_len_by(Some(&all[..layout.columns()]), bytes),
-        None => layout.image_len_by(None, bytes),
+        Some(all) => Some(&all[..layout.columns()]),
+        None => None,
     }
 }
 
@@ -76,7 +76,8 @@ fn many_images_in<const MOST: usize>(layout: &Layout<'_>, bytes: &[u8]) -> Optio
     requires few { length (layout_columns layout.now) ≤ MOST }
     ensures { result ≡ option_map length (images_of (layout_columns layout.now) bytes.now) }
 {
-    let storages: [Storage; MOST] = layout.storages();
+    let mut storages = [Storage::Fixed(0); MOST];
+    layout.look_up(&mut storages);
     count(layout, Some(&storages[..layout.columns()]), bytes)
 }
 
@@ -121,7 +122,8 @@ fn put_many_from_last<const MOST: usize>(layout: &Layout<'_>, bytes: &[u8], to: 
     requires room { length to.old ≡ length bytes.now }
     ensures { to.new ≡ concat (reverse (unwrap_or (images_of (layout_columns layout.now) bytes.now) [])) }
 {
-    let storages: [Storage; MOST] = layout.storages();
+    let mut storages = [Storage::Fixed(0); MOST];
+    layout.look_up(&mut storages);
     put(layout, Some(&storages[..layout.columns()]), bytes, to);
 }
 

@@ -12,7 +12,7 @@ use crate::fault::RowFault;
 use crate::image::cut_at;
 use crate::names::names_at;
 use crate::packed::packed_at;
-use crate::storages::{len_by, storages_of};
+use crate::storages::{len_by, look_up};
 use crate::type_tables::{is_allowed, marked_len, own_len};
 use crate::typed_walk::len_by_types;
 use crate::values::Values;
@@ -161,14 +161,15 @@ impl Layout<'_> {
         len_by_types(self.kinds, self.metadata, bytes)
     }
 
-    /// How each column is stored, where there are at most so many; what stands behind them means nothing.
+    /// Looks up how each column is stored. The storages behind those of the columns mean nothing.
     #[tactic(auto, using(crate::proofs::Layouts::length_of_columns))]
     #[inline(always)]
-    pub(crate) fn storages<const MOST: usize>(&self) -> [Storage; MOST]
-        requires few { length (layout_columns self.now) ≤ MOST }
-        ensures { AreStored (layout_columns self.now) (take (length (layout_columns self.now)) result) }
+    pub(crate) fn look_up(&self, storages: &mut [Storage])
+        requires few { length (layout_columns self.now) ≤ length storages.old }
+        ensures stored { AreStored (layout_columns self.now) (take (length (layout_columns self.now)) storages.new) }
+        ensures long { length storages.new ≡ length storages.old }
     {
-        storages_of(self.kinds, self.metadata)
+        look_up(self.kinds, self.metadata, storages);
     }
 
     /// Answers as `image_len` does, by the storages of the columns where they were looked up.

@@ -1,17 +1,18 @@
 //! Going through the rows of a rows event.
 
 ghost use Rattle.std.specs.Prelude.{◌≡◌, ◌≤◌, ◌+◌, is_some, true, length, option_to_list, Some, IfSome};
+ghost use Rattle.std.proofs.Props.{props};
 ghost use Rattle.blog_row.specs.Image.{images_of};
 ghost use Rattle.blog_row.specs.code.LayoutView.{layout_columns};
 ghost use Rattle.blog_row.specs.code.StorageView.{AreLookedUp};
-ghost use Rattle.blog_row.specs.code.StorageProps.{looked_up_prop};
 
 use crate::column::Storage;
-use crate::image_walks::{first_len, storages_for};
+use crate::image_walks::{storages_for, storages_of};
 use crate::kind::RowsAction;
 use crate::layout::Layout;
 use crate::rows_event::RowsEvent;
 use crate::storages::MOST_STORAGES;
+use std::fmt;
 
 /// A row of a rows event: its images as they stand in the log.
 #[derive(Clone, Copy, Debug, PartialEq, Eq)]
@@ -23,7 +24,7 @@ pub struct RowChange<'a> {
 }
 
 /// The rows of a rows event, in order. An update's row is two images, the one before and the one after.
-#[derive(Debug, Drop)]
+#[derive(Drop)]
 pub struct Rows<'a> {
     action: RowsAction,
     layout: Layout<'a>,
@@ -32,7 +33,18 @@ pub struct Rows<'a> {
     // The images that are left.
     rest: &'a [u8],
     pub ghost imaged: { is_some (images_of (layout_columns layout) rest.now) ≡ true },
-    pub ghost stored: { AreLookedUp (layout_columns layout) storages } by { looked_up_prop _ _ },
+    pub ghost stored: { AreLookedUp (layout_columns layout) storages } by { Prim.hlevel props },
+}
+
+/// The storages follow from the layout, so they aren't shown.
+impl fmt::Debug for Rows<'_> {
+    fn fmt<W: fmt::Write>(&self, f: &mut fmt::Formatter<W>) -> fmt::Result {
+        f.debug_struct("Rows")
+            .field("action", &self.action)
+            .field("layout", &self.layout)
+            .field("rest", &self.rest)
+            .finish()
+    }
 }
 
 impl<'a> RowsEvent<'a> {
@@ -67,7 +79,8 @@ impl<'a> Rows<'a> {
         ensures action { self.new.action ≡ self.old.action }
         ensures bytes { length self.new.rest.now + length (option_to_list result) ≤ length self.old.rest.now }
     {
-        let len = first_len(&self.layout, &self.storages, self.rest)?;
+        let storages = storages_of(&self.layout, &self.storages);
+        let len = self.layout.image_len_by(storages, self.rest)?;
         let (image, behind) = self.rest.split_at(len);
         self.rest = behind;
         Some(image)

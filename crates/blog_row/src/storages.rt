@@ -13,31 +13,30 @@ use crate::image::{cut_at, stored_end};
 use crate::layout::column_at;
 use byteorder::{ByteOrder, LittleEndian};
 
-/// The most columns whose storages take little room. They are looked up where rows are read one by one, too.
+/// The most columns whose storages take little room. They are looked up where images are read one by one, too.
 pub(crate) const MOST_STORAGES: usize = 64;
 
 /// The most columns whose storages are looked up for many images: as many as a table has.
 pub(crate) const MOST_WIDE_STORAGES: usize = 4096;
 
-/// The storages of columns, in order; those behind them mean nothing.
+/// Looks up how each column is stored. The storages behind those of the columns mean nothing.
 #[inline(always)]
-pub(crate) fn storages_of<const MOST: usize>(kinds: &[u8], metadata: &[u8]) -> [Storage; MOST]
-    requires few { length kinds.now ≤ MOST }
+pub(crate) fn look_up(kinds: &[u8], metadata: &[u8], storages: &mut [Storage])
+    requires few { length kinds.now ≤ length storages.old }
     requires known { list_all is_column (columns_of kinds.now metadata.now) ≡ true }
-    ensures { AreStored (columns_of kinds.now metadata.now) (take (length kinds.now) result) }
+    ensures stored { AreStored (columns_of kinds.now metadata.now) (take (length kinds.now) storages.new) }
+    ensures long { length storages.new ≡ length storages.old }
 {
-    let mut storages = [Storage::Fixed(0); MOST];
     let mut left = metadata;
     for i in 0..kinds.len() {
         let (storage, others) = column_at(kinds, i, left);
         storages[i] = storage;
         left = others;
     }
-    storages
 }
 
-/// A number where a value is there, by its null bit, and 0 where it is NULL. No jump depends on the null bit, since a
-/// processor can't foresee irregular ones.
+/// A number where a value is there, by its null bit, and 0 where it is NULL. No branch depends on the null bit, since a
+/// processor can't predict irregular ones.
 #[inline(always)]
 fn if_there(number: u32, null: u8) -> u32
     requires bit { null ≤ 1 }

@@ -3,10 +3,10 @@
 ghost use Rattle.std.specs.Prelude.{◌≡◌, ◌<◌, ◌≤◌, ◌+◌, length};
 ghost use Rattle.blog_row.specs.code.LayoutView.{layout_columns};
 ghost use Rattle.blog_row.specs.code.StorageView.{AreLookedUp};
-ghost use Rattle.blog_row.specs.code.StorageProps.{looked_up_prop};
+ghost use Rattle.std.proofs.Props.{props};
 
 use crate::column::Storage;
-use crate::image_walks::{first_len, storages_for};
+use crate::image_walks::{storages_for, storages_of};
 use crate::layout::{Layout, column_at};
 use crate::storages::MOST_STORAGES;
 use crate::stored_values::StoredValues;
@@ -17,7 +17,7 @@ pub struct StoredLayout<'a> {
     pub(crate) layout: Layout<'a>,
     // How each column is stored, where it was looked up.
     storages: Option<[Storage; MOST_STORAGES]>,
-    pub ghost stored: { AreLookedUp (layout_columns layout) storages } by { looked_up_prop _ _ },
+    pub ghost stored: { AreLookedUp (layout_columns layout) storages } by { Prim.hlevel props },
 }
 
 impl<'a> StoredLayout<'a> {
@@ -62,7 +62,8 @@ impl StoredLayout<'_> {
         ensures values { stored_values_left result ≡ row_of (stored_columns self.now) image.now }
         ensures few { length (stored_values_left result) ≤ 4096 }
     {
-        if first_len(&self.layout, &self.storages, image).is_none() {
+        let storages = storages_of(&self.layout, &self.storages);
+        if self.layout.image_len_by(storages, image).is_none() {
             return StoredValues::none(self);
         }
         StoredValues::of(self, image)

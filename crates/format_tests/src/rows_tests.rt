@@ -291,6 +291,39 @@ fn reads_rows_events(rt: HostRuntime) {
     }
 }
 
+/// The rows of a small event, as `{:#?}` shows them.
+const SHOWN_BY_LINES: &str = "Rows {
+    action: Delete,
+    layout: Layout {
+        kinds: [
+            3,
+        ],
+        metadata: [],
+    },
+    rest: [
+        254,
+        5,
+        0,
+        0,
+        0,
+        255,
+    ],
+}";
+
+#[test]
+fn shows_rows(rt: HostRuntime) {
+    let body = b"\x01\0\0\0\0\0\x03\0\x01\xFF\xFE\x05\0\0\0\xFF";
+    let event = event_of(&rt, DELETE_V1, ONE_LONG, body).expect(&rt, "an event");
+    let rows = event.rows();
+    let shown = format!(in rt.alloc(); "{rows:?}").expect(&rt, "memory");
+    assert!(rt;
+        shown.as_str()
+            == "Rows { action: Delete, layout: Layout { kinds: [3], metadata: [] }, rest: [254, 5, 0, 0, 0, 255] }"
+    );
+    let by_lines = format!(in rt.alloc(); "{rows:#?}").expect(&rt, "memory");
+    assert!(rt; by_lines.as_str() == SHOWN_BY_LINES);
+}
+
 /// The rows event of a body, by its event type.
 fn read_by_type<'a>(
     kind: RowsKind,

@@ -1,5 +1,5 @@
 -- What a contract sees of a storage.
-use Rattle.std.specs.Prelude.{◌≡◌, ◌≤◌, ℕ, List, [], ◌∷◌, length, take, Option, Some, IfSome}
+use Rattle.std.specs.Prelude.{◌≡◌, ◌≤◌, ℕ, List, [], ◌∷◌, length, take, map, Option, Some, IfSome}
 use Rattle.blog_row.specs.declared.column.Prefix.{Prefix}
 use Rattle.blog_row.specs.declared.column.Prefix.TheVariants.{One, Two, Three, Four}
 use Rattle.blog_row.specs.declared.column.Storage as told
@@ -27,4 +27,5 @@ AreStored (column ∷ columns) (storage ∷ storages) = (storage_of column ≡ S
 
 -- where storages were looked up for the columns, which are few then, the first of them are theirs
 abbrev pub AreLookedUp : Layout → Option (List told.Storage) → Type 0
-AreLookedUp columns storages = IfSome storages (λ each. (length columns ≤ 64) × AreStored columns (take (length columns) each))
+AreLookedUp columns storages =
+    IfSome storages (λ each. (length columns ≤ 64) × (map storage_of columns ≡ map (λ storage. Some (storage_seen storage)) (take (length columns) each)))
