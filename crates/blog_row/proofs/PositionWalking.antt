@@ -1,5 +1,5 @@
 -- How the code walks over an image by positions, which may lie past the bytes.
-use Rattle.std.proofs.Common.{◌≡◌, ◌≢◌, ◌<◌, ◌≤◌, ℕ, ◌+◌, ◌-◌, ◌/◌, ◌%◌, ◌^◌, Bool, true, false, leb, eqb, List, [], ◌∷◌, length, take, drop, get_or, Option, Some, None, option_and_then, option_map, refl, sym, ap, ◌∙◌, subst, arith, le-leb, length-append, length-drop, take_at}
+use Rattle.std.proofs.Common.{◌≡◌, ◌≢◌, ◌<◌, ◌≤◌, ℕ, zero, suc, ◌+◌, ◌-◌, ◌/◌, ◌%◌, ◌^◌, Bool, true, false, leb, eqb, List, [], ◌∷◌, length, take, drop, get_or, Option, Some, None, option_and_then, option_map, refl, sym, ap, ◌∙◌, subst, arith, le-leb, length-append, length-drop, take_at}
 use Rattle.std.specs.Prelude.{IfSome}
 use Rattle.std.proofs.lemmas.Bool.{cond-true, cond-false, lt-leb, eq-eqb, leb-true, leb-false}
 use Rattle.std.proofs.lemmas.List.{drop-drop}
@@ -12,7 +12,7 @@ use Rattle.blog_row.specs.code.ImageView.{AreNull}
 use Rattle.blog_row.specs.code.PositionView.{from_position, EndsAt, behind_from}
 use Rattle.blog_row.proofs.Cutting.{map_found}
 use Rattle.blog_row.proofs.Images.{image_found}
-use Rattle.blog_row.proofs.Walking.{first_null, first_there, front_is, nulls_cut}
+use Rattle.blog_row.proofs.Walking.{eight_null, first_null, first_there, front_is, nulls_cut}
 
 -- ---- positions
 
@@ -137,6 +137,21 @@ past_nulls [] nulls i at bytes null = past_all nulls i at bytes
 past_nulls (column ∷ columns) nulls i at bytes null =
     past_null column columns nulls i at bytes (null i (omega arith) (omega arith))
     ∙ past_nulls columns nulls (i + 1) at bytes (λ k low high. null k (omega (arith, low)) (omega (arith, high)))
+
+-- past the next columns, n of them, that are NULL
+past_next_nulls : (n : ℕ) (columns : Layout) (nulls : List ℕ) (i at : ℕ) (bytes : List ℕ) → AreNull nulls i (i + n) → behind_from columns nulls i at bytes ≡ behind_from (drop n columns) nulls (i + n) at bytes
+past_next_nulls zero columns nulls i at bytes null = ap (λ j. behind_from columns nulls j at bytes) (omega arith)
+past_next_nulls (suc n) [] nulls i at bytes null = past_all nulls i at bytes ∙ sym (past_all nulls (i + suc n) at bytes)
+past_next_nulls (suc n) (column ∷ columns) nulls i at bytes null =
+    let next : i + 1 + n ≡ i + suc n = omega arith in
+    past_null column columns nulls i at bytes (null i (omega arith) (omega arith))
+    ∙ past_next_nulls n columns nulls (i + 1) at bytes (λ k low high. null k (omega (arith, low)) (omega (arith, high)))
+    ∙ ap (λ j. behind_from (drop n columns) nulls j at bytes) next
+
+-- past the eight columns of a byte whose bits are all set
+pub past_eight_nulls : (columns : Layout) (nulls : List ℕ) (i at : ℕ) (bytes : List ℕ) → i % 8 ≡ 0 → get_or nulls (i / 8) 0 ≡ 255 → behind_from columns nulls i at bytes ≡ behind_from (drop 8 columns) nulls (i + 8) at bytes
+past_eight_nulls columns nulls i at bytes whole full =
+    past_next_nulls 8 columns nulls i at bytes (eight_null nulls i i (λ k low high. absurd (omega (arith, low, high))) whole full)
 
 -- ---- null bits
 

@@ -1,16 +1,26 @@
-use Rattle.std.proofs.Common.{◌∙◌, ◌≤◌, ◌+◌, ◌-◌, length, arith}
+use Rattle.std.proofs.Common.{◌≡◌, ◌∙◌, ◌≤◌, ◌+◌, ◌-◌, length, drop, arith}
+use Rattle.blog_row.specs.code.PositionView.{behind_from}
+use Rattle.blog_row.proofs.PositionWalking.{past_eight_nulls}
 use Rattle.blog_row.proofs.StorageWalking.{stored_behind, next_columns, all_reached}
 use Rattle.blog_row.proofs.storages.values_end.Goals as goal
+use Rattle.blog_row.proofs.storages.values_end.Goals.{then-nulls-from, else-nulls-from}
 
 pub columns-preserved : goal.columns-preserved
 columns-preserved c = record {
   below = omega (arith, c.columns-test.true);
   whole = omega (arith, c.columns.invariant.whole);
-  near = omega (arith, c.columns.invariant.near, c.columns_end-end.ensures.near);
+  near = elim c.if-nulls-from.branch [
+    | then-nulls-from w ↦ rw w.end-is (omega (arith, c.columns.invariant.near, w.columns_end-end.ensures.near))
+    | else-nulls-from w ↦ rw w.end-is (omega (arith, c.columns.invariant.near))
+  ];
   behind = λ columns stored.
-      c.columns.invariant.behind columns stored
-      ∙ c.columns_end-end.ensures.behind _ (stored_behind c.columns.from columns c.args.storages.now stored)
-      ∙ next_columns columns c.args.nulls.now c.args.bytes.now c.columns.from 8 c.columns_end-end.result;
+      let left = drop c.columns.from columns in
+      let next : behind_from left c.args.nulls.now c.columns.from c.columns.end c.args.bytes.now ≡ behind_from (drop 8 left) c.args.nulls.now (c.columns.from + 8) c.if-nulls-from.end c.args.bytes.now =
+      elim c.if-nulls-from.branch [
+        | then-nulls-from w ↦ rw w.end-is (w.columns_end-end.ensures.behind left (stored_behind c.columns.from columns c.args.storages.now stored))
+        | else-nulls-from w ↦ rw w.end-is (past_eight_nulls left c.args.nulls.now c.columns.from c.columns.end c.args.bytes.now c.columns.invariant.whole w.if-nulls-from.false)
+      ] in
+      c.columns.invariant.behind columns stored ∙ next ∙ next_columns columns c.args.nulls.now c.args.bytes.now c.columns.from 8 c.if-nulls-from.end;
 }
 
 pub returns-then-from-storages : goal.returns-then-from-storages
