@@ -8,30 +8,30 @@ ghost use Rattle.blog_row.specs.code.StorageView.{AreStored, AreLookedUp};
 
 use crate::column::Storage;
 use crate::layout::Layout;
-use crate::storages::{MOST_STORAGES, MOST_WIDE_STORAGES};
+use crate::storages::{LEAST_STORAGES, MOST_STORAGES, MOST_WIDE_STORAGES};
 
 /// Whether it pays to look up how the columns are stored before images of so many bytes are read: where the columns are
-/// few, and the images are several, or have many values of some length.
+/// few, and the images are several.
 fn pays(layout: &Layout<'_>, len: usize) -> bool
     ensures { result ≡ true → length (layout_columns layout.now) ≤ 64 }
 {
     let columns = layout.columns();
-    columns <= MOST_STORAGES && 8 * columns + 128 < len
+    columns <= MOST_STORAGES && 12 * columns + 24 < len
 }
 
-/// The same where the columns are more. The room of their storages is large, so that it takes as many bytes at least.
+/// The same where the columns are more. The room of their storages is large, so that it takes more bytes.
 fn pays_wide(layout: &Layout<'_>, len: usize) -> bool
     ensures { result ≡ true → length (layout_columns layout.now) ≤ 4096 }
 {
     let columns = layout.columns();
-    MOST_STORAGES < columns && columns + MOST_WIDE_STORAGES < len
+    MOST_STORAGES < columns && 12 * columns + 512 < len
 }
 
 /// How each column is stored, where it pays to look it up before images of so many bytes are read one by one.
 pub(crate) fn storages_for(layout: &Layout<'_>, len: usize) -> Option<[Storage; MOST_STORAGES]>
     ensures { AreLookedUp (layout_columns layout.now) result }
 {
-    if pays(layout, len) {
+    if layout.columns() >= LEAST_STORAGES && pays(layout, len) {
         let mut storages = [Storage::Fixed(0); MOST_STORAGES];
         layout.look_up(&mut storages);
         Some(storages)

@@ -13,6 +13,10 @@ use crate::image::{cut_at, stored_end};
 use crate::layout::column_at;
 use byteorder::{ByteOrder, LittleEndian};
 
+/// The fewest columns whose storages are looked up where images are read one by one: of fewer, a processor predicts the
+/// NULLs.
+pub(crate) const LEAST_STORAGES: usize = 4;
+
 /// The most columns whose storages take little room. They are looked up where images are read one by one, too.
 pub(crate) const MOST_STORAGES: usize = 64;
 

@@ -8,6 +8,9 @@ use Rattle.blog_row.proofs.image_walks.pays_wide.Goals as goal
 few : (layout : columns.Layout) → length (layout_columns layout) ≤ 4096
 few layout = omega (arith, layout.few, length_of_columns layout.kinds.now layout.metadata.now)
 
+pub overflow_mul-result : goal.overflow_mul-result
+overflow_mul-result c = omega (arith, few c.args.layout.now, c.columns-columns.ensures)
+
 pub overflow_add-result : goal.overflow_add-result
 overflow_add-result c = omega (arith, few c.args.layout.now, c.columns-columns.ensures)
 
