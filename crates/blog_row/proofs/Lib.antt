@@ -22,4 +22,5 @@ pub mod WrittenBody
 pub mod TypeTables
 pub mod PositionWalking
 pub mod StorageWalking
+pub mod SameNulls
 pub mod StoredWalking

@@ -6,7 +6,7 @@ use Rattle.std.proofs.lemmas.List.{drop-drop}
 use Rattle.byteorder.specs.Endian.{little_number}
 use Rattle.byteorder.specs.Numbers.{little_from-take}
 use Rattle.blog_row.specs.Checks.{cut}
-use Rattle.blog_row.specs.Column.{Column, Layout, Storage, Counted, storage_of, value_stored, value_front}
+use Rattle.blog_row.specs.Column.{Column, Layout, Storage, Fixed, Counted, storage_of, value_stored, value_front}
 use Rattle.blog_row.specs.Image.{Row, bitmap_len, is_marked, IsImage, IsSomeImage, values_front, image_front, image_len_of}
 use Rattle.blog_row.specs.code.ImageView.{AreNull}
 use Rattle.blog_row.specs.code.PositionView.{from_position, EndsAt, behind_from}
@@ -74,6 +74,18 @@ bytes_end len at bytes h = by_case (leb len (length (drop at bytes))) refl
     by_case false e =
         let short : length bytes < at + len = omega (arith, leb-false len (length (drop at bytes)) e, length-drop at bytes, h) in
         sym (position_cut len (drop at bytes)) ∙ cond-false (leb len (length (drop at bytes))) _ _ e ∙ sym (position_past (at + len) bytes short)
+
+-- a value of fixed width
+pub fixed_ends : (width at : ℕ) (bytes : List ℕ) → EndsAt (value_stored (Fixed width)) at bytes (Some (at + width))
+fixed_ends width at bytes = by_case (leb at (length bytes)) refl
+  where
+    by_case : (t : Bool) → leb at (length bytes) ≡ t → EndsAt (value_stored (Fixed width)) at bytes (Some (at + width))
+    by_case true e =
+        let within : at ≤ length bytes = leb-true at (length bytes) e in
+        ap (option_and_then (λ rest. behind_value_of (cut width rest))) (position_within at bytes within) ∙ bytes_end width at bytes within
+    by_case false e =
+        let past : length bytes < at = leb-false at (length bytes) e in
+        ap (option_and_then (λ rest. behind_value_of (cut width rest))) (position_past at bytes past) ∙ sym (position_past (at + width) bytes (omega (arith, past)))
 
 -- a value behind its length
 pub counted_ends : (p at : ℕ) (bytes : List ℕ) → at + p ≤ length bytes → EndsAt (value_stored (Counted p)) at bytes (Some (at + p + little_number p (drop at bytes)))

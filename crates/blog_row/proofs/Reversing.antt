@@ -1,26 +1,35 @@
 -- How images are put in reverse order: from the front of what is left to the end of what is free.
-use Rattle.std.proofs.Common.{reverse, ◌≡◌, ◌+◌, ◌-◌, ◌<◌, ◌≤◌, ℕ, List, [], ◌∷◌, ◌++◌, length, take, drop, Option, Some, None, option_map, sym, ap, ◌∙◌, arith, append_assoc, length-append, drop_at, length-take-le, drop-drop}
+use Rattle.std.proofs.Common.{reverse, is_some, true, unwrap_or, refl, ◌≡◌, ◌+◌, ◌-◌, ◌<◌, ◌≤◌, ℕ, List, [], ◌∷◌, ◌++◌, length, take, drop, Option, Some, None, option_map, sym, ap, ◌∙◌, arith, append_assoc, length-append, drop_at, length-take-le, drop-drop}
 use Rattle.std.specs.List.{concat}
-use Rattle.std.proofs.lemmas.List.{append-nil, reverse-append}
+use Rattle.std.proofs.lemmas.List.{append-nil, drop_all, reverse-append}
 use Rattle.std.proofs.lemmas.List.Folds.{concat-append}
 use Rattle.std.proofs.lemmas.Option.{same_Some}
 use Rattle.blog_row.specs.Column.{Layout}
 use Rattle.blog_row.specs.Image.{image_len_of, images_up_to, images_of}
+use Rattle.blog_row.specs.code.ReversingView.{Written}
 use Rattle.blog_row.proofs.Cutting.{map_found}
 use Rattle.blog_row.proofs.RowsCode.{counted, OneImage, count_stops}
-
--- the images that are left are read from the rest, and those before them stand in reverse order behind the room for these
-pub record Written (layout : Layout) (all : List (List ℕ)) (rest to : List ℕ) : Type 0 where
-  pub left : List (List ℕ)
-  pub left_is : images_of layout rest ≡ Some left
-  pub within : length rest ≤ length to
-  pub text : concat (reverse all) ≡ concat (reverse left) ++ drop (length rest) to
 
 -- the first image comes last
 joined_reverse : (image : List ℕ) (images : List (List ℕ)) → concat (reverse (image ∷ images)) ≡ concat (reverse images) ++ image
 joined_reverse image images =
     ap concat (reverse-append (image ∷ []) images) ∙ concat-append (reverse images) (image ∷ [])
     ∙ ap (λ (t : List ℕ). concat (reverse images) ++ t) (append-nil image)
+
+-- nothing is written
+pub written_none : (layout : Layout) (bytes to : List ℕ) → is_some (images_of layout bytes) ≡ true → length to ≡ length bytes → Written layout (unwrap_or (images_of layout bytes) []) bytes to
+written_none layout bytes to imaged room = by_case (images_of layout bytes) refl imaged
+  where
+    by_case : (o : Option (List (List ℕ))) → images_of layout bytes ≡ o → is_some o ≡ true → Written layout (unwrap_or o []) bytes to
+    by_case None e some = absurd (cc)
+    by_case (Some images) e some =
+        let none : drop (length bytes) to ≡ [] = drop_all (length bytes) to (omega (arith, room)) in
+        record {
+          left = images;
+          left_is = e;
+          within = omega (arith, room);
+          text = sym (ap (λ (t : List ℕ). concat (reverse images) ++ t) none ∙ append-nil (concat (reverse images)));
+        }
 
 -- what is left begins with an image
 pub written_there : {P : Type 0} (layout : Layout) (all : List (List ℕ)) (rest to : List ℕ) → Written layout all rest to → 0 < length rest → image_len_of layout rest ≡ None → P

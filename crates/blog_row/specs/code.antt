@@ -9,3 +9,5 @@ pub mod ValuesView
 pub mod StoredLayoutView
 pub mod StoredValuesView
 pub mod PositionView
+pub mod SameNullsView
+pub mod ReversingView

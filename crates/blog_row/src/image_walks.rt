@@ -8,6 +8,7 @@ ghost use Rattle.blog_row.specs.code.StorageView.{AreStored, AreLookedUp};
 
 use crate::column::Storage;
 use crate::layout::Layout;
+use crate::same_nulls::{count_same, put_same};
 use crate::storages::{LEAST_STORAGES, MOST_STORAGES, MOST_WIDE_STORAGES};
 
 /// Whether it pays to look up how the columns are stored before images of so many bytes are read: where the columns are
@@ -87,8 +88,10 @@ fn count(layout: &Layout<'_>, storages: Option<&[Storage]>, bytes: &[u8]) -> Opt
     requires { IfSome storages (λ each. AreStored (layout_columns layout.now) each.now) }
     ensures { result ≡ option_map length (images_of (layout_columns layout.now) bytes.now) }
 {
-    let mut rest = bytes;
-    let mut images = 0;
+    let (mut images, mut rest) = match storages {
+        Some(storages) => count_same(storages, bytes),
+        None => (0, bytes),
+    };
     while !rest.is_empty() {
         let len = layout.image_len_by(storages, rest)?;
         let (_, behind) = rest.split_at(len);
@@ -135,7 +138,10 @@ fn put(layout: &Layout<'_>, storages: Option<&[Storage]>, bytes: &[u8], to: &mut
     requires room { length to.old ≡ length bytes.now }
     ensures { to.new ≡ concat (reverse (unwrap_or (images_of (layout_columns layout.now) bytes.now) [])) }
 {
-    let mut rest = bytes;
+    let mut rest = match storages {
+        Some(storages) => put_same(storages, bytes, to),
+        None => bytes,
+    };
     while !rest.is_empty() {
         let Some(len) = layout.image_len_by(storages, rest) else {
             unreachable!();

@@ -16,6 +16,7 @@ mod packed;
 mod rows;
 mod rows_event;
 mod rows_parts;
+mod same_nulls;
 mod storages;
 mod stored_layout;
 mod stored_values;

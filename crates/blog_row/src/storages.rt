@@ -45,7 +45,7 @@ pub(crate) fn look_up(kinds: &[u8], metadata: &[u8], storages: &mut [Storage])
 /// A number where a value is there, by its null bit, and 0 where it is NULL. No branch depends on the null bit, since a
 /// processor can't predict irregular ones.
 #[inline(always)]
-fn if_there(number: u32, null: u8) -> u32
+pub(crate) fn if_there(number: u32, null: u8) -> u32
     requires bit { null ≤ 1 }
     ensures there { null ≡ 0 → result ≡ number }
     ensures absent { null ≡ 1 → result ≡ 0 }

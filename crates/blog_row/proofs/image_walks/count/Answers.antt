@@ -1,8 +1,15 @@
 use Rattle.std.proofs.Common.{◌≡◌, ◌<◌, ◌∙◌, length, sym, arith}
 use Rattle.std.proofs.lemmas.Grind.{common_steps}
 use Rattle.blog_row.specs.code.LayoutView.{layout_columns}
+use Rattle.blog_row.specs.code.StorageView.{AreStored}
 use Rattle.blog_row.proofs.RowsCode.{OneImage, some_columns, one_image, count_step, count_stops, count_ends}
+use Rattle.blog_row.proofs.StorageWalking.{as_many_stored}
 use Rattle.blog_row.proofs.image_walks.count.Goals as goal
+
+pub count_same-requires : goal.count_same-requires
+count_same-requires c =
+    let stored : AreStored (layout_columns c.args.layout.now) c.in-Some.storages.now = rw c.in-Some.is at c.requires in
+    record { some = omega (arith, as_many_stored (layout_columns c.args.layout.now) c.in-Some.storages.now stored, some_columns c.args.layout.now) }
 
 pub returns-in_err-len : goal.returns-in_err-len
 returns-in_err-len c =

@@ -1,7 +1,7 @@
 use Rattle.std.proofs.Common.{[], length, unwrap_or}
 use Rattle.blog_row.specs.Image.{images_of}
 use Rattle.blog_row.specs.code.LayoutView.{layout_columns}
-use Rattle.blog_row.proofs.Reversing.{Written}
+use Rattle.blog_row.specs.code.ReversingView.{Written}
 use Rattle.blog_row.proofs.image_walks.put.Given as goal
 
 abbrev pub invariant-loop-rest : goal.invariant-loop-rest

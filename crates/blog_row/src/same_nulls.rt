@@ -1,0 +1,154 @@
+//! How long images are, by their null bits alone. A processor predicts that an image begins with the null bits of the one
+//! before, and goes on behind it without waiting for them. It is so for a few columns of fixed width.
+
+ghost use Rattle.std.specs.Prelude.{◌≡◌, ◌<◌, ◌≤◌, ◌+◌, true, ℕ, List, is_some, Some, length, slice_get, option_map, IfSome};
+ghost use Rattle.blog_row.specs.Column.{Layout};
+ghost use Rattle.blog_row.specs.Image.{image_len_of, images_of};
+ghost use Rattle.blog_row.specs.code.ReversingView.{Written};
+ghost use Rattle.blog_row.specs.code.SameNullsView.{AreFewFixed, IsLengthWith, IsLengthBy};
+ghost use Rattle.blog_row.specs.code.StorageView.{AreStored};
+
+use crate::column::Storage;
+use crate::storages::if_there;
+
+/// The most columns of which null bits are compared: those of one byte.
+const MOST_COMPARED: usize = 8;
+
+/// How many bytes have to be passed for each change of the null bits, so that it pays to compare them: a processor
+/// doesn't predict a change.
+const BYTES_PER_CHANGE: usize = 128;
+
+/// How many changes pay in any case.
+const FIRST_CHANGES: usize = 4;
+
+/// Null bits, and how long each image that begins with them is, in bytes.
+#[derive(Clone, Copy, Debug)]
+pub(crate) struct SameNulls {
+    nulls: u8,
+    len: usize,
+    // How many bytes may be left where the null bits change again.
+    left: usize,
+}
+
+/// How long each image with these null bits is, where its columns are few and each has a fixed width.
+#[inline(never)]
+fn fixed_len(storages: &[Storage], nulls: u8) -> Option<usize>
+    requires some { 0 < length storages.now }
+    ensures length { IfSome result (λ len. (columns : Layout) → AreStored columns storages.now → IsLengthWith columns nulls len) }
+    ensures some { IfSome result (λ len. 0 < len) }
+    ensures given { AreFewFixed storages.now → is_some result ≡ true }
+{
+    let columns = storages.len();
+    if MOST_COMPARED < columns {
+        return None;
+    }
+    let mut len = 1;
+    for i in 0..columns {
+        let Storage::Fixed(width) = storages[i] else {
+            return None;
+        };
+        len += if_there(u32::from(width), (nulls >> i) % 2) as usize;
+    }
+    Some(len)
+}
+
+/// What is expected in front of images of so many bytes: no NULLs.
+#[inline(always)]
+fn same_at_first(storages: &[Storage], len: usize) -> Option<SameNulls>
+    requires some { 0 < length storages.now }
+    ensures nulls { IfSome result (λ same. same.nulls ≡ 0) }
+    ensures length { IfSome result (IsLengthBy storages.now) }
+    ensures given { AreFewFixed storages.now → is_some result ≡ true }
+{
+    let own = fixed_len(storages, 0)?;
+    Some(SameNulls {
+        nulls: 0,
+        len: own,
+        left: len.saturating_add((FIRST_CHANGES - 1) * BYTES_PER_CHANGE),
+    })
+}
+
+/// The same of other null bits, with which so many bytes begin; None where they change too often.
+#[inline(always)]
+fn changed(storages: &[Storage], before: SameNulls, nulls: u8, len: usize) -> Option<SameNulls>
+    requires some { 0 < length storages.now }
+    ensures nulls { IfSome result (λ same. same.nulls ≡ nulls) }
+    ensures length { IfSome result (IsLengthBy storages.now) }
+    ensures given { AreFewFixed storages.now → len ≤ before.left → is_some result ≡ true }
+{
+    if before.left < len {
+        return None;
+    }
+    let own = fixed_len(storages, nulls)?;
+    Some(SameNulls {
+        nulls,
+        len: own,
+        left: before.left.saturating_sub(BYTES_PER_CHANGE),
+    })
+}
+
+/// The null bits and the length of the image with which the bytes begin; None where they begin with none, or where it
+/// doesn't pay to compare null bits.
+#[inline(always)]
+fn next_same(storages: &[Storage], before: SameNulls, bytes: &[u8]) -> Option<SameNulls>
+    requires some { 0 < length storages.now }
+    requires length { IsLengthBy storages.now before }
+    ensures exact { IfSome result (λ same. (columns : Layout) → AreStored columns storages.now → image_len_of columns bytes.now ≡ Some same.len) }
+    ensures within { IfSome result (λ same. same.len ≤ length bytes.now) }
+    ensures length { IfSome result (IsLengthBy storages.now) }
+    ensures given { slice_get bytes.now 0 ≡ Some before.nulls → before.len ≤ length bytes.now → result ≡ Some before }
+{
+    let nulls = *bytes.first()?;
+    let same = if nulls == before.nulls {
+        before
+    } else {
+        changed(storages, before, nulls, bytes.len())?
+    };
+    if same.len <= bytes.len() {
+        Some(same)
+    } else {
+        None
+    }
+}
+
+/// Counts images from the front, as long as it pays to compare their null bits; and gives the bytes behind them.
+#[inline(never)]
+pub(crate) fn count_same<'a>(storages: &[Storage], bytes: &'a [u8]) -> (usize, &'a [u8])
+    requires some { 0 < length storages.now }
+    ensures images { (columns : Layout) → AreStored columns storages.now → option_map (λ others. result.0 + length others) (images_of columns result.1.now) ≡ option_map length (images_of columns bytes.now) }
+    ensures few { result.0 + length result.1.now ≤ length bytes.now }
+{
+    let mut rest = bytes;
+    let mut images = 0;
+    let Some(mut same) = same_at_first(storages, bytes.len()) else {
+        return (0, bytes);
+    };
+    'images: while let Some(next) = next_same(storages, same, rest) {
+        let (_, behind) = rest.split_at(next.len);
+        rest = behind;
+        images += 1;
+        same = next;
+    }
+    (images, rest)
+}
+
+/// Writes images from the front, the first to the end of the room and each of the others before it, as long as it pays
+/// to compare their null bits; and gives the bytes behind them.
+#[inline(never)]
+pub(crate) fn put_same<'a>(storages: &[Storage], bytes: &'a [u8], to: &mut [u8]) -> &'a [u8]
+    requires some { 0 < length storages.now }
+    requires room { length bytes.now ≤ length to.old }
+    ensures { (columns : Layout) → (all : List (List ℕ)) → AreStored columns storages.now → Written columns all bytes.now to.old → Written columns all result.now to.new }
+{
+    let mut rest = bytes;
+    let Some(mut same) = same_at_first(storages, bytes.len()) else {
+        return bytes;
+    };
+    'images: while let Some(next) = next_same(storages, same, rest) {
+        let (image, behind) = rest.split_at(next.len);
+        to[behind.len()..rest.len()].copy_from_slice(image);
+        rest = behind;
+        same = next;
+    }
+    rest
+}
