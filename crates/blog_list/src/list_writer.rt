@@ -43,8 +43,8 @@ const CHUNK_LEN: usize = 1 << 16;
 /// Writes a list of the units of several logs, of which one at a time need be in memory: the header, what is listed of each
 /// log, and the totals.
 ///
-/// Its calls fail with `Log(OutOfMemory)`, and with `Write` if a write failed. Memory is taken from `alloc`, and for lines of
-/// JSON from `global`.
+/// Its calls fail with `Log(OutOfMemory)`, and with `Write` if a write failed. Memory is taken from `alloc`, and for some
+/// strings in lines of JSON from `global`.
 #[derive(Drop)]
 pub struct ListWriter<'z, A: Allocator = Global> {
     global: Global,

@@ -148,7 +148,7 @@ fn long_texts_are_written_as_serde_does(rt: HostRuntime) -> Result<(), Fail> {
 }
 
 #[test]
-fn times_are_written_as_before(rt: HostRuntime) -> Result<(), Fail> {
+fn times_are_written_as_by_serde(rt: HostRuntime) -> Result<(), Fail> {
     for file in [BERLIN, KOLKATA, LORD_HOWE] {
         let table = Tzif::parse(rt.alloc(), None, file)?;
         let zone = TimeZone::tzif(&table);
