@@ -26,7 +26,7 @@ pub(crate) enum Prefix {
     Four = 4,
 }
 
-/// The bits of a length of so many bytes, from 0 to 4, in a number of four bytes that begins with it.
+/// The bits that a length of 0 to 4 bytes takes in a little-endian number of four bytes.
 static LENGTH_BITS: [u32; 5] = [0, 0xFF, 0xFFFF, 0xFF_FFFF, 0xFFFF_FFFF];
 
 impl Prefix {

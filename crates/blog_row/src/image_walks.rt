@@ -12,7 +12,7 @@ use crate::same_nulls::{count_same, put_same};
 use crate::storages::{LEAST_STORAGES, MOST_STORAGES, MOST_WIDE_STORAGES};
 
 /// Whether it pays to look up how the columns are stored before images of so many bytes are read: where the columns are
-/// few, and the images are several.
+/// at most 64, and the images have enough bytes.
 fn pays(layout: &Layout<'_>, len: usize) -> bool
     ensures { result ≡ true → length (layout_columns layout.now) ≤ 64 }
 {
@@ -20,7 +20,7 @@ fn pays(layout: &Layout<'_>, len: usize) -> bool
     columns <= MOST_STORAGES && 12 * columns + 24 < len
 }
 
-/// The same where the columns are more. The room of their storages is large, so that it takes more bytes.
+/// The same where the columns are more than 64. The room of their storages is large, so that it takes more bytes.
 fn pays_wide(layout: &Layout<'_>, len: usize) -> bool
     ensures { result ≡ true → length (layout_columns layout.now) ≤ 4096 }
 {

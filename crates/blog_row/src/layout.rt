@@ -35,7 +35,7 @@ fn metadata_len_of_all(kinds: &[u8]) -> Option<usize>
     Some(total)
 }
 
-/// Whether each column's metadata is allowed. Each column is asked for by the two bytes at its place, without a branch on
+/// Whether each column's metadata is allowed. Each column is checked by the two bytes at its place, without a branch on
 /// how many of them it has; at the end the last byte stands for those that are not there.
 fn are_columns(kinds: &[u8], metadata: &[u8]) -> bool
     requires known { are_known kinds.now ≡ true }

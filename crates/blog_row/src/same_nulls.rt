@@ -26,7 +26,7 @@ const FIRST_CHANGES: usize = 4;
 pub(crate) struct SameNulls {
     nulls: u8,
     len: usize,
-    // How many bytes may be left where the null bits change again.
+    // The most bytes that may be left at the next change, for comparing to go on.
     left: usize,
 }
 

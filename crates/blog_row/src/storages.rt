@@ -13,14 +13,13 @@ use crate::image::{cut_at, stored_end};
 use crate::layout::column_at;
 use byteorder::{ByteOrder, LittleEndian};
 
-/// The fewest columns whose storages are looked up where images are read one by one: of fewer, a processor predicts the
-/// NULLs.
+/// The fewest columns for which `Rows` and `StoredLayout` look up storages. With fewer, a processor predicts the NULLs.
 pub(crate) const LEAST_STORAGES: usize = 4;
 
 /// The most columns whose storages take little room. They are looked up where images are read one by one, too.
 pub(crate) const MOST_STORAGES: usize = 64;
 
-/// The most columns whose storages are looked up for many images: as many as a table has.
+/// The most columns whose storages are looked up for many images: as many as a table can have.
 pub(crate) const MOST_WIDE_STORAGES: usize = 4096;
 
 /// The byte of null bits whose eight columns are all NULL.
@@ -65,8 +64,8 @@ fn length_if_there(prefix: Prefix, null: u8, bytes: &[u8]) -> u32
     LittleEndian::read_u32(bytes) & if_there(prefix.mask(), null)
 }
 
-/// Where a value behind its length ends that begins near the end of the bytes, and its position where it is NULL. The
-/// end of a value that isn't there is past the bytes.
+/// Where a value ends that begins with its length at `at`, if fewer than four bytes are left there; `at` where it is
+/// NULL. The end of a value that isn't there is past the bytes.
 #[inline(never)]
 fn last_counted_end(prefix: Prefix, null: u8, at: usize, bytes: &[u8]) -> usize
     requires bit { null ≤ 1 }

@@ -10,14 +10,24 @@ use crate::image_walks::{storages_for, storages_of};
 use crate::layout::{Layout, column_at};
 use crate::storages::MOST_STORAGES;
 use crate::stored_values::StoredValues;
+use std::fmt;
 
 /// The columns of a table with how they are stored, looked up for many images.
-#[derive(Debug, Drop)]
+#[derive(Drop)]
 pub struct StoredLayout<'a> {
     pub(crate) layout: Layout<'a>,
     // How each column is stored, where it was looked up.
     storages: Option<[Storage; MOST_STORAGES]>,
     pub ghost stored: { AreLookedUp (layout_columns layout) storages } by { Prim.hlevel props },
+}
+
+/// The storages follow from the layout, so they aren't shown.
+impl fmt::Debug for StoredLayout<'_> {
+    fn fmt<W: fmt::Write>(&self, f: &mut fmt::Formatter<W>) -> fmt::Result {
+        f.debug_struct("StoredLayout")
+            .field("layout", &self.layout)
+            .finish()
+    }
 }
 
 impl<'a> StoredLayout<'a> {
