@@ -1,5 +1,6 @@
-//! How long images are, by their null bits alone. A processor predicts that an image begins with the null bits of the one
-//! before, and goes on behind it without waiting for them. It is so for a few columns of fixed width.
+//! How long images are, by their null bits alone, for a few columns of fixed width. Each image is expected to begin with
+//! the null bits of the image two before it, because an update has an image before the change and one after it by turns.
+//! A processor predicts that they are equal, and goes on after the image without waiting for them.
 
 ghost use Rattle.std.specs.Prelude.{◌≡◌, ◌<◌, ◌≤◌, ◌+◌, true, ℕ, List, is_some, Some, length, slice_get, option_map, IfSome};
 ghost use Rattle.blog_row.specs.Column.{Layout};
@@ -15,11 +16,11 @@ use crate::storages::if_there;
 const MOST_COMPARED: usize = 8;
 
 /// How many bytes have to be passed for each change of the null bits, so that it pays to compare them: a processor
-/// doesn't predict a change.
-const BYTES_PER_CHANGE: usize = 128;
+/// doesn't predict a change. The changes of every second image are counted apart from those of the others.
+const BYTES_PER_CHANGE: usize = 64;
 
-/// How many changes pay in any case.
-const FIRST_CHANGES: usize = 4;
+/// How many changes pay in any case, counted in the same way.
+const FIRST_CHANGES: usize = 3;
 
 /// Null bits, and how long each image that begins with them is, in bytes.
 #[derive(Clone, Copy, Debug)]
@@ -120,16 +121,39 @@ pub(crate) fn count_same<'a>(storages: &[Storage], bytes: &'a [u8]) -> (usize, &
 {
     let mut rest = bytes;
     let mut images = 0;
-    let Some(mut same) = same_at_first(storages, bytes.len()) else {
+    let Some(mut first) = same_at_first(storages, bytes.len()) else {
         return (0, bytes);
     };
-    'images: while let Some(next) = next_same(storages, same, rest) {
-        let (_, behind) = rest.split_at(next.len);
+    let mut second = first;
+    'images: while let Some(one) = next_same(storages, first, rest) {
+        let (_, behind) = rest.split_at(one.len);
         rest = behind;
         images += 1;
-        same = next;
+        first = one;
+        let Some(two) = next_same(storages, second, rest) else {
+            return (images, rest);
+        };
+        let (_, behind) = rest.split_at(two.len);
+        rest = behind;
+        images += 1;
+        second = two;
     }
     (images, rest)
+}
+
+/// Writes the image with which the bytes begin to the end of the free room, and gives the bytes after it. As many bytes
+/// are free as are still to be read.
+#[inline(always)]
+fn put_image<'a>(len: usize, rest: &'a [u8], to: &mut [u8]) -> &'a [u8]
+    requires within { len ≤ length rest.now }
+    requires room { length rest.now ≤ length to.old }
+    ensures left { length result.now + len ≡ length rest.now }
+    ensures long { length to.new ≡ length to.old }
+    ensures written { (columns : Layout) → (all : List (List ℕ)) → 0 < length columns → image_len_of columns rest.now ≡ Some len → Written columns all rest.now to.old → Written columns all result.now to.new }
+{
+    let (image, behind) = rest.split_at(len);
+    to[behind.len()..rest.len()].copy_from_slice(image);
+    behind
 }
 
 /// Writes images from the front, the first to the end of the room and each of the others before it, as long as it pays
@@ -141,14 +165,18 @@ pub(crate) fn put_same<'a>(storages: &[Storage], bytes: &'a [u8], to: &mut [u8])
     ensures { (columns : Layout) → (all : List (List ℕ)) → AreStored columns storages.now → Written columns all bytes.now to.old → Written columns all result.now to.new }
 {
     let mut rest = bytes;
-    let Some(mut same) = same_at_first(storages, bytes.len()) else {
+    let Some(mut first) = same_at_first(storages, bytes.len()) else {
         return bytes;
     };
-    'images: while let Some(next) = next_same(storages, same, rest) {
-        let (image, behind) = rest.split_at(next.len);
-        to[behind.len()..rest.len()].copy_from_slice(image);
-        rest = behind;
-        same = next;
+    let mut second = first;
+    'images: while let Some(one) = next_same(storages, first, rest) {
+        rest = put_image(one.len, rest, to);
+        first = one;
+        let Some(two) = next_same(storages, second, rest) else {
+            return rest;
+        };
+        rest = put_image(two.len, rest, to);
+        second = two;
     }
     rest
 }

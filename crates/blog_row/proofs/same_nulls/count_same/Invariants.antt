@@ -8,7 +8,8 @@ use Rattle.blog_row.proofs.same_nulls.count_same.Given as goal
 
 abbrev pub invariant-images : goal.invariant-images
 invariant-images l = record {
-  known : IsLengthBy l.storages l.same;
+  known_first : IsLengthBy l.storages l.first;
+  known_second : IsLengthBy l.storages l.second;
   so_far : (columns : Layout) → AreStored columns l.storages → counted l.images (images_of columns l.rest) ≡ option_map length (images_of columns l.bytes);
   few : l.images + length l.rest ≤ length l.bytes;
 }

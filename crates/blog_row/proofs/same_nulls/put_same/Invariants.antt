@@ -7,7 +7,8 @@ use Rattle.blog_row.proofs.same_nulls.put_same.Given as goal
 
 abbrev pub invariant-images : goal.invariant-images
 invariant-images l = record {
-  known : IsLengthBy l.storages l.same;
+  known_first : IsLengthBy l.storages l.first;
+  known_second : IsLengthBy l.storages l.second;
   short : length l.rest ≤ length l.bytes;
   so_far : (columns : Layout) (all : List (List ℕ)) → AreStored columns l.storages → Written columns all l.bytes l.fn.to → Written columns all l.rest l.to;
 }
