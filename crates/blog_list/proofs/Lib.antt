@@ -1,8 +1,9 @@
-mod Bare
 mod Blocks
 mod Ending
 mod Growing
 mod Marking
 mod OnTheWay
 mod Plain
+mod Unescaped
+mod Utf8
 mod Whole

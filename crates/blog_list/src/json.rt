@@ -1,12 +1,16 @@
 //! Units as lines of JSON.
 
 ghost use Rattle.std.specs.Prelude.{◌≡◌, ◌++◌, OnOk, option_map};
+ghost use Rattle.jiff.specs.Words.{plain_zone};
+ghost use Rattle.blog_trans.specs.Changes.{counts_of};
+ghost use Rattle.blog_trans.specs.Groups.{groups};
+ghost use Rattle.blog_trans.specs.code.IndexView.{index_bytes, index_selection, table_counted};
 ghost use Rattle.blog_units.specs.code.UnitsView.{id_told};
-ghost use Rattle.blog_list.specs.code.Json.{json_damaged, json_gtid, json_id, json_thread, json_totals};
+ghost use Rattle.blog_list.specs.code.Json.{PutsJsonTime, json_count, json_counts, json_damaged, json_gtid, json_id, json_name, json_tables, json_thread, json_totals};
 
 use crate::beginning::Beginning;
 use crate::fault_events::{statement_of, words_of};
-use crate::json_text::put_string;
+use crate::json_text::{is_utf8, put_string};
 use crate::lines::put_id;
 use crate::texts::put_text;
 use crate::times::rfc_3339_text;
@@ -53,7 +57,9 @@ fn put_time<A: Allocator>(
     out: &mut Vec<u8, A>,
     zone: TimeZone<'_>,
     seconds: u32,
-) -> Result<(), AllocError> {
+) -> Result<(), AllocError>
+    ensures { OnOk result (PutsJsonTime (plain_zone zone.entry) seconds out.old.items out.new.items) }
+{
     put_text(out, b",\"time\":\"")?;
     put_text(out, rfc_3339_text(zone, seconds).as_str().as_bytes())?;
     put_numbered(out, b"\",\"timestamp\":", u64::from(seconds))
@@ -109,15 +115,31 @@ fn put_tables<A: Allocator, B: Allocator>(
     global: Global,
     out: &mut Vec<u8, A>,
     index: &Index<'_, '_, B>,
-) -> Result<(), AllocError> {
+) -> Result<(), AllocError>
+    ensures { OnOk result (out.new.items ≡ out.old.items ++ json_tables (counts_of (groups (index_bytes index.now) (index_selection index.now)))) }
+{
     put_text(out, b",\"tables\":[")?;
-    for n in 0..index.tables() {
-        if n > 0 {
-            put_text(out, b",")?;
-        }
+    put_counts(global, out, index)?;
+    put_text(out, b"]")
+}
+
+/// Appends the same without the name of the field and without brackets.
+fn put_counts<A: Allocator, B: Allocator>(
+    global: Global,
+    out: &mut Vec<u8, A>,
+    index: &Index<'_, '_, B>,
+) -> Result<(), AllocError>
+    ensures { OnOk result (out.new.items ≡ out.old.items ++ json_counts (counts_of (groups (index_bytes index.now) (index_selection index.now)))) }
+{
+    if index.tables() == 0 {
+        return Ok(());
+    }
+    put_count(global, out, &index.table(0))?;
+    for n in 1..index.tables() {
+        put_text(out, b",")?;
         put_count(global, out, &index.table(n))?;
     }
-    put_text(out, b"]")
+    Ok(())
 }
 
 /// Appends the numbers of a table's rows. Names that aren't UTF-8 stand in hexadecimal digits as well.
@@ -125,7 +147,9 @@ fn put_count<A: Allocator>(
     global: Global,
     out: &mut Vec<u8, A>,
     count: &TableCount<'_>,
-) -> Result<(), AllocError> {
+) -> Result<(), AllocError>
+    ensures { OnOk result (out.new.items ≡ out.old.items ++ json_count (table_counted count.now)) }
+{
     put_name(
         global,
         out,
@@ -146,17 +170,21 @@ fn put_count<A: Allocator>(
     put_text(out, b"}")
 }
 
-/// Appends a name as text, and in hexadecimal digits if it isn't UTF-8, each behind the name of its field.
+/// Appends a name as text, and in hexadecimal digits if it isn't UTF-8, each after the name of its field. `hex_field` ends in
+/// the opening quote of the digits, and `field` doesn't end in a quote.
+#[tactic(auto, unfolding(crate::specs::code::Json::json_name))]
 fn put_name<A: Allocator>(
     global: Global,
     out: &mut Vec<u8, A>,
     field: &[u8],
     hex_field: &[u8],
     name: &[u8],
-) -> Result<(), AllocError> {
+) -> Result<(), AllocError>
+    ensures { OnOk result (out.new.items ≡ out.old.items ++ json_name field.now hex_field.now name.now) }
+{
     put_text(out, field)?;
     put_string(out, name)?;
-    if str::from_utf8(name).is_ok() {
+    if is_utf8(name) {
         return Ok(());
     }
     put_text(out, hex_field)?;

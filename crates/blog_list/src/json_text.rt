@@ -1,26 +1,34 @@
 //! Texts as strings of JSON (RFC 8259), with the shortest escape for each character that needs one.
 
 ghost use Rattle.std.specs.Prelude.{◌≡◌, ◌≤◌, ◌++◌, OnOk, length};
-ghost use Rattle.blog_list.specs.code.Json.{bare_len, is_bare, json_char, json_control, json_string};
+ghost use Rattle.std.specs.Str.{is_utf8};
+ghost use Rattle.blog_list.specs.code.Json.{is_unescaped, json_char, json_control, json_string, unescaped_len};
 
 use crate::texts::{put_byte, put_text};
 use bstr::ByteSlice;
 use std::alloc::{AllocError, Allocator};
 
+/// Whether bytes are UTF-8.
+pub(crate) fn is_utf8(bytes: &[u8]) -> bool
+    ensures { result ≡ is_utf8 bytes.now }
+{
+    str::from_utf8(bytes).is_ok()
+}
+
 /// Whether a byte is a character that stands for itself in a string.
-fn is_bare(byte: u8) -> bool
-    ensures { result ≡ is_bare byte }
+fn is_unescaped(byte: u8) -> bool
+    ensures { result ≡ is_unescaped byte }
 {
     byte >= b' ' && byte < 0x80 && byte != b'"' && byte != b'\\'
 }
 
 /// Returns how many bytes at the beginning of a text stand for themselves.
-fn bare_len(text: &[u8]) -> usize
-    ensures all { result ≡ bare_len text.now }
+fn unescaped_len(text: &[u8]) -> usize
+    ensures all { result ≡ unescaped_len text.now }
     ensures within { result ≤ length text.now }
 {
-    'bare: for i in 0..text.len() {
-        if !is_bare(text[i]) {
+    'unescaped: for i in 0..text.len() {
+        if !is_unescaped(text[i]) {
             return i;
         }
     }
@@ -56,10 +64,10 @@ fn put_control<A: Allocator>(out: &mut Vec<u8, A>, byte: u8) -> Result<(), Alloc
 pub(crate) fn put_string<A: Allocator>(out: &mut Vec<u8, A>, text: &[u8]) -> Result<(), AllocError>
     ensures { OnOk result (out.new.items ≡ out.old.items ++ json_string text.now) }
 {
-    let bare = bare_len(text);
+    let unescaped = unescaped_len(text);
     put_text(out, b"\"")?;
-    put_text(out, &text[..bare])?;
-    for c in (&text[bare..]).chars() {
+    put_text(out, &text[..unescaped])?;
+    for c in (&text[unescaped..]).chars() {
         put_char(out, c)?;
     }
     put_text(out, b"\"")

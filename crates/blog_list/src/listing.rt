@@ -58,7 +58,7 @@ pub struct Style<'z> {
 /// nor reported.
 ///
 /// Fails with `Log` of the fault of a log that can't be opened, of which nothing is written, with `Log(OutOfMemory)`, and with
-/// `Write` where a write failed. Memory is taken from `alloc`, and for lines of JSON from `global`.
+/// `Write` where a write failed. Memory is taken from `alloc`, and for some strings in lines of JSON from `global`.
 pub fn list<A: Allocator + Copy, O: Write>(
     global: Global,
     alloc: A,

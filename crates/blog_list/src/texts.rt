@@ -8,7 +8,7 @@ ghost use Rattle.blog_list.specs.Lines.{digits, hyphened, padded, server_text};
 use itoa::Buffer;
 use std::alloc::{AllocError, Allocator};
 
-/// How many bytes are put in hexadecimal digits at once: as many as a server's id has.
+/// How many bytes are put in hexadecimal digits at once, at most. A server's id comes in parts of 2 to 6 bytes.
 const BLOCK_LEN: usize = 16;
 
 /// Appends a text.

@@ -1,11 +1,15 @@
 -- Texts as strings of JSON, and parts of its lines.
-use Rattle.std.specs.Prelude.{ℕ, suc, ◌==◌, ◌&&◌, Bool, not, nat_le, nat_lt, if◌then◌else◌, List, [], ◌∷◌, ◌++◌, Option, Some, None, codes, encode_utf8}
+use Rattle.std.specs.Prelude.{◌≡◌, ℕ, suc, ◌==◌, ◌&&◌, Bool, not, nat_le, nat_lt, if◌then◌else◌, List, [], ◌∷◌, ◌++◌, Option, Some, None, codes, encode_utf8}
 use Rattle.std.specs.List.{flat_map}
+use Rattle.std.specs.Str.{is_utf8}
+use Rattle.jiff.specs.Types.{TimeZone}
 use Rattle.bstr.specs.Utf8.{lossy_chars}
-use Rattle.hex.specs.Hex.{encode_lower}
+use Rattle.hex.specs.Hex.{encode_lower, encode_upper}
+use Rattle.blog_trans.specs.Changes.{TableCount}
 use Rattle.blog_units.specs.Units.{Id}
 use Rattle.blog_list.specs.declared.totals.Totals.{Totals}
 use Rattle.blog_list.specs.Lines.{id_text, numbered}
+use Rattle.blog_list.specs.Times.{IsRfc3339Text}
 
 -- a control character by its number
 abbrev pub json_control : ℕ → List ℕ
@@ -29,13 +33,13 @@ abbrev pub json_string : List ℕ → List ℕ
 json_string text = 34 ∷ (flat_map json_char (lossy_chars text) ++ 34 ∷ [])
 
 -- a byte that is a character by itself, and needs no escape
-abbrev pub is_bare : ℕ → Bool
-is_bare byte = nat_le 0x20 byte && nat_lt byte 0x80 && not (byte == 0x22) && not (byte == 0x5C)
+abbrev pub is_unescaped : ℕ → Bool
+is_unescaped byte = nat_le 0x20 byte && nat_lt byte 0x80 && not (byte == 0x22) && not (byte == 0x5C)
 
 -- how many of them are at the beginning of bytes
-abbrev pub bare_len : List ℕ → ℕ
-bare_len [] = 0
-bare_len (byte ∷ rest) = if is_bare byte then suc (bare_len rest) else 0
+abbrev pub unescaped_len : List ℕ → ℕ
+unescaped_len [] = 0
+unescaped_len (byte ∷ rest) = if is_unescaped byte then suc (unescaped_len rest) else 0
 
 -- ---- the parts of a line
 
@@ -57,6 +61,36 @@ json_id id = json_tagged id.tag (id_text id)
 abbrev pub json_gtid : Option Id → List ℕ
 json_gtid (Some id) = codes ",\"gtid\":" ++ json_id id
 json_gtid None = codes ",\"gtid\":null"
+
+-- a time was appended, as RFC 3339 writes it in the zone, and in seconds since 1970 in UTC
+abbrev pub PutsJsonTime : TimeZone → ℕ → List ℕ → List ℕ → Type 0
+PutsJsonTime zone seconds old new = (text : List ℕ) × IsRfc3339Text zone seconds text
+    × (new ≡ old ++ (codes ",\"time\":\"" ++ (text ++ numbered (codes "\",\"timestamp\":") seconds)))
+
+-- a name as text, and in hexadecimal digits if it isn't UTF-8, after the names of these fields
+unfoldable pub json_name : List ℕ → List ℕ → List ℕ → List ℕ
+json_name field hex_field name =
+    field ++ (json_string name ++ (if is_utf8 name then [] else hex_field ++ (encode_upper name ++ codes "\"")))
+
+-- the rows of a table
+unfoldable pub json_count : TableCount → List ℕ
+json_count c =
+    json_name (codes "{\"schema\":") (codes ",\"schema_hex\":\"") c.table.schema
+    ++ (json_name (codes ",\"table\":") (codes ",\"table_hex\":\"") c.table.name
+    ++ (numbered (codes ",\"inserts\":") c.inserts
+    ++ (numbered (codes ",\"updates\":") c.updates ++ (numbered (codes ",\"deletes\":") c.deletes ++ codes "}"))))
+
+-- those of a further table
+abbrev pub json_next : TableCount → List ℕ
+json_next c = codes "," ++ json_count c
+
+abbrev pub json_counts : List TableCount → List ℕ
+json_counts [] = []
+json_counts (c ∷ cs) = json_count c ++ flat_map json_next cs
+
+-- those of all tables of a unit
+abbrev pub json_tables : List TableCount → List ℕ
+json_tables counts = codes ",\"tables\":[" ++ (json_counts counts ++ codes "]")
 
 -- the line of the damaged events, where there are any
 abbrev pub json_damaged : ℕ → List ℕ

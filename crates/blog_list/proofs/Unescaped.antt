@@ -8,26 +8,26 @@ use Rattle.std.proofs.lemmas.List.{take_rest}
 use Rattle.std.proofs.lemmas.Str.{encode_ascii}
 use Rattle.bstr.specs.Utf8.{Decoded, lossy_chars, or_replacement, pieces}
 use Rattle.bstr.proofs.lemmas.PieceLemmas.{pieces-step, value-1}
-use Rattle.blog_list.specs.code.Json.{bare_len, is_bare, json_char}
+use Rattle.blog_list.specs.code.Json.{is_unescaped, json_char, unescaped_len}
 
 -- which bytes these are
-pub record IsBare (byte : ℕ) : Type 0 where
+pub record IsUnescaped (byte : ℕ) : Type 0 where
   pub visible : 0x20 ≤ byte
   pub low : byte < 0x80
   pub no_quote : byte ≢ 0x22
   pub no_backslash : byte ≢ 0x5C
 
-IsBare-from : (byte : ℕ) → is_bare byte ≡ true → IsBare byte
-IsBare-from byte bare = record {
+IsUnescaped-from : (byte : ℕ) → is_unescaped byte ≡ true → IsUnescaped byte
+IsUnescaped-from byte unescaped = record {
   visible = grind (arith, nat_tests);
   low = grind (arith, nat_tests);
   no_quote = λ e. grind (arith, nat_tests);
   no_backslash = λ e. grind (arith, nat_tests);
 }
 
-char-bare : (byte : ℕ) → is_bare byte ≡ true → json_char byte ≡ byte ∷ []
-char-bare byte bare =
-    let is = IsBare-from byte bare in
+char-unescaped : (byte : ℕ) → is_unescaped byte ≡ true → json_char byte ≡ byte ∷ []
+char-unescaped byte unescaped =
+    let is = IsUnescaped-from byte unescaped in
     cond-false _ _ _ (ne_eqb byte 0x22 is.no_quote)
     ∙ cond-false _ _ _ (ne_eqb byte 0x5C is.no_backslash)
     ∙ cond-false _ _ _ (ne_eqb byte 0x0A (λ e. omega arith))
@@ -51,25 +51,25 @@ chars-ascii byte rest low =
 abbrev printed : ℕ → List ℕ → List ℕ
 printed n text = take n text ++ flat_map json_char (lossy_chars (drop n text))
 
-one-more : (n m byte : ℕ) (rest : List ℕ) → n ≡ suc m → is_bare byte ≡ true → flat_map json_char (lossy_chars rest) ≡ printed m rest
+one-more : (n m byte : ℕ) (rest : List ℕ) → n ≡ suc m → is_unescaped byte ≡ true → flat_map json_char (lossy_chars rest) ≡ printed m rest
     → flat_map json_char (lossy_chars (byte ∷ rest)) ≡ printed n (byte ∷ rest)
-one-more n m byte rest len bare behind =
-    ap (flat_map json_char) (chars-ascii byte rest (IsBare-from byte bare).low)
-    ∙ ap₂ (λ (first later : List ℕ). first ++ later) (char-bare byte bare) behind
+one-more n m byte rest len unescaped behind =
+    ap (flat_map json_char) (chars-ascii byte rest (IsUnescaped-from byte unescaped).low)
+    ∙ ap₂ (λ (first later : List ℕ). first ++ later) (char-unescaped byte unescaped) behind
     ∙ ap (λ (k : ℕ). printed k (byte ∷ rest)) (sym len)
 
-front-bare : (text : List ℕ) → flat_map json_char (lossy_chars text) ≡ printed (bare_len text) text
-front-bare [] = refl
-front-bare (byte ∷ rest) =
-    let behind = front-bare rest in
+front-unescaped : (text : List ℕ) → flat_map json_char (lossy_chars text) ≡ printed (unescaped_len text) text
+front-unescaped [] = refl
+front-unescaped (byte ∷ rest) =
+    let behind = front-unescaped rest in
     ⊎_elim
-    (λ yes. one-more (bare_len (byte ∷ rest)) (bare_len rest) byte rest (cond-true _ _ _ yes) yes behind)
+    (λ yes. one-more (unescaped_len (byte ∷ rest)) (unescaped_len rest) byte rest (cond-true _ _ _ yes) yes behind)
     (λ no. ap (λ (k : ℕ). printed k (byte ∷ rest)) (sym (cond-false _ _ _ no)))
-    (cases_Bool (is_bare byte))
+    (cases_Bool (is_unescaped byte))
 
 -- the bytes that stand for themselves, and the characters that are left behind them
-pub bare-string : (text : List ℕ) (n : ℕ) (left : List ℕ) → n ≡ bare_len text → left ≡ lossy_chars (take (length text - n) (drop n text))
+pub unescaped-string : (text : List ℕ) (n : ℕ) (left : List ℕ) → n ≡ unescaped_len text → left ≡ lossy_chars (take (length text - n) (drop n text))
     → flat_map json_char (lossy_chars text) ≡ take n text ++ flat_map json_char left
-bare-string text n left len rest =
-    front-bare text ∙ ap (λ (k : ℕ). printed k text) (sym len)
+unescaped-string text n left len rest =
+    front-unescaped text ∙ ap (λ (k : ℕ). printed k text) (sym len)
     ∙ ap (λ (cs : List ℕ). take n text ++ flat_map json_char cs) (sym (rest ∙ ap lossy_chars (take_rest text n)))
