@@ -11,9 +11,9 @@ use blog_list::{Form, ListWriter, Style, Totals};
 use blog_source::{Reading, Source};
 use jiff::tz::{TimeZone, Tzif};
 use sample_logs::builder::{BEGIN, Part, XID, build, with_bytes};
-use sample_logs::samples::MULTI_TABLE;
-use sample_logs::summed::{CLOSED, IN_USE, IN_USE_PLAIN};
-use server_logs::tagged;
+use sample_logs::samples::{ALTER_BETWEEN, INSERT, MULTI_TABLE, SAVEPOINT_KEPT, UPDATE};
+use sample_logs::summed::{CLOSED, CLOSED_PLAIN, IN_USE, IN_USE_PLAIN};
+use server_logs::tagged::{TAGGED, TAGGED_PLAIN};
 use std::process::Abort;
 use std::test::Fail;
 
@@ -52,15 +52,21 @@ fn check_source(
     Ok(())
 }
 
-/// Checks the lines of a log, if it can be opened, without a name and in UTC.
-fn check_bytes(rt: &(impl AllocGlobal + Abort), bytes: &[u8]) -> Result<(), Fail> {
+/// Checks the lines of a log, without a name and in UTC.
+fn check_log(rt: &(impl AllocGlobal + Abort), bytes: &[u8]) -> Result<(), Fail> {
+    check_source(rt, &source_of(rt, bytes)?, None, TimeZone::UTC)
+}
+
+/// Checks the lines of a log that may be damaged, without a name and in UTC. Returns whether it can be opened.
+fn check_damaged(rt: &(impl AllocGlobal + Abort), bytes: &[u8]) -> Result<bool, Fail> {
     let Ok(source) = Source::open(bytes.to_vec(rt.alloc())?, Reading::ALL) else {
-        return Ok(());
+        return Ok(false);
     };
     if Log::open(source.bytes()).is_err() {
-        return Ok(());
+        return Ok(false);
     }
-    check_source(rt, &source, None, TimeZone::UTC)
+    check_source(rt, &source, None, TimeZone::UTC)?;
+    Ok(true)
 }
 
 /// Checks the lines of a log that changes a table of this name in a schema of this name, and that is named so itself.
@@ -84,7 +90,7 @@ fn check_name(rt: &(impl AllocGlobal + Abort), name: &[u8]) -> Result<(), Fail> 
 /// Checks the lines of a log of a statement of this text.
 fn check_statement(rt: &(impl AllocGlobal + Abort), text: &[u8]) -> Result<(), Fail> {
     let status = &[];
-    check_bytes(rt, &build(rt, &[Part::Query { status, text }])?)
+    check_log(rt, &build(rt, &[Part::Query { status, text }])?)
 }
 
 /// Checks the lines of a log of a transaction whose id has this tag.
@@ -98,7 +104,7 @@ fn check_tag(rt: &(impl AllocGlobal + Abort), tag: &[u8]) -> Result<(), Fail> {
         flags: 0,
         body: &body,
     };
-    check_bytes(rt, &build(rt, &[id, BEGIN, XID])?)
+    check_log(rt, &build(rt, &[id, BEGIN, XID])?)
 }
 
 /// Checks a text as each of what a log has texts for.
@@ -167,21 +173,51 @@ fn times_are_written_as_by_serde(rt: HostRuntime) -> Result<(), Fail> {
 }
 
 #[test]
+fn whole_logs_are_written_as_serde_does(rt: HostRuntime) -> Result<(), Fail> {
+    for bytes in [
+        INSERT.as_slice(),
+        &UPDATE,
+        &MULTI_TABLE,
+        &SAVEPOINT_KEPT,
+        &ALTER_BETWEEN,
+        &CLOSED,
+        &CLOSED_PLAIN,
+        &IN_USE,
+        &IN_USE_PLAIN,
+        &TAGGED,
+        &TAGGED_PLAIN,
+    ] {
+        let source = source_of(&rt, bytes)?;
+        check_source(&rt, &source, None, TimeZone::UTC)?;
+        check_source(&rt, &source, Some(b"binlog.000001"), TimeZone::UTC)?;
+    }
+    Ok(())
+}
+
+#[test]
 fn each_fault_is_written_as_serde_does(rt: HostRuntime) -> Result<(), Fail> {
-    for bytes in [IN_USE_PLAIN.as_slice(), &MULTI_TABLE, &tagged::TAGGED_PLAIN] {
+    for bytes in [IN_USE_PLAIN.as_slice(), &MULTI_TABLE, &TAGGED_PLAIN] {
+        let mut cut = 0_usize;
+        let mut changed = 0_usize;
         for at in (0..bytes.len()).step_by(7) {
-            check_bytes(&rt, bytes.get(..at).unwrap_or(b""))?;
-            let mut changed = bytes.to_vec(rt.alloc())?;
-            if let Some(byte) = changed.get_mut(at) {
+            if check_damaged(&rt, bytes.get(..at).unwrap_or(b""))? {
+                cut = cut.saturating_add(1);
+            }
+            let mut other = bytes.to_vec(rt.alloc())?;
+            if let Some(byte) = other.get_mut(at) {
                 *byte ^= 0x15;
             }
-            check_bytes(&rt, &changed)?;
+            if check_damaged(&rt, &other)? {
+                changed = changed.saturating_add(1);
+            }
         }
+        assert!(rt; cut > 0);
+        assert!(rt; changed > 0);
     }
     for kind in 0..256_usize {
         let [kind, ..] = kind.to_le_bytes();
-        check_bytes(&rt, &build(&rt, &[event_of(kind)])?)?;
-        check_bytes(&rt, &build(&rt, &[BEGIN, event_of(kind), XID])?)?;
+        check_log(&rt, &build(&rt, &[event_of(kind)])?)?;
+        check_log(&rt, &build(&rt, &[BEGIN, event_of(kind), XID])?)?;
     }
     Ok(())
 }

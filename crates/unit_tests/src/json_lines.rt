@@ -1,40 +1,30 @@
 //! The lines of lists in JSON as serde writes them: the lists' own are compared with these, byte for byte.
 
-use blog_event::constants::{FORMAT_DESCRIPTION_EVENT, QUERY_EVENT};
-use blog_event::{Event, Fault, Log};
+mod beginning;
+mod escapes;
+mod fault_events;
+mod ids;
+mod marks;
+mod texts;
+
+use crate::json_lines::beginning::Beginning;
+use crate::json_lines::fault_events::{statement_of, words_of};
+use crate::json_lines::ids::put_id;
+use blog_event::Log;
 use blog_list::{Totals, rfc_3339_text};
 use blog_source::Source;
-use blog_trans::{Index, TableCount, query_text};
+use blog_trans::TableCount;
 use blog_units::{GlobalId, Unit, Units};
 use bstr::ByteSlice;
 use jiff::tz::TimeZone;
 use serde::Serialize;
-use std::alloc::{AllocError, Global};
-use std::fmt;
+use std::alloc::{AllocError, Allocator, Global};
 use std::test::Fail;
-use unicode_width::UnicodeWidthChar;
 
-/// The beginning of a text on one line, no wider than 1000 columns.
-#[derive(Clone, Copy)]
-struct Beginning<'t> {
-    text: &'t [u8],
-}
+/// How many columns of a statement's text are printed.
+const TEXT_COLUMNS: usize = 1000;
 
-impl<'t> fmt::Display for Beginning<'t> {
-    fn fmt<W: fmt::Write>(&self, f: &mut fmt::Formatter<W>) -> fmt::Result {
-        let mut width = 0_usize;
-        for c in self.text.chars() {
-            let shown = if c.is_control() { ' ' } else { c };
-            width = width.saturating_add(shown.width().unwrap_or(0));
-            if width > 1000 {
-                return f.write_str("..");
-            }
-            f.write_char(shown)?;
-        }
-        Ok(())
-    }
-}
-
+/// The numbers of a table's rows. Names that aren't UTF-8 stand in hexadecimal digits as well.
 #[derive(Drop, Serialize)]
 struct TableLine {
     schema: String,
@@ -100,15 +90,16 @@ pub fn lines_of(
     Ok(lines)
 }
 
-fn put_unit(
+/// Appends the line of a unit, with positions of the server's log, and with the log's name, if there is one.
+pub(crate) fn put_unit<A: Allocator + Copy, B: Allocator>(
     global: Global,
-    out: &mut Vec<u8>,
+    out: &mut Vec<u8, A>,
     zone: TimeZone<'_>,
-    source: &Source,
+    source: &Source<B>,
     log: &Log<'_>,
     name: Option<&[u8]>,
-    unit: &Unit<'_>,
-) -> Result<(), Fail> {
+    unit: &Unit<'_, B>,
+) -> Result<(), AllocError> {
     let gtid = match unit.id {
         Some(id) => Some(id_text(global, &id)?),
         None => None,
@@ -130,63 +121,35 @@ fn put_unit(
         event: None,
     };
     match &unit.groups {
-        Ok(groups) => line.tables = Some(tables_of(global, groups)?),
-        Err(fault) => tell(global, &mut line, source, log, fault, unit.stop)?,
+        Ok(groups) => {
+            let mut tables = Vec::new(global);
+            for n in 0..groups.tables() {
+                tables.push(table_line(global, &groups.table(n))?)?;
+            }
+            line.tables = Some(tables);
+        }
+        Err(fault) => {
+            line.fault = Some(fault.name());
+            line.position = source.at_place(fault).at();
+            line.statement = match statement_of(log, fault, unit.stop) {
+                Some(text) => {
+                    let columns = TEXT_COLUMNS;
+                    Some(format!(in global; "{}", Beginning { text, columns })?)
+                }
+                None => None,
+            };
+            line.event = words_of(log, fault, unit.stop);
+        }
     }
     put_line(global, out, &line)
 }
 
-/// Tells in a line why a unit can't be undone that stops at a position.
-fn tell(
-    global: Global,
-    line: &mut UnitLine,
-    source: &Source,
-    log: &Log<'_>,
-    fault: &Fault,
-    stop: u32,
-) -> Result<(), AllocError> {
-    line.fault = Some(fault.name());
-    line.position = source.at_place(fault).at();
-    let Some(event) = event_of(log, fault, stop) else {
-        return Ok(());
-    };
-    line.event = words_of(fault, event.header.kind);
-    if event.header.kind == QUERY_EVENT {
-        line.statement = match query_text(event.body) {
-            Some(text) => Some(format!(in global; "{}", Beginning { text })?),
-            None => None,
-        };
-    }
-    Ok(())
-}
-
-/// Returns the event of a fault, where it lies below a position.
-fn event_of<'a>(log: &Log<'a>, fault: &Fault, below: u32) -> Option<Event<'a>> {
-    let pos = fault.at()?;
-    if pos >= below {
-        return None;
-    }
-    log.event_at(pos).ok()
-}
-
-/// Returns what the event of a fault is, where that explains the fault.
-fn words_of(fault: &Fault, kind: u8) -> Option<&'static str> {
-    match fault {
-        Fault::OutOfPlace { .. } if kind == FORMAT_DESCRIPTION_EVENT => Some("a relay log"),
-        Fault::OutOfPlace { .. } | Fault::UnknownEvent { .. } => match kind {
-            26 => Some("an incident"),
-            37 => Some("a change of view in group replication"),
-            38 => Some("a prepared XA transaction"),
-            40 => Some("a compressed transaction"),
-            160..=255 => Some("an event of MariaDB"),
-            _ => None,
-        },
-        _ => None,
-    }
-}
-
 /// Appends the last lines.
-pub fn put_totals(global: Global, out: &mut Vec<u8>, totals: &Totals) -> Result<(), Fail> {
+pub(crate) fn put_totals<A: Allocator>(
+    global: Global,
+    out: &mut Vec<u8, A>,
+    totals: &Totals,
+) -> Result<(), AllocError> {
     let line = TotalsLine {
         units: totals.units,
         not_undoable: totals.refused,
@@ -201,21 +164,16 @@ pub fn put_totals(global: Global, out: &mut Vec<u8>, totals: &Totals) -> Result<
     put_line(global, out, &DamagedLine { damaged_events })
 }
 
-fn put_line<T: Serialize>(global: Global, out: &mut Vec<u8>, line: &T) -> Result<(), Fail> {
+fn put_line<A: Allocator, T: Serialize>(
+    global: Global,
+    out: &mut Vec<u8, A>,
+    line: &T,
+) -> Result<(), AllocError> {
     let Ok(text) = serde_json::to_string(global, line) else {
-        return Err(Fail::new("no line"));
+        return Err(AllocError);
     };
     out.extend_from_slice(text.as_bytes())?;
-    out.extend_from_slice(b"\n")?;
-    Ok(())
-}
-
-fn tables_of(global: Global, index: &Index<'_, '_>) -> Result<Vec<TableLine>, AllocError> {
-    let mut tables = Vec::new(global);
-    for n in 0..index.tables() {
-        tables.push(table_line(global, &index.table(n))?)?;
-    }
-    Ok(tables)
+    out.extend_from_slice(b"\n")
 }
 
 fn table_line(global: Global, count: &TableCount<'_>) -> Result<TableLine, AllocError> {
@@ -243,48 +201,9 @@ fn name_of(
 
 /// A global transaction id as text.
 fn id_text(global: Global, id: &GlobalId<'_>) -> Result<String, AllocError> {
-    if id.number == 0 && id.server.iter().all(|byte| *byte == 0) {
-        return String::from_str(global, "?");
-    }
-    let digits = hex::encode(global, id.server)?;
-    let digits = digits.as_str();
-    let mut text = String::new(global);
-    for (from, to) in [(0, 8), (8, 12), (12, 16), (16, 20), (20, 32)] {
-        text.push_str(if from == 0 { "" } else { "-" })?;
-        text.push_str(digits.get(from..to).unwrap_or(""))?;
-    }
-    text.push(':')?;
-    if !id.tag.is_empty() {
-        put_tag(&mut text, id.tag)?;
-        text.push(':')?;
-    }
-    text.push_str(format!(in global; "{}", id.number)?.as_str())?;
-    Ok(text)
-}
-
-/// Appends a tag as text, in which control characters and bytes that are no characters are written as `\x1b`.
-fn put_tag(text: &mut String, tag: &[u8]) -> Result<(), AllocError> {
-    for (start, end, c) in tag.char_indices() {
-        let piece = tag.get(start..end).unwrap_or(&[]);
-        match c {
-            '\\' => text.push_str("\\\\")?,
-            '\n' => text.push_str("\\n")?,
-            '\t' => text.push_str("\\t")?,
-            '\r' => text.push_str("\\r")?,
-            _ if c.is_control() || str::from_utf8(piece).is_err() => put_escapes(text, piece)?,
-            _ => text.push(c)?,
-        }
-    }
-    Ok(())
-}
-
-/// Appends each byte as `\x1b`.
-fn put_escapes(text: &mut String, bytes: &[u8]) -> Result<(), AllocError> {
-    for byte in bytes {
-        text.push_str("\\x")?;
-        text.push_str(format!(in *text.allocator(); "{byte:02x}")?.as_str())?;
-    }
-    Ok(())
+    let mut text = Vec::new(global);
+    put_id(&mut text, id)?;
+    lossy(global, text.as_slice())
 }
 
 /// The text of bytes, with U+FFFD for what is no character.
