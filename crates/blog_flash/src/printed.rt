@@ -16,7 +16,7 @@ use bstr::ByteSlice;
 use itoa::Buffer;
 use std::alloc::{AllocError, Allocator};
 
-/// What the line of a short value is written over, no shorter than any such line.
+/// Room for the longest line of a short value: 12 bytes for its column and 68 for the value.
 static ROOM: [u8; 80] = [0; 80];
 
 /// Appends a text.
@@ -186,7 +186,7 @@ fn is_short(value: Option<&[u8]>) -> bool
 }
 
 /// Appends the line of a short value, where there is room for any such line. A text as long as the longest is appended,
-/// the line is written over its front, and the rest of it goes again: else each part of the line took an append.
+/// the line is written over its front, and the rest is cut off, so that its parts need no append each.
 fn put_short_line<A: Allocator>(
     out: &mut Vec<u8, A>,
     n: u64,

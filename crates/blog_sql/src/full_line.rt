@@ -19,7 +19,7 @@ const OFFSETS: [u8; 16] = [
 fn six_bits(bytes: u8x16) -> u8x16
     ensures { result ≡ sixes (take 12 bytes) }
 {
-    // Two bytes, the first of them above, hold two numbers: a product moves either to the top.
+    // Each pair of bytes, the first above the second, has two numbers of six bits. A product moves one of them to the top.
     let pairs = u16x8::from_le_bytes(bytes.swizzle([
         1, 0, 2, 1, 4, 3, 5, 4, 7, 6, 8, 7, 10, 9, 11, 10,
     ]));

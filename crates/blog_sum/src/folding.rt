@@ -15,13 +15,13 @@ use crate::register::after_block;
 use byteorder::{ByteOrder, LittleEndian};
 use std::simd::prelude::*;
 
-/// How many folded bytes those after them need: the 300, in whole blocks of sixteen.
+/// How many folded bytes before a place are kept: the farthest that is added, 300, rounded up to whole blocks of sixteen.
 const REACH: usize = 304;
 
 /// How many blocks are folded before the last folded bytes are moved to the front of the scratch.
 const BLOCKS: usize = 64;
 
-/// The register after all but the last bytes, which are fewer than sixteen, and these bytes.
+/// Returns the register after all but the last few bytes, which are fewer than sixteen, and those bytes.
 pub fn after_long(register: u32, mut bytes: &[u8]) -> (u32, &[u8])
     requires { 304 ≤ length bytes.now }
     ensures few { length result.1.now < 16 }
@@ -39,7 +39,7 @@ pub fn after_long(register: u32, mut bytes: &[u8]) -> (u32, &[u8])
     (after_rest(bytes, &mut scratch), &bytes[REACH..])
 }
 
-/// Folds the bytes, behind the 304 folded bytes before them.
+/// Folds the bytes of a chunk, and writes them after the 304 folded bytes before it.
 fn fold(bytes: &[u8], scratch: &mut [u8])
     requires whole { length bytes.now % 16 ≡ 0 }
     requires fits { 304 + length bytes.now ≤ length scratch.old }
@@ -72,7 +72,7 @@ fn keep_last(scratch: &mut [u8], folded: usize)
     }
 }
 
-/// The register after the first 304 bytes, which are not folded: what comes to them is all that is left of those before.
+/// Returns the register after the first 304 bytes, with all that is added to them from the folded bytes before.
 fn after_rest(bytes: &[u8], scratch: &mut [u8]) -> u32
     requires rest { 304 ≤ length bytes.now }
     requires fits { 608 ≤ length scratch.old }
@@ -86,13 +86,14 @@ fn after_rest(bytes: &[u8], scratch: &mut [u8]) -> u32
     register
 }
 
-/// The sixteen bytes at a place, with what comes to them from the folded bytes before.
+/// Returns the sixteen bytes at a place, with what is added to them from the folded bytes before.
 #[inline(always)]
 fn folded(bytes: &[u8], scratch: &[u8], at: usize) -> u8x16
     requires in_bytes { at + 16 ≤ length bytes.now }
     requires in_scratch { at + 304 ≤ length scratch.now }
     ensures { result ≡ folded_at at bytes.now scratch.now }
 {
+    // 304 less 145, 183, 211 and 300
     let nearest = u8x16::from_slice(&scratch[at + 159..]) ^ u8x16::from_slice(&scratch[at + 121..]);
     let farthest = u8x16::from_slice(&scratch[at + 93..]) ^ u8x16::from_slice(&scratch[at + 4..]);
     u8x16::from_slice(&bytes[at..]) ^ (nearest ^ farthest)

@@ -7,7 +7,7 @@ use crate::folding::after_long;
 use crate::tables::TABLES;
 use byteorder::{ByteOrder, LittleEndian};
 
-/// From so many bytes on it is faster to fold them.
+/// Inputs of this many bytes or more are folded, which is faster.
 const LONG: usize = 800;
 
 /// The register after the bytes.

@@ -49,3 +49,23 @@ fn each_length(rt: HostRuntime) -> Result<(), Fail> {
     }
     Ok(())
 }
+
+/// Lengths around 800, from which on bytes are folded: with and without bytes after the last whole block, around a whole
+/// chunk with the 304 bytes after it, and of several chunks.
+static LONG: [usize; 14] = [
+    799, 800, 801, 815, 816, 817, 1_327, 1_328, 1_343, 1_344, 1_345, 2_368, 2_399, 5_000,
+];
+
+#[test]
+fn each_length_that_is_folded(rt: HostRuntime) -> Result<(), Fail> {
+    for len in &LONG {
+        let mut bytes = Vec::new(rt.alloc());
+        let mut number = 1u32;
+        for _ in 0..*len {
+            number = number.wrapping_mul(1_664_525).wrapping_add(1_013_904_223);
+            bytes.push((number >> 24) as u8)?;
+        }
+        check_sum(&rt, &bytes);
+    }
+    Ok(())
+}
