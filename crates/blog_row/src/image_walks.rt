@@ -7,9 +7,10 @@ ghost use Rattle.blog_row.specs.code.LayoutView.{layout_columns};
 ghost use Rattle.blog_row.specs.code.StorageView.{AreStored, AreLookedUp};
 
 use crate::column::Storage;
+use crate::image::cut_at;
 use crate::layout::Layout;
 use crate::same_nulls::{count_same, put_same};
-use crate::storages::{LEAST_STORAGES, MOST_STORAGES, MOST_WIDE_STORAGES};
+use crate::storages::{ALL_NULL, LEAST_STORAGES, MOST_STORAGES, MOST_WIDE_STORAGES};
 
 /// Whether it pays to look up how the columns are stored before images of so many bytes are read: where the columns are
 /// at most 64, and the images have enough bytes.
@@ -20,12 +21,32 @@ fn pays(layout: &Layout<'_>, len: usize) -> bool
     columns <= MOST_STORAGES && 12 * columns + 24 < len
 }
 
-/// The same where the columns are more than 64. The room of their storages is large, so that it takes more bytes.
-fn pays_wide(layout: &Layout<'_>, len: usize) -> bool
+/// Whether more than half of the bytes of the first image's null bits have both NULLs and others: by types and metadata a
+/// processor would predict many of them wrongly.
+fn has_mixed_nulls(layout: &Layout<'_>, bytes: &[u8]) -> bool {
+    let Some((nulls, _)) = cut_at(layout.columns().div_ceil(8), bytes) else {
+        return false;
+    };
+    let mut mixed = 0;
+    for byte in nulls {
+        if *byte != 0 && *byte != ALL_NULL {
+            mixed += 1;
+        }
+    }
+    mixed > nulls.len() / 2
+}
+
+/// The same as `pays` where the columns are more than 64. The room of their storages is large, so that it takes more bytes;
+/// fewer where null bits are mixed.
+fn pays_wide(layout: &Layout<'_>, bytes: &[u8]) -> bool
     ensures { result ≡ true → length (layout_columns layout.now) ≤ 4096 }
 {
     let columns = layout.columns();
-    MOST_STORAGES < columns && 12 * columns + 512 < len
+    if columns <= MOST_STORAGES {
+        return false;
+    }
+    12 * columns + 512 < bytes.len()
+        || (4 * columns + 2048 < bytes.len() && has_mixed_nulls(layout, bytes))
 }
 
 /// How each column is stored, where it pays to look it up before images of so many bytes are read one by one.
@@ -63,7 +84,7 @@ pub(crate) fn images_in(layout: &Layout<'_>, bytes: &[u8]) -> Option<usize>
 {
     if pays(layout, bytes.len()) {
         many_images_in::<MOST_STORAGES>(layout, bytes)
-    } else if pays_wide(layout, bytes.len()) {
+    } else if pays_wide(layout, bytes) {
         many_images_in::<MOST_WIDE_STORAGES>(layout, bytes)
     } else {
         count(layout, None, bytes)
@@ -109,7 +130,7 @@ pub(crate) fn put_from_last(layout: &Layout<'_>, bytes: &[u8], to: &mut [u8])
 {
     if pays(layout, bytes.len()) {
         put_many_from_last::<MOST_STORAGES>(layout, bytes, to);
-    } else if pays_wide(layout, bytes.len()) {
+    } else if pays_wide(layout, bytes) {
         put_many_from_last::<MOST_WIDE_STORAGES>(layout, bytes, to);
     } else {
         put(layout, None, bytes, to);

@@ -23,7 +23,7 @@ pub(crate) const MOST_STORAGES: usize = 64;
 pub(crate) const MOST_WIDE_STORAGES: usize = 4096;
 
 /// The byte of null bits whose eight columns are all NULL.
-const ALL_NULL: u8 = 0xFF;
+pub(crate) const ALL_NULL: u8 = 0xFF;
 
 /// Looks up how each column is stored. The storages behind those of the columns mean nothing.
 #[inline(always)]

@@ -8,11 +8,20 @@ use Rattle.blog_row.proofs.image_walks.pays_wide.Goals as goal
 few : (layout : columns.Layout) → length (layout_columns layout) ≤ 4096
 few layout = omega (arith, layout.few, length_of_columns layout.kinds.now layout.metadata.now)
 
-pub overflow_mul-result : goal.overflow_mul-result
-overflow_mul-result c = omega (arith, few c.args.layout.now, c.columns-columns.ensures)
+pub overflow_mul-columns : goal.overflow_mul-columns
+overflow_mul-columns c = omega (arith, few c.args.layout.now, c.columns-columns.ensures)
 
-pub overflow_add-result : goal.overflow_add-result
-overflow_add-result c = omega (arith, few c.args.layout.now, c.columns-columns.ensures)
+pub overflow_mul-columns-else-columns-bytes : goal.overflow_mul-columns-else-columns-bytes
+overflow_mul-columns-else-columns-bytes c = omega (arith, few c.args.layout.now, c.columns-columns.ensures)
 
-pub returns-then-columns-gt-MOST_STORAGES : goal.returns-then-columns-gt-MOST_STORAGES
-returns-then-columns-gt-MOST_STORAGES c pays = few c.args.layout.now
+pub overflow_add-columns : goal.overflow_add-columns
+overflow_add-columns c = omega (arith, few c.args.layout.now, c.columns-columns.ensures)
+
+pub overflow_add-columns-else-columns-bytes : goal.overflow_add-columns-else-columns-bytes
+overflow_add-columns-else-columns-bytes c = omega (arith, few c.args.layout.now, c.columns-columns.ensures)
+
+pub returns-then-columns-bytes : goal.returns-then-columns-bytes
+returns-then-columns-bytes c pays = few c.args.layout.now
+
+pub returns-then-columns-bytes-2 : goal.returns-then-columns-bytes-2
+returns-then-columns-bytes-2 c pays = few c.args.layout.now
