@@ -1,6 +1,7 @@
-//! How long images are, by their null bits alone, for a few columns of fixed width. Each image is expected to begin with
-//! the null bits of the image two before it, because an update has an image before the change and one after it by turns.
-//! A processor predicts that they are equal, and goes on after the image without waiting for them.
+//! How long images are, by their null bits alone, for a few columns of fixed width. Two kinds of null bits are known: an
+//! image is expected to begin with those of the image two before it, because an update has an image before the change and
+//! one after it by turns, or else with those of the image just before. A processor predicts which, and goes on after the
+//! image without waiting for them.
 
 ghost use Rattle.std.specs.Prelude.{◌≡◌, ◌<◌, ◌≤◌, ◌+◌, true, ℕ, List, is_some, Some, length, slice_get, option_map, IfSome};
 ghost use Rattle.blog_row.specs.Column.{Layout};
@@ -88,25 +89,50 @@ fn changed(storages: &[Storage], before: SameNulls, nulls: u8, len: usize) -> Op
     })
 }
 
-/// The null bits and the length of the image with which the bytes begin; None where they begin with none, or where it
-/// doesn't pay to compare null bits.
+/// How long an image is, and the null bits that are expected of the image two after it.
+#[derive(Clone, Copy, Debug)]
+struct Next {
+    len: usize,
+    kept: SameNulls,
+}
+
+/// How long the image is with which the bytes begin, by the null bits that are expected or by the other ones; None where
+/// they begin with none, or where it doesn't pay to compare null bits.
 #[inline(always)]
-fn next_same(storages: &[Storage], before: SameNulls, bytes: &[u8]) -> Option<SameNulls>
+fn next_same(
+    storages: &[Storage],
+    before: SameNulls,
+    other: SameNulls,
+    bytes: &[u8],
+) -> Option<Next>
     requires some { 0 < length storages.now }
     requires length { IsLengthBy storages.now before }
-    ensures exact { IfSome result (λ same. (columns : Layout) → AreStored columns storages.now → image_len_of columns bytes.now ≡ Some same.len) }
-    ensures within { IfSome result (λ same. same.len ≤ length bytes.now) }
-    ensures length { IfSome result (IsLengthBy storages.now) }
-    ensures given { slice_get bytes.now 0 ≡ Some before.nulls → before.len ≤ length bytes.now → result ≡ Some before }
+    requires other { IsLengthBy storages.now other }
+    ensures exact { IfSome result (λ next. (columns : Layout) → AreStored columns storages.now → image_len_of columns bytes.now ≡ Some next.len) }
+    ensures within { IfSome result (λ next. (0 < next.len) × (next.len ≤ length bytes.now)) }
+    ensures length { IfSome result (λ next. IsLengthBy storages.now next.kept) }
+    ensures given { slice_get bytes.now 0 ≡ Some before.nulls → before.len ≤ length bytes.now → result ≡ Some (record { len = before.len; kept = before }) }
 {
     let nulls = *bytes.first()?;
-    let same = if nulls == before.nulls {
-        before
+    let next = if nulls == before.nulls {
+        Next {
+            len: before.len,
+            kept: before,
+        }
+    } else if nulls == other.nulls {
+        Next {
+            len: other.len,
+            kept: before,
+        }
     } else {
-        changed(storages, before, nulls, bytes.len())?
+        let kept = changed(storages, before, nulls, bytes.len())?;
+        Next {
+            len: kept.len,
+            kept,
+        }
     };
-    if same.len <= bytes.len() {
-        Some(same)
+    if next.len <= bytes.len() {
+        Some(next)
     } else {
         None
     }
@@ -125,18 +151,18 @@ pub(crate) fn count_same<'a>(storages: &[Storage], bytes: &'a [u8]) -> (usize, &
         return (0, bytes);
     };
     let mut second = first;
-    'images: while let Some(one) = next_same(storages, first, rest) {
+    'images: while let Some(one) = next_same(storages, first, second, rest) {
         let (_, behind) = rest.split_at(one.len);
         rest = behind;
         images += 1;
-        first = one;
-        let Some(two) = next_same(storages, second, rest) else {
+        first = one.kept;
+        let Some(two) = next_same(storages, second, first, rest) else {
             return (images, rest);
         };
         let (_, behind) = rest.split_at(two.len);
         rest = behind;
         images += 1;
-        second = two;
+        second = two.kept;
     }
     (images, rest)
 }
@@ -144,7 +170,7 @@ pub(crate) fn count_same<'a>(storages: &[Storage], bytes: &'a [u8]) -> (usize, &
 /// Writes the image with which the bytes begin to the end of the free room, and gives the bytes after it. As many bytes
 /// are free as are still to be read.
 #[inline(always)]
-fn put_image<'a>(len: usize, rest: &'a [u8], to: &mut [u8]) -> &'a [u8]
+pub(crate) fn put_image<'a>(len: usize, rest: &'a [u8], to: &mut [u8]) -> &'a [u8]
     requires within { len ≤ length rest.now }
     requires room { length rest.now ≤ length to.old }
     ensures left { length result.now + len ≡ length rest.now }
@@ -169,14 +195,14 @@ pub(crate) fn put_same<'a>(storages: &[Storage], bytes: &'a [u8], to: &mut [u8])
         return bytes;
     };
     let mut second = first;
-    'images: while let Some(one) = next_same(storages, first, rest) {
+    'images: while let Some(one) = next_same(storages, first, second, rest) {
         rest = put_image(one.len, rest, to);
-        first = one;
-        let Some(two) = next_same(storages, second, rest) else {
+        first = one.kept;
+        let Some(two) = next_same(storages, second, first, rest) else {
             return rest;
         };
         rest = put_image(two.len, rest, to);
-        second = two;
+        second = two.kept;
     }
     rest
 }
