@@ -143,6 +143,10 @@ past_all nulls i at bytes = again (from_position at bytes)
     again None = refl
     again (Some rest) = refl
 
+-- past the bytes no value is there, and nothing behind it
+pub behind_past : (columns : Layout) (nulls : List ℕ) (i at : ℕ) (bytes : List ℕ) → length bytes < at → behind_from columns nulls i at bytes ≡ from_position at bytes
+behind_past columns nulls i at bytes past = ap (option_and_then (behind_rest columns nulls i)) (position_past at bytes past) ∙ sym (position_past at bytes past)
+
 -- columns that are all NULL
 pub past_nulls : (columns : Layout) (nulls : List ℕ) (i at : ℕ) (bytes : List ℕ) → AreNull nulls i (i + length columns) → behind_from columns nulls i at bytes ≡ from_position at bytes
 past_nulls [] nulls i at bytes null = past_all nulls i at bytes

@@ -11,8 +11,8 @@ use Rattle.blog_row.proofs.Cutting.{map_found}
 use Rattle.blog_row.proofs.RowsCode.{counted, OneImage, count_stops}
 
 -- the first image comes last
-joined_reverse : (image : List ℕ) (images : List (List ℕ)) → concat (reverse (image ∷ images)) ≡ concat (reverse images) ++ image
-joined_reverse image images =
+pub reversed_before : (image : List ℕ) (images : List (List ℕ)) → concat (reverse (image ∷ images)) ≡ concat (reverse images) ++ image
+reversed_before image images =
     ap concat (reverse-append (image ∷ []) images) ∙ concat-append (reverse images) (image ∷ [])
     ∙ ap (λ (t : List ℕ). concat (reverse images) ++ t) (append-nil image)
 
@@ -30,6 +30,24 @@ written_none layout bytes to imaged room = by_case (images_of layout bytes) refl
           within = omega (arith, room);
           text = sym (ap (λ (t : List ℕ). concat (reverse images) ++ t) none ∙ append-nil (concat (reverse images)));
         }
+
+-- nothing is written, and behind the room for the images something else stands
+pub written_before : (layout : Layout) (bytes to : List ℕ) → is_some (images_of layout bytes) ≡ true → length bytes ≤ length to → Written layout (drop (length bytes) to ∷ unwrap_or (images_of layout bytes) []) bytes to
+written_before layout bytes to imaged room = by_case (images_of layout bytes) refl imaged
+  where
+    by_case : (o : Option (List (List ℕ))) → images_of layout bytes ≡ o → is_some o ≡ true → Written layout (drop (length bytes) to ∷ unwrap_or o []) bytes to
+    by_case None e some = absurd (cc)
+    by_case (Some images) e some = record { left = images; left_is = e; within = room; text = reversed_before (drop (length bytes) to) images }
+
+-- the images that are left are written before those that were written
+pub written_rest : (layout : Layout) (all : List (List ℕ)) (rest to new : List ℕ) → Written layout all rest to → new ≡ concat (reverse (unwrap_or (images_of layout rest) [])) ++ drop (length rest) to → new ≡ concat (reverse all)
+written_rest layout all rest to new w new_is =
+    let left : unwrap_or (images_of layout rest) [] ≡ w.left = ap (λ (o : Option (List (List ℕ))). unwrap_or o []) w.left_is in
+    new_is ∙ ap (λ (images : List (List ℕ)). concat (reverse images) ++ drop (length rest) to) left ∙ sym w.text
+
+-- what is left are images
+pub written_imaged : (layout : Layout) (all : List (List ℕ)) (rest to : List ℕ) → Written layout all rest to → is_some (images_of layout rest) ≡ true
+written_imaged layout all rest to w = ap (λ (o : Option (List (List ℕ))). is_some o) w.left_is
 
 -- what is left begins with an image
 pub written_there : {P : Type 0} (layout : Layout) (all : List (List ℕ)) (rest to : List ℕ) → Written layout all rest to → 0 < length rest → image_len_of layout rest ≡ None → P
@@ -53,7 +71,7 @@ written_more layout all rest behind to image len one image_is behind_is parts w 
     let k : ℕ = length rest - length behind in
     let free : a ≤ length to = let fits = w.within in omega arith in
     let end : a + k ≡ length rest = omega arith in
-    let before : concat (reverse w.left) ≡ concat (reverse next.0) ++ image = ap (λ (xs : List (List ℕ)). concat (reverse xs)) (sym left_is) ∙ joined_reverse image next.0 in
+    let before : concat (reverse w.left) ≡ concat (reverse next.0) ++ image = ap (λ (xs : List (List ℕ)). concat (reverse xs)) (sym left_is) ∙ reversed_before image next.0 in
     let written : drop a (take a to ++ (image ++ drop k (drop a to))) ≡ image ++ drop (length rest) to = behind_written a k to image free ∙ ap (λ (n : ℕ). image ++ drop n to) end in
     record {
       left = next.0;

@@ -1,5 +1,6 @@
 -- How the code reads the body of a rows event: part by part.
 use Rattle.std.proofs.Common.{◌≡◌, ◌+◌, ◌-◌, ◌%◌, ◌<◌, ◌≤◌, ℕ, zero, suc, Bool, true, false, eqb, List, [], ◌∷◌, ◌++◌, length, take, drop, Option, Some, None, option_and_then, option_map, unwrap_or, is_some, Result, Ok, Err, refl, sym, ap, ◌∙◌, arith, length-append, drop_at}
+use Rattle.std.proofs.lemmas.Option.{same_Some}
 use Rattle.std.specs.Result.{IfOk}
 use Rattle.std.specs.List.{list_all, concat}
 use Rattle.blog_row.specs.declared.kind.RowsAction.{RowsAction}
@@ -88,6 +89,15 @@ one_counted : (done : ℕ) (image : List ℕ) (o : Option (List (List ℕ))) →
 one_counted done image None = refl
 one_counted done image (Some images) = ap Some (omega arith)
 
+-- images that were counted behind others
+pub counted_behind : (before done : ℕ) (left all : Option (List (List ℕ))) → counted done left ≡ option_map length all → counted (before + done) left ≡ counted before all
+counted_behind before done None None e = refl
+counted_behind before done None (Some images) e = absurd (cc)
+counted_behind before done (Some more) None e = absurd (cc)
+counted_behind before done (Some more) (Some images) e =
+    let same : done + length more ≡ length images = same_Some (done + length more) (length images) e in
+    ap Some (omega (arith, same))
+
 -- an image of so many bytes in front
 pub record OneImage (layout : Layout) (bytes : List ℕ) (len : ℕ) : Type 0 where
   pub positive : 0 < len
@@ -167,6 +177,10 @@ event_only kind layout body r some e fields is = e ∙ rows_again kind layout bo
 -- a layout has a column
 pub some_columns : (layout : columns.Layout) → 0 < length (layout_columns layout)
 some_columns layout = omega (arith, layout.some, length_of_columns layout.kinds.now layout.metadata.now)
+
+-- and at most 4,096
+pub few_columns : (layout : columns.Layout) → length (layout_columns layout) ≤ 4096
+few_columns layout = omega (arith, layout.few, length_of_columns layout.kinds.now layout.metadata.now)
 
 -- the extra length is at least as long as one that is written
 pub extra-long : (version : RowsVersion) (len extra : List ℕ) → HasExtra version len extra → length (no_extra version) ≤ length len

@@ -180,7 +180,7 @@ impl Layout<'_> {
         ensures within { IfSome result (λ m. m ≤ length bytes.now) }
     {
         match storages {
-            Some(storages) => len_by(storages, bytes),
+            Some(storages) => len_by(storages, false, bytes),
             None => self.image_len(bytes),
         }
     }

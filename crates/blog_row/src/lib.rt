@@ -17,6 +17,7 @@ mod rows;
 mod rows_event;
 mod rows_parts;
 mod same_nulls;
+mod steady_nulls;
 mod storages;
 mod stored_layout;
 mod stored_values;

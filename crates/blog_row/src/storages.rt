@@ -19,11 +19,14 @@ pub(crate) const LEAST_STORAGES: usize = 4;
 /// The most columns whose storages take little room. They are looked up where images are read one by one, too.
 pub(crate) const MOST_STORAGES: usize = 64;
 
-/// The most columns whose storages are looked up for many images: as many as a table can have.
-pub(crate) const MOST_WIDE_STORAGES: usize = 4096;
+/// The most columns of a wide table whose storages take a few pages less than those of 4,096.
+pub(crate) const MANY_STORAGES: usize = 512;
+
+/// The most columns that a table can have.
+pub(crate) const ALL_STORAGES: usize = 4096;
 
 /// The byte of null bits whose eight columns are all NULL.
-pub(crate) const ALL_NULL: u8 = 0xFF;
+const ALL_NULL: u8 = 0xFF;
 
 /// Looks up how each column is stored. The storages behind those of the columns mean nothing.
 #[inline(always)]
@@ -52,38 +55,31 @@ pub(crate) fn if_there(number: u32, null: u8) -> u32
     number & u32::from(null).wrapping_sub(1)
 }
 
-/// The length with which the bytes begin, the lowest first, and 0 where the value is NULL. The length may have fewer
-/// bytes than are loaded.
+/// The length with which the bytes begin, the lowest byte first. It may have fewer bytes than are loaded.
 #[inline(always)]
-fn length_if_there(prefix: Prefix, null: u8, bytes: &[u8]) -> u32
-    requires bit { null ≤ 1 }
+fn length_at(prefix: Prefix, bytes: &[u8]) -> u32
     requires long { 4 ≤ length bytes.now }
-    ensures there { null ≡ 0 → result ≡ little_number (prefix_seen prefix) bytes.now }
-    ensures absent { null ≡ 1 → result ≡ 0 }
+    ensures { result ≡ little_number (prefix_seen prefix) bytes.now }
 {
-    LittleEndian::read_u32(bytes) & if_there(prefix.mask(), null)
+    LittleEndian::read_u32(bytes) & prefix.mask()
 }
 
-/// Where a value ends that begins with its length at `at`, if fewer than four bytes are left there; `at` where it is
-/// NULL. The end of a value that isn't there is past the bytes.
+/// Where a value ends that begins with its length at `at`, if fewer than four bytes are left there. The end of a value
+/// that isn't there is past the bytes.
 #[inline(never)]
-fn last_counted_end(prefix: Prefix, null: u8, at: usize, bytes: &[u8]) -> usize
-    requires bit { null ≤ 1 }
+fn last_counted_end(prefix: Prefix, at: usize, bytes: &[u8]) -> usize
     requires last { length bytes.now < at + 4 }
-    ensures there { null ≡ 0 → EndsAt (value_stored (Counted (prefix_seen prefix))) at bytes.now (Some result) }
-    ensures absent { null ≡ 1 → result ≡ at }
+    ensures end { EndsAt (value_stored (Counted (prefix_seen prefix))) at bytes.now (Some result) }
     ensures near { result ≤ at + 4 }
 {
-    if null != 0 {
-        return at;
-    }
     match stored_end(Storage::Counted(prefix), at, bytes) {
         Some(end) if end <= bytes.len() => end,
         _ => bytes.len() + 1,
     }
 }
 
-/// Where a value behind its length ends that begins at a position, and that position where it is NULL.
+/// Where a value behind its length ends that begins at a position, and that position where it is NULL. Where the next
+/// value begins is known without a length then: texts that are NULL in most rows are passed quickly.
 #[inline(always)]
 fn counted_end(prefix: Prefix, null: u8, at: usize, bytes: &[u8]) -> usize
     requires bit { null ≤ 1 }
@@ -92,23 +88,28 @@ fn counted_end(prefix: Prefix, null: u8, at: usize, bytes: &[u8]) -> usize
     ensures absent { null ≡ 1 → result ≡ at }
     ensures near { result ≤ at + 2 ^ 33 }
 {
-    if bytes.len() < at + 4 {
-        return last_counted_end(prefix, null, at, bytes);
+    if null != 0 {
+        return at;
     }
-    let len = length_if_there(prefix, null, &bytes[at..]) as usize;
-    at + if_there(prefix.bytes() as u32, null) as usize + len
+    if bytes.len() < at + 4 {
+        return last_counted_end(prefix, at, bytes);
+    }
+    at + prefix.bytes() + length_at(prefix, &bytes[at..]) as usize
 }
 
 /// Where the value of a column ends that begins at a position, and that position where it is NULL, by its null bit. The
-/// end of a value that isn't there is past the bytes.
+/// end of a value that isn't there is past the bytes. A NULL is jumped over where null bits are steady.
 #[inline(always)]
-fn value_end(storage: Storage, null: u8, at: usize, bytes: &[u8]) -> usize
+fn value_end<const STEADY: bool>(storage: Storage, null: u8, at: usize, bytes: &[u8]) -> usize
     requires bit { null ≤ 1 }
     requires low { at < 2 ^ 62 }
     ensures there { null ≡ 0 → EndsAt (value_stored (storage_seen storage)) at bytes.now (Some result) }
     ensures absent { null ≡ 1 → result ≡ at }
     ensures near { result ≤ at + 2 ^ 33 }
 {
+    if STEADY && null != 0 {
+        return at;
+    }
     match storage {
         Storage::Fixed(width) => at + if_there(u32::from(width), null) as usize,
         Storage::Counted(prefix) => counted_end(prefix, null, at, bytes),
@@ -118,7 +119,7 @@ fn value_end(storage: Storage, null: u8, at: usize, bytes: &[u8]) -> usize
 /// Where the values of the next columns end, `count` of them from column `from` on, whose null bits are in one byte.
 /// Each has less than 2^33 bytes, so that no addition has to be checked.
 #[inline(always)]
-fn columns_end(
+fn columns_end<const STEADY: bool>(
     storages: &[Storage],
     from: usize,
     count: usize,
@@ -138,15 +139,20 @@ fn columns_end(
     let mut end = at;
     for k in 0..count {
         let null = (bits >> k) % 2;
-        end = value_end(storages[from + k], null, end, bytes);
+        end = value_end::<STEADY>(storages[from + k], null, end, bytes);
     }
     end
 }
 
 /// Where the values of columns end that begin at a position, by their null bits, eight columns at a time. Where a value
-/// isn't there, that is past the bytes.
+/// isn't there, that is past the bytes; it is looked for no further then.
 #[inline(always)]
-fn values_end(storages: &[Storage], nulls: &[u8], at: usize, bytes: &[u8]) -> usize
+fn values_end_as<const STEADY: bool>(
+    storages: &[Storage],
+    nulls: &[u8],
+    at: usize,
+    bytes: &[u8],
+) -> usize
     requires long { length storages.now ≤ 8 * length nulls.now }
     requires few { length storages.now ≤ 4096 }
     requires low { at ≤ 512 }
@@ -157,26 +163,44 @@ fn values_end(storages: &[Storage], nulls: &[u8], at: usize, bytes: &[u8]) -> us
     'columns: while storages.len() - from >= 8 {
         // Eight NULLs take no bytes, so that sparse rows of wide tables are passed quickly.
         if nulls[from / 8] != ALL_NULL {
-            end = columns_end(storages, from, 8, nulls, end, bytes);
+            end = columns_end::<STEADY>(storages, from, 8, nulls, end, bytes);
+            if bytes.len() < end {
+                return end;
+            }
         }
         from += 8;
     }
     if from < storages.len() {
-        end = columns_end(storages, from, storages.len() - from, nulls, end, bytes);
+        end = columns_end::<STEADY>(storages, from, storages.len() - from, nulls, end, bytes);
     }
     end
+}
+
+/// The same, faster where null bits are steady, if `steady` says that they are.
+#[inline(always)]
+fn values_end(storages: &[Storage], steady: bool, nulls: &[u8], at: usize, bytes: &[u8]) -> usize
+    requires long { length storages.now ≤ 8 * length nulls.now }
+    requires few { length storages.now ≤ 4096 }
+    requires low { at ≤ 512 }
+    ensures { (columns : Layout) → AreStored columns storages.now → behind_from columns nulls.now 0 at bytes.now ≡ from_position result bytes.now }
+{
+    if steady {
+        values_end_as::<true>(storages, nulls, at, bytes)
+    } else {
+        values_end_as::<false>(storages, nulls, at, bytes)
+    }
 }
 
 /// How long the image is with which the bytes begin, in bytes; None where they begin with none. Its columns are stored
 /// so.
 #[inline(always)]
-pub(crate) fn len_by(storages: &[Storage], bytes: &[u8]) -> Option<usize>
+pub(crate) fn len_by(storages: &[Storage], steady: bool, bytes: &[u8]) -> Option<usize>
     requires few { length storages.now ≤ 4096 }
     ensures exact { (columns : Layout) → AreStored columns storages.now → result ≡ image_len_of columns bytes.now }
     ensures within { IfSome result (λ m. m ≤ length bytes.now) }
 {
     let count = storages.len().div_ceil(8);
     let (nulls, _) = cut_at(count, bytes)?;
-    let end = values_end(storages, nulls, count, bytes);
+    let end = values_end(storages, steady, nulls, count, bytes);
     if end <= bytes.len() { Some(end) } else { None }
 }

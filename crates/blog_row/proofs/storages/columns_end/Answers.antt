@@ -3,7 +3,7 @@ use Rattle.blog_row.proofs.StorageWalking.{next_column}
 use Rattle.blog_row.proofs.storages.columns_end.Goals as goal
 
 pub loop-k-preserved : goal.loop-k-preserved
-loop-k-preserved c = record {
+loop-k-preserved g c = record {
   near = omega (arith, c.loop-k.invariant.near, c.value_end-end.ensures.near);
   behind = λ columns stored.
       let low : c.loop-k.k < 8 = omega (arith, c.loop-k-test.true, c.requires.few) in

@@ -17,8 +17,7 @@ few_bytes Four = omega arith
 pub returns-clause-there : goal.returns-clause-there
 returns-clause-there c e =
     let p : ℕ = prefix_seen c.args.prefix in
-    let width : c.if_there.result ≡ p = c.if_there.ensures.there e ∙ c.bytes.ensures in
-    let len : c.length_if_there-len.result ≡ little_number p (drop c.args.at c.args.bytes.now) = c.length_if_there-len.ensures.there e ∙ ap (little_number p) (take_rest c.args.bytes.now c.args.at) in
-    let end : c.args.at + p + little_number p (drop c.args.at c.args.bytes.now) ≡ c.args.at + c.if_there.result + c.length_if_there-len.result = omega (arith, width, len) in
+    let len : c.length_at.result ≡ little_number p (drop c.args.at c.args.bytes.now) = c.length_at.ensures ∙ ap (little_number p) (take_rest c.args.bytes.now c.args.at) in
+    let end : c.args.at + p + little_number p (drop c.args.at c.args.bytes.now) ≡ c.args.at + c.bytes.result + c.length_at.result = omega (arith, c.bytes.ensures, len) in
     counted_ends p c.args.at c.args.bytes.now (omega (arith, few_bytes c.args.prefix, c.if-bytes-at.false))
     ∙ ap (λ (n : ℕ). from_position n c.args.bytes.now) end

@@ -1,10 +1,10 @@
 use Rattle.std.proofs.Common.{◌≡◌, ◌<◌, ℕ, ◌^◌, ◌-◌, List, get_or, bit_and, ap, ◌∙◌, arith}
-use Rattle.std.proofs.lemmas.Nat.{and_mask, and_le_r}
+use Rattle.std.proofs.lemmas.Nat.{and_mask}
 use Rattle.byteorder.specs.Endian.{little_number}
 use Rattle.blog_row.specs.code.StorageView.{prefix_seen}
 use Rattle.blog_row.specs.declared.column.Prefix.{Prefix}
 use Rattle.blog_row.specs.declared.column.Prefix.TheVariants.{One, Two, Three, Four}
-use Rattle.blog_row.proofs.storages.length_if_there.Goals as goal
+use Rattle.blog_row.proofs.storages.length_at.Goals as goal
 
 -- the lower bytes of a number of four bytes
 lower_bytes : (prefix : Prefix) (bytes : List ℕ) → ((i : ℕ) → get_or bytes i 0 < 256)
@@ -14,13 +14,8 @@ lower_bytes Two bytes each = and_mask (little_number 4 bytes) 16 ∙ omega (arit
 lower_bytes Three bytes each = and_mask (little_number 4 bytes) 24 ∙ omega (arith, each 0, each 1, each 2)
 lower_bytes Four bytes each = and_mask (little_number 4 bytes) 32 ∙ omega (arith, each 0, each 1, each 2, each 3)
 
-pub returns-clause-there : goal.returns-clause-there
-returns-clause-there c e =
-    let kept : c.if_there.result ≡ c.mask.result = omega (arith, c.if_there.ensures.there, e) in
-    let mask : c.if_there.result ≡ 256 ^ prefix_seen c.args.prefix - 1 = kept ∙ c.mask.ensures in
-    ap (bit_and c.read_u32.result) mask
+pub returns : goal.returns
+returns c =
+    ap (bit_and c.read_u32.result) c.mask.ensures
     ∙ ap (λ (n : ℕ). bit_and n (256 ^ prefix_seen c.args.prefix - 1)) c.read_u32.ensures
     ∙ lower_bytes c.args.prefix c.args.bytes.now (λ i. omega (arith, c.type_inv.bytes i))
-
-pub returns-clause-absent : goal.returns-clause-absent
-returns-clause-absent c e = omega (arith, and_le_r c.read_u32.result c.if_there.result, c.if_there.ensures.absent, e)

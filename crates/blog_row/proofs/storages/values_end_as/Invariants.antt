@@ -2,10 +2,10 @@ use Rattle.std.proofs.Common.{◌≡◌, ◌≤◌, ◌+◌, ◌*◌, ◌^◌, �
 use Rattle.blog_row.specs.Column.{Layout}
 use Rattle.blog_row.specs.code.StorageView.{AreStored}
 use Rattle.blog_row.specs.code.PositionView.{behind_from}
-use Rattle.blog_row.proofs.storages.values_end.Given as goal
+use Rattle.blog_row.proofs.storages.values_end_as.Given as goal
 
 abbrev pub invariant-columns : goal.invariant-columns
-invariant-columns l = record {
+invariant-columns g l = record {
   below : l.from ≤ length l.storages;
   whole : l.from % 8 ≡ 0;
   near : l.end ≤ 512 + l.from * 2 ^ 33;
@@ -13,4 +13,4 @@ invariant-columns l = record {
 }
 
 abbrev pub decreases-columns : goal.decreases-columns
-decreases-columns l = length l.storages - l.from
+decreases-columns g l = length l.storages - l.from
