@@ -1,5 +1,5 @@
 #!/bin/sh
-# Checks what is installed and packed, and each example of the helps and the man pages:
+# Checks what is installed and packed, each example of the helps and the man pages, and which ports are named:
 #     package/check.sh PROGRAM BINLOG VERSION
 # Prints one line if all is well, else what differs from package/files.txt and package/examples.txt.
 set -eu
@@ -148,6 +148,75 @@ faults_are_told() {
     done
 }
 
+# the code of a crate without its comments and tests
+code_of() {
+    find "crates/$1/src" -name '*.rt' ! -name tests.rt ! -path '*/tests/*' -exec sed '/^ *\/\//d' {} +
+}
+
+# Each crate with each one that its code names. What only its definitions, proofs or tests name isn't linked.
+linked_by_crates() {
+    sed -n 's/^\([a-z0-9_]*\): */\1 /p' crates.txt | while read -r crate others; do
+        code_of "$crate" > "$work/code"
+        for other in $others; do
+            ! grep -q "\<$other::" "$work/code" || echo "$crate $other"
+        done
+    done
+}
+
+# Each port of a Rust crate with the other ones that it names itself, which crates.txt doesn't have. The crates jiff_* of
+# the toolchain are parts of one port, and its crates ucd_* are the tables of Unicode.
+linked_by_ports() {
+    cat << 'END'
+bstr memchr
+bstr unicode_segmentation
+clap strsim
+jiff arrayvec
+jiff_tz jiff
+END
+}
+
+# the ports that a program is linked with
+ports_of() {
+    awk -v program="$1" '
+        { others[$1] = others[$1] " " $2 }
+        function link(crate,    all, count, i) {
+            if (crate in linked)
+                return
+            linked[crate] = 1
+            count = split(others[crate], all, " ")
+            for (i = 1; i <= count; i++)
+                link(all[i])
+            print crate
+        }
+        END { link(program) }' "$work/links" | while read -r crate; do
+        [ -d "crates/$crate" ] || [ "$crate" = jiff_tz ] || echo "$crate"
+    done | LC_ALL=C sort
+}
+
+# names that stand in lines, divided by commas, each in a line and as crates.txt writes it
+one_a_line() {
+    tr ',' '\n' | tr -d ' ' | tr - _ | sed '/^$/d' | LC_ALL=C sort
+}
+
+# package/copyright names the ports that the programs are linked with, and no others, and says which binlog alone has.
+ports_are_named() {
+    { linked_by_crates && linked_by_ports; } > "$work/links"
+    ports_of flashback > "$work/of_flashback"
+    ports_of binlog > "$work/of_binlog"
+    LC_ALL=C sort -u "$work/of_flashback" "$work/of_binlog" > "$work/linked"
+    sed -n '/^ of its crate:$/,/^ In binlog alone/s/^  \([a-z].*\)/\1/p' package/copyright \
+        | sed 's/  .*//' | one_a_line > "$work/named"
+    for port in $(LC_ALL=C comm -23 "$work/linked" "$work/named"); do
+        differs "package/copyright doesn't name $port, which is linked into a program"
+    done
+    for port in $(LC_ALL=C comm -13 "$work/linked" "$work/named"); do
+        differs "package/copyright names $port, which is linked into no program"
+    done
+    LC_ALL=C comm -13 "$work/of_flashback" "$work/of_binlog" > "$work/alone"
+    sed -n 's/^ In binlog alone: \(.*\)\.$/\1/p' package/copyright | one_a_line | cmp -s "$work/alone" - \
+        || differs "package/copyright: in binlog alone are $(tr '\n' ' ' < "$work/alone")"
+}
+
 # man pages have no errors, as far as there is a program that looks for them
 pages_are_sound() {
     for page in man/*.1; do
@@ -185,6 +254,7 @@ diff -u package/examples.txt "$work/examples" >&2 || differs "an example does ot
 options_agree
 faults_are_told crates/blog_event/src/fault.rt flashback
 faults_are_told crates/blog_sum/src/fault.rt binlog
+ports_are_named
 pages_are_sound
 for program in flashback binlog; do
     case $($program --version) in
