@@ -16,7 +16,7 @@ use std::io::Write;
 /// How many bytes a line encodes.
 const LINE_BYTES: usize = 57;
 
-/// Adds a line: 57 bytes, or fewer at the end.
+/// Adds a line of at most 57 bytes. Only the last line goes this way, if it isn't full.
 fn put_line<A: Allocator, W: Write>(
     writer: &mut Watched<W>,
     chunk: &mut Vec<u8, A>,

@@ -1,4 +1,5 @@
-//! A full line in base64: twelve bytes at once become sixteen characters.
+//! A full line in base64: twelve bytes at once become sixteen characters, by the method of W. Muła and D. Lemire ("Faster
+//! Base64 Encoding and Decoding Using AVX2 Instructions", 2018), with vectors of sixteen bytes in place of 32.
 
 ghost use Rattle.std.specs.Prelude.{◌≡◌, ◌<◌, ◌≤◌, ◌+◌, ◌++◌, ◌∷◌, [], length, map, take, drop, slice_index};
 ghost use Rattle.std.specs.Simd.Lanes.{Each1};
@@ -9,7 +10,7 @@ ghost use Rattle.blog_sql.specs.code.FullLine.{sixes};
 use std::simd::prelude::*;
 
 /// What turns a number into its character, by classes: 0 is `a` to `z`, 1 to 10 are the digits, 11 is `+`, 12 is `/`, and
-/// 13 is `A` to `Z`.
+/// 13 is `A` to `Z`. Each is a character less its number, modulo 256: 97 - 26, 48 - 52, 43 - 62, 47 - 63 and 65 - 0.
 const OFFSETS: [u8; 16] = [
     71, 252, 252, 252, 252, 252, 252, 252, 252, 252, 252, 237, 240, 65, 0, 0,
 ];
