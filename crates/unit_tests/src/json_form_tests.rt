@@ -1,16 +1,19 @@
-//! Lists of units as JSON, compared with what serde writes, for names, statements, ids, times and faults of many kinds.
+//! Lists of units as JSON, compared with what serde writes: names, statements, ids and faults of many kinds, times on both sides
+//! of clock changes, and damaged events.
 
 use crate::json_lines::{lines_of, put_totals};
 use crate::lists::ALL;
 use crate::parts::{ONE, event_of};
 use crate::sources::{source_of, source_with};
+use crate::time_tests::{BERLIN_TIMES, KOLKATA_TIMES, LORD_HOWE_TIMES, Shown};
 use crate::zones::{BERLIN, KOLKATA, LORD_HOWE};
 use blog_device::Watched;
 use blog_event::Log;
 use blog_list::{Form, ListWriter, Style, Totals};
 use blog_source::{Reading, Source};
+use bstr::ByteSlice;
 use jiff::tz::{TimeZone, Tzif};
-use sample_logs::builder::{BEGIN, Part, XID, build, with_bytes};
+use sample_logs::builder::{BEGIN, Part, XID, build, set_bytes};
 use sample_logs::samples::{ALTER_BETWEEN, INSERT, MULTI_TABLE, SAVEPOINT_KEPT, UPDATE};
 use sample_logs::summed::{CLOSED, CLOSED_PLAIN, IN_USE, IN_USE_PLAIN};
 use server_logs::tagged::{TAGGED, TAGGED_PLAIN};
@@ -26,13 +29,13 @@ static TEXTS: [&'static [u8]; 36] = [
     b"\xe2\x82", b"\xe2\x82\"", b"\xed\xa0\x80", b"\xf0\x9f\x98", b"\xf0\x9f\x98\\", b"\xf4\x90\x80\x80", b"\xf8\x88\x80\x80\x80", b"\xff\xfe",
 ];
 
-/// Checks the lines of a source, under a name or without, and its totals.
-fn check_source(
+/// Returns the lines of a source, under a name or without, and its totals, when they are those of serde.
+fn checked_lines(
     rt: &(impl AllocGlobal + Abort),
     source: &Source,
     name: Option<&[u8]>,
     zone: TimeZone<'_>,
-) -> Result<(), Fail> {
+) -> Result<Vec<u8>, Fail> {
     let mut wanted = lines_of(rt.alloc(), zone, source, name)?;
     let style = Style {
         form: Form::Json,
@@ -49,6 +52,17 @@ fn check_source(
     put_totals(rt.alloc(), &mut wanted, &totals)?;
     let text = str::from_utf8(output.device().as_slice())?;
     assert_eq!(rt; text, str::from_utf8(&wanted)?);
+    Ok(wanted)
+}
+
+/// Checks the lines of a source, under a name or without, and its totals.
+fn check_source(
+    rt: &(impl AllocGlobal + Abort),
+    source: &Source,
+    name: Option<&[u8]>,
+    zone: TimeZone<'_>,
+) -> Result<(), Fail> {
+    checked_lines(rt, source, name, zone)?;
     Ok(())
 }
 
@@ -153,21 +167,66 @@ fn long_texts_are_written_as_serde_does(rt: HostRuntime) -> Result<(), Fail> {
     Ok(())
 }
 
+/// Where the Query events of `CLOSED_PLAIN` begin, one in each of its transactions.
+const QUERIES: [usize; 4] = [269, 563, 842, 1218];
+
+/// The log `CLOSED_PLAIN` with this time in its Query events.
+fn closed_at(rt: &impl AllocGlobal, seconds: u32) -> Result<Vec<u8>, Fail> {
+    let mut log = CLOSED_PLAIN.to_vec(rt.alloc())?;
+    let [first, second, third, fourth] = seconds.to_le_bytes();
+    for at in QUERIES {
+        let edits = [
+            (at, first),
+            (at.wrapping_add(1), second),
+            (at.wrapping_add(2), third),
+            (at.wrapping_add(3), fourth),
+        ];
+        set_bytes(&mut log, &edits)?;
+    }
+    Ok(log)
+}
+
+/// Checks the lines of the transactions of `CLOSED_PLAIN` at these times in the zone of this file, and that each has its time.
+fn check_times(rt: &(impl AllocGlobal + Abort), file: &[u8], times: &[Shown]) -> Result<(), Fail> {
+    let table = Tzif::parse(rt.alloc(), None, file)?;
+    let zone = TimeZone::tzif(&table);
+    for (seconds, _, shown) in times {
+        let source = source_of(rt, &closed_at(rt, *seconds)?)?;
+        let lines = checked_lines(rt, &source, Some(b"a.1"), zone)?;
+        let time = format!(in rt.alloc(); "\"time\":\"{shown}\",\"timestamp\":{seconds},")?;
+        let count = lines.as_slice().find_iter(time.as_bytes()).count();
+        assert_eq!(rt; count, QUERIES.len(), "{shown}");
+    }
+    check_source(rt, &source_of(rt, &IN_USE)?, None, zone)
+}
+
 #[test]
 fn times_are_written_as_by_serde(rt: HostRuntime) -> Result<(), Fail> {
-    for file in [BERLIN, KOLKATA, LORD_HOWE] {
-        let table = Tzif::parse(rt.alloc(), None, file)?;
-        let zone = TimeZone::tzif(&table);
-        for byte in [0x00, 0x0f, 0x6a, 0x6b, 0x80, 0xff] {
-            let edits = [(194 + 2, byte), (194 + 3, byte)];
-            let bytes = with_bytes(&rt, &CLOSED, &edits)?;
-            let how = Reading {
-                stop: None,
-                skip_damaged: true,
-            };
-            check_source(&rt, &source_with(&rt, &bytes, how)?, Some(b"a.1"), zone)?;
+    check_times(&rt, BERLIN, &BERLIN_TIMES)?;
+    check_times(&rt, KOLKATA, &KOLKATA_TIMES)?;
+    check_times(&rt, LORD_HOWE, &LORD_HOWE_TIMES)
+}
+
+/// Bytes of events of `CLOSED`: of its first transaction's rows, of its Previous_gtids event, and of its third transaction's
+/// rows.
+const IN_EVENTS: [usize; 3] = [450, 196, 1060];
+
+#[test]
+fn damaged_events_are_written_as_serde_does(rt: HostRuntime) -> Result<(), Fail> {
+    let how = Reading {
+        stop: None,
+        skip_damaged: true,
+    };
+    let mut damaged = CLOSED;
+    for (n, at) in IN_EVENTS.iter().enumerate() {
+        if let Some(byte) = damaged.get_mut(*at) {
+            *byte ^= 1;
         }
-        check_source(&rt, &source_of(&rt, &IN_USE)?, None, zone)?;
+        let source = source_with(&rt, &damaged, how)?;
+        let lines = checked_lines(&rt, &source, Some(b"a.1"), TimeZone::UTC)?;
+        let count = n.wrapping_add(1);
+        let last = format!(in rt.alloc(); "}}\n{{\"damaged_events\":{count}}}\n")?;
+        assert!(rt; lines.as_slice().ends_with(last.as_bytes()));
     }
     Ok(())
 }
