@@ -1,9 +1,9 @@
 mod Blocks
 mod Ending
 mod Growing
+mod JsonBytes
+mod JsonLanes
 mod Marking
 mod OnTheWay
 mod Plain
-mod Unescaped
-mod Utf8
 mod Whole

@@ -10,7 +10,7 @@ ghost use Rattle.blog_list.specs.code.Json.{PutsJsonTime, json_count, json_count
 
 use crate::beginning::Beginning;
 use crate::fault_events::{statement_of, words_of};
-use crate::json_text::{is_utf8, put_string};
+use crate::json_text::{put_lossy, put_str, put_string};
 use crate::lines::put_id;
 use crate::texts::put_text;
 use crate::times::rfc_3339_text;
@@ -183,13 +183,15 @@ fn put_name<A: Allocator>(
     ensures { OnOk result (out.new.items ≡ out.old.items ++ json_name field.now hex_field.now name.now) }
 {
     put_text(out, field)?;
-    put_string(out, name)?;
-    if is_utf8(name) {
-        return Ok(());
+    match str::from_utf8(name) {
+        Ok(text) => put_str(out, text),
+        Err(_) => {
+            put_lossy(out, name)?;
+            put_text(out, hex_field)?;
+            put_text(out, hex::encode_upper(global, name)?.as_bytes())?;
+            put_text(out, b"\"")
+        }
     }
-    put_text(out, hex_field)?;
-    put_text(out, hex::encode_upper(global, name)?.as_bytes())?;
-    put_text(out, b"\"")
 }
 
 /// Appends why a unit can't be undone that stops at a position.
@@ -202,7 +204,7 @@ fn put_refusal<A: Allocator, B: Allocator>(
     stop: u32,
 ) -> Result<(), AllocError> {
     put_text(out, b",\"fault\":")?;
-    put_string(out, fault.name().as_bytes())?;
+    put_str(out, fault.name())?;
     if let Some(position) = source.at_place(fault).at() {
         put_numbered(out, b",\"position\":", u64::from(position))?;
     }
@@ -210,11 +212,11 @@ fn put_refusal<A: Allocator, B: Allocator>(
         let columns = TEXT_COLUMNS;
         let shown = format!(in global; "{}", Beginning { text, columns })?;
         put_text(out, b",\"statement\":")?;
-        put_string(out, shown.as_bytes())?;
+        put_str(out, shown.as_str())?;
     }
     if let Some(words) = words_of(log, fault, stop) {
         put_text(out, b",\"event\":")?;
-        put_string(out, words.as_bytes())?;
+        put_str(out, words)?;
     }
     Ok(())
 }

@@ -1,55 +1,60 @@
 //! Texts as strings of JSON (RFC 8259), with the shortest escape for each character that needs one.
 
-ghost use Rattle.std.specs.Prelude.{◌≡◌, ◌≤◌, ◌++◌, OnOk, length};
-ghost use Rattle.std.specs.Str.{is_utf8};
-ghost use Rattle.blog_list.specs.code.Json.{is_unescaped, json_char, json_control, json_string, unescaped_len};
+ghost use Rattle.std.specs.Prelude.{◌≡◌, ◌≤◌, ◌++◌, OnOk, length, map, true};
+ghost use Rattle.std.specs.List.{flat_map, prefix_len};
+ghost use Rattle.std.specs.Simd.Lanes.{mask_l};
+ghost use Rattle.blog_list.specs.code.Json.{is_escaped, is_literal, json_byte, json_char, json_control, json_string};
 
 use crate::texts::{put_byte, put_text};
 use bstr::ByteSlice;
 use std::alloc::{AllocError, Allocator};
+use std::simd::prelude::*;
 
-/// Whether bytes are UTF-8.
-pub(crate) fn is_utf8(bytes: &[u8]) -> bool
-    ensures { result ≡ is_utf8 bytes.now }
+/// Whether a byte of UTF-8 needs an escape in a string.
+fn is_escaped(byte: u8) -> bool
+    ensures { result ≡ is_escaped byte }
 {
-    str::from_utf8(bytes).is_ok()
+    byte == b'"' || byte == b'\\' || byte < b' '
 }
 
-/// Whether a byte is a character that stands for itself in a string.
-fn is_unescaped(byte: u8) -> bool
-    ensures { result ≡ is_unescaped byte }
+/// Returns which of sixteen bytes need one, the first in the lowest bit.
+#[inline(always)]
+fn escaped_of(bytes: u8x16) -> u64
+    ensures { result ≡ mask_l (map is_escaped bytes) }
 {
-    byte >= b' ' && byte < 0x80 && byte != b'"' && byte != b'\\'
+    (bytes.simd_eq(u8x16::splat(b'"'))
+        | bytes.simd_eq(u8x16::splat(b'\\'))
+        | bytes.simd_lt(u8x16::splat(b' '))).to_bitmask()
 }
 
-/// Returns how many bytes at the beginning of a text stand for themselves.
-fn unescaped_len(text: &[u8]) -> usize
-    ensures all { result ≡ unescaped_len text.now }
+/// Returns how many bytes at the beginning of a text need none.
+fn literal_len(text: &[u8]) -> usize
+    ensures all { result ≡ prefix_len is_literal text.now }
     ensures within { result ≤ length text.now }
 {
-    'unescaped: for i in 0..text.len() {
-        if !is_unescaped(text[i]) {
+    let mut len = 0;
+    'blocks: while text.len() - len >= 16 {
+        let escaped = escaped_of(u8x16::from_slice(&text[len..]));
+        if escaped != 0 {
+            return len + escaped.trailing_zeros() as usize;
+        }
+        len += 16;
+    }
+    len + short_literal_len(&text[len..])
+}
+
+/// Returns the same of a short text, byte by byte.
+#[inline(always)]
+fn short_literal_len(text: &[u8]) -> usize
+    ensures all { result ≡ prefix_len is_literal text.now }
+    ensures within { result ≤ length text.now }
+{
+    'bytes: for i in 0..text.len() {
+        if is_escaped(text[i]) {
             return i;
         }
     }
     text.len()
-}
-
-/// Appends a character of a string.
-fn put_char<A: Allocator>(out: &mut Vec<u8, A>, c: char) -> Result<(), AllocError>
-    ensures { OnOk result (out.new.items ≡ out.old.items ++ json_char c) }
-{
-    match c {
-        '"' => put_text(out, b"\\\""),
-        '\\' => put_text(out, b"\\\\"),
-        '\n' => put_text(out, b"\\n"),
-        '\t' => put_text(out, b"\\t"),
-        '\r' => put_text(out, b"\\r"),
-        '\x08' => put_text(out, b"\\b"),
-        '\x0c' => put_text(out, b"\\f"),
-        _ if c < ' ' => put_control(out, c as u8),
-        _ => put_text(out, c.encode_utf8(&mut [0; 4]).as_bytes()),
-    }
 }
 
 /// Appends a control character by its number.
@@ -60,15 +65,82 @@ fn put_control<A: Allocator>(out: &mut Vec<u8, A>, byte: u8) -> Result<(), Alloc
     put_byte(out, byte)
 }
 
-/// Appends a text as a string, with U+FFFD for what is no character.
-pub(crate) fn put_string<A: Allocator>(out: &mut Vec<u8, A>, text: &[u8]) -> Result<(), AllocError>
+/// Appends the escape of a byte.
+fn put_escape<A: Allocator>(out: &mut Vec<u8, A>, byte: u8) -> Result<(), AllocError>
+    requires { is_escaped byte ≡ true }
+    ensures { OnOk result (out.new.items ≡ out.old.items ++ json_char byte) }
+{
+    let letter = match byte {
+        b'"' | b'\\' => byte,
+        b'\n' => b'n',
+        b'\t' => b't',
+        b'\r' => b'r',
+        b'\x08' => b'b',
+        b'\x0c' => b'f',
+        _ => return put_control(out, byte),
+    };
+    put_text(out, &[b'\\', letter])
+}
+
+/// Appends a character of a string.
+fn put_char<A: Allocator>(out: &mut Vec<u8, A>, c: char) -> Result<(), AllocError>
+    ensures { OnOk result (out.new.items ≡ out.old.items ++ json_char c) }
+{
+    if !c.is_ascii() {
+        return put_text(out, c.encode_utf8(&mut [0; 4]).as_bytes());
+    }
+    let byte = c as u8;
+    if is_escaped(byte) {
+        put_escape(out, byte)
+    } else {
+        put_text(out, &[byte])
+    }
+}
+
+/// Appends the bytes of a text, those that need it escaped.
+fn put_escaped<A: Allocator>(out: &mut Vec<u8, A>, text: &[u8]) -> Result<(), AllocError>
+    ensures { OnOk result (out.new.items ≡ out.old.items ++ flat_map json_byte text.now) }
+{
+    let mut rest = text;
+    'bytes: while let Some((first, later)) = rest.split_first() {
+        if is_escaped(*first) {
+            put_escape(out, *first)?;
+            rest = later;
+        } else {
+            let (literal, after) = rest.split_at(literal_len(rest));
+            put_text(out, literal)?;
+            rest = after;
+        }
+    }
+    Ok(())
+}
+
+/// Appends a text as a string.
+pub(crate) fn put_str<A: Allocator>(out: &mut Vec<u8, A>, text: &str) -> Result<(), AllocError>
     ensures { OnOk result (out.new.items ≡ out.old.items ++ json_string text.now) }
 {
-    let unescaped = unescaped_len(text);
     put_text(out, b"\"")?;
-    put_text(out, &text[..unescaped])?;
-    for c in (&text[unescaped..]).chars() {
+    put_escaped(out, text.as_bytes())?;
+    put_text(out, b"\"")
+}
+
+/// Appends bytes as a string, with U+FFFD for what is no character.
+pub(crate) fn put_lossy<A: Allocator>(out: &mut Vec<u8, A>, text: &[u8]) -> Result<(), AllocError>
+    ensures { OnOk result (out.new.items ≡ out.old.items ++ json_string text.now) }
+{
+    put_text(out, b"\"")?;
+    for c in text.chars() {
         put_char(out, c)?;
     }
     put_text(out, b"\"")
+}
+
+/// Appends bytes that may be text as a string.
+pub(crate) fn put_string<A: Allocator>(out: &mut Vec<u8, A>, text: &[u8]) -> Result<(), AllocError>
+    ensures { OnOk result (out.new.items ≡ out.old.items ++ json_string text.now) }
+{
+    match str::from_utf8(text) {
+        Ok(text) => put_str(out, text),
+        Err(_) => put_lossy(out, text),
+    }
 }

@@ -167,6 +167,23 @@ fn long_texts_are_written_as_serde_does(rt: HostRuntime) -> Result<(), Fail> {
     Ok(())
 }
 
+#[test]
+fn escapes_at_each_place_are_written_as_serde_does(rt: HostRuntime) -> Result<(), Fail> {
+    let mut text = Vec::new(rt.alloc());
+    for len in 14..35_usize {
+        for at in 0..len {
+            for part in [b"\"".as_slice(), b"\x1f", b"\xd0\xb6\\", b"\xff"] {
+                text.clear();
+                text.resize(at, b'a')?;
+                text.extend_from_slice(part)?;
+                text.resize(len, b'a')?;
+                check_name(&rt, &text)?;
+            }
+        }
+    }
+    Ok(())
+}
+
 /// Where the Query events of `CLOSED_PLAIN` begin, one in each of its transactions.
 const QUERIES: [usize; 4] = [269, 563, 842, 1218];
 

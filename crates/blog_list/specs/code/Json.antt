@@ -1,5 +1,5 @@
 -- Texts as strings of JSON, and parts of its lines.
-use Rattle.std.specs.Prelude.{◌≡◌, ℕ, suc, ◌==◌, ◌&&◌, Bool, not, nat_le, nat_lt, if◌then◌else◌, List, [], ◌∷◌, ◌++◌, Option, Some, None, codes, encode_utf8}
+use Rattle.std.specs.Prelude.{◌≡◌, ℕ, ◌==◌, ◌||◌, Bool, not, nat_lt, if◌then◌else◌, List, [], ◌∷◌, ◌++◌, Option, Some, None, codes, encode_utf8}
 use Rattle.std.specs.List.{flat_map}
 use Rattle.std.specs.Str.{is_utf8}
 use Rattle.jiff.specs.Types.{TimeZone}
@@ -32,14 +32,16 @@ json_char c =
 abbrev pub json_string : List ℕ → List ℕ
 json_string text = 34 ∷ (flat_map json_char (lossy_chars text) ++ 34 ∷ [])
 
--- a byte that is a character by itself, and needs no escape
-abbrev pub is_unescaped : ℕ → Bool
-is_unescaped byte = nat_le 0x20 byte && nat_lt byte 0x80 && not (byte == 0x22) && not (byte == 0x5C)
+-- a byte of UTF-8 that doesn't stand for itself in a string
+abbrev pub is_escaped : ℕ → Bool
+is_escaped byte = (byte == 0x22) || (byte == 0x5C) || nat_lt byte 0x20
 
--- how many of them are at the beginning of bytes
-abbrev pub unescaped_len : List ℕ → ℕ
-unescaped_len [] = 0
-unescaped_len (byte ∷ rest) = if is_unescaped byte then suc (unescaped_len rest) else 0
+abbrev pub is_literal : ℕ → Bool
+is_literal byte = not (is_escaped byte)
+
+-- what stands in a string for a byte of UTF-8
+unfoldable pub json_byte : ℕ → List ℕ
+json_byte byte = if is_escaped byte then json_char byte else byte ∷ []
 
 -- ---- the parts of a line
 
