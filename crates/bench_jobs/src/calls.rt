@@ -16,7 +16,7 @@ use std::alloc::Global;
 /// How many bytes the rows events of a cut statement have at most: the programs' default.
 const LIMIT: usize = 1_000_000;
 
-/// The zone of times that are written.
+/// The rule of the zone of times that are written.
 const ZONE: &str = "CET-1CEST,M3.5.0,M10.5.0/3";
 
 /// Where all outputs go.
@@ -76,12 +76,20 @@ fn open(alloc: Global, log: &[u8]) -> Result<Source, Failure> {
     Ok(Source::open(bytes, Reading::ALL)?)
 }
 
+/// The zone of times that are written.
+pub fn zone() -> Result<TimeZone<'static>, Failure> {
+    TimeZone::posix(ZONE).map_err(|_| Failure::Zone)
+}
+
 /// Runs `binlog list` on a log: all units, with their GTIDs.
-pub fn list_all(alloc: Global, log: &[u8], form: Form, output: &mut Output) -> Result<(), Failure> {
+pub fn list_all(
+    alloc: Global,
+    log: &[u8],
+    zone: TimeZone<'static>,
+    form: Form,
+    output: &mut Output,
+) -> Result<(), Failure> {
     let source = open(alloc, log)?;
-    let Ok(zone) = TimeZone::posix(ZONE) else {
-        return Err(Failure::Zone);
-    };
     let style = Style {
         form,
         zone,

@@ -1,7 +1,7 @@
 //! The jobs: what is done on which logs.
 
 use crate::calls::{
-    Output, cut, list_all, list_table, make_plain, of_range, of_table, print, undo, undone,
+    Output, cut, list_all, list_table, make_plain, of_range, of_table, print, undo, undone, zone,
 };
 use crate::digest::Digest;
 use crate::events::{Events, low_half};
@@ -15,6 +15,7 @@ use crate::words::{Job, Task};
 use blog_device::Watched;
 use blog_flash::{Mode, Selection};
 use blog_list::Form;
+use jiff::tz::TimeZone;
 use std::alloc::Global;
 
 /// What was written.
@@ -26,13 +27,15 @@ pub struct Written {
     pub digest: u64,
 }
 
-/// What the rounds of a job share.
+/// What the logs of a job share. Each log goes one way: no call has the same input twice.
 #[derive(Drop)]
 struct Bench {
     alloc: Global,
     source: Source,
     events: Events,
     output: Output,
+    /// The zone of times that are written.
+    zone: TimeZone<'static>,
     /// How large a log is made, in bytes.
     size: usize,
 }
@@ -44,6 +47,7 @@ pub fn work(alloc: Global, task: &Task) -> Result<Written, Failure> {
         source: Source::new(task.seed),
         events: Events::new(alloc),
         output: Watched::new(Digest::new(alloc)?),
+        zone: zone()?,
         size: (task.kilobytes as usize).saturating_mul(1000),
     };
     match task.job {
@@ -100,6 +104,13 @@ impl Bench {
         Ok(Large { table, start, stop })
     }
 
+    /// Makes a log that undoes a large transaction.
+    fn make_undo(&mut self, shop: &mut Shop, round: u32) -> Result<Vec<u8>, Failure> {
+        let large = self.make_large(shop, round)?;
+        let range = of_range(large.start, large.stop);
+        undone(self.alloc, self.events.bytes.as_slice(), &range)
+    }
+
     /// Makes a log of small transactions with checksums, and a bulk load among them.
     fn make_small(&mut self, shop: &mut Shop, round: u32) -> Result<(), Failure> {
         let (_, bodies) = self.large_bodies(round.wrapping_mul(2))?;
@@ -112,51 +123,66 @@ impl Bench {
         Ok(shop.put_transactions(&mut self.source, &mut self.events, 500, self.size)?)
     }
 
-    /// Lists of logs of small transactions, with checksums.
+    /// Lists of logs of small transactions, with checksums: of all as text, of one table as text, of all as JSON.
     fn list(&mut self, logs: u32) -> Result<(), Failure> {
         let mut shop = Shop::new(self.alloc, &mut self.source, SMALL)?;
-        for round in 0..logs {
-            self.make_small(&mut shop, round)?;
+        for number in 0..logs {
+            self.make_small(&mut shop, number / 3)?;
             let log = self.events.bytes.as_slice();
             let output = &mut self.output;
-            list_all(self.alloc, log, Form::Text, output)?;
-            list_table(self.alloc, log, SCHEMA, b"stock", output)?;
-            list_all(self.alloc, log, Form::Json, output)?;
+            match number % 3 {
+                0 => list_all(self.alloc, log, self.zone, Form::Text, output)?,
+                1 => list_table(self.alloc, log, SCHEMA, b"stock", output)?,
+                _ => list_all(self.alloc, log, self.zone, Form::Json, output)?,
+            }
         }
         Ok(())
     }
 
-    /// Logs that undo a large DELETE or UPDATE, normal forms and summaries.
+    /// Logs that undo a large DELETE or UPDATE by its positions and by its table, normal forms and summaries.
     fn undo(&mut self, logs: u32) -> Result<(), Failure> {
         let mut shop = Shop::new(self.alloc, &mut self.source, LARGE)?;
-        for round in 0..logs {
-            let large = self.make_large(&mut shop, round)?;
+        for number in 0..logs {
+            let large = self.make_large(&mut shop, number / 4)?;
+            let (mode, selection) = match number % 4 {
+                0 => (Mode::Flashback, of_range(large.start, large.stop)),
+                1 => (
+                    Mode::Flashback,
+                    of_table(SCHEMA, table_of(large.table).name),
+                ),
+                2 => (Mode::Forward, Selection::all()),
+                _ => (Mode::Summary, Selection::all()),
+            };
             let log = self.events.bytes.as_slice();
-            let output = &mut self.output;
-            let range = of_range(large.start, large.stop);
-            undo(self.alloc, log, Mode::Flashback, &range, output)?;
-            let table = of_table(SCHEMA, table_of(large.table).name);
-            undo(self.alloc, log, Mode::Flashback, &table, output)?;
-            undo(self.alloc, log, Mode::Forward, &Selection::all(), output)?;
-            undo(self.alloc, log, Mode::Summary, &Selection::all(), output)?;
+            undo(self.alloc, log, mode, &selection, &mut self.output)?;
         }
         Ok(())
     }
 
-    /// Logs that are cut, and printed as SQL: that which undoes a large transaction, and one of small transactions.
+    /// Logs that are printed as SQL, and cut: those that undo a large transaction, and those of small transactions.
     fn apply(&mut self, logs: u32) -> Result<(), Failure> {
         let mut large_shop = Shop::new(self.alloc, &mut self.source, LARGE)?;
         let mut small_shop = Shop::new(self.alloc, &mut self.source, SMALL)?;
-        for round in 0..logs {
-            let large = self.make_large(&mut large_shop, round)?;
-            let range = of_range(large.start, large.stop);
-            let log = undone(self.alloc, self.events.bytes.as_slice(), &range)?;
-            print(self.alloc, &log, false, &mut self.output)?;
-            cut(self.alloc, &log, &mut self.output)?;
-            self.make_small(&mut small_shop, round)?;
-            let log = self.events.bytes.as_slice();
-            print(self.alloc, log, true, &mut self.output)?;
-            cut(self.alloc, log, &mut self.output)?;
+        for number in 0..logs {
+            let round = number / 4;
+            match number % 4 {
+                0 => {
+                    let undo = self.make_undo(&mut large_shop, round)?;
+                    print(self.alloc, &undo, false, &mut self.output)?;
+                }
+                1 => {
+                    let undo = self.make_undo(&mut large_shop, round)?;
+                    cut(self.alloc, &undo, &mut self.output)?;
+                }
+                2 => {
+                    self.make_small(&mut small_shop, round)?;
+                    print(self.alloc, &self.events.bytes, true, &mut self.output)?;
+                }
+                _ => {
+                    self.make_small(&mut small_shop, round)?;
+                    cut(self.alloc, &self.events.bytes, &mut self.output)?;
+                }
+            }
         }
         Ok(())
     }
@@ -182,13 +208,16 @@ impl Bench {
     /// Lists and plain logs of large events, with checksums; and such logs cut.
     fn check_sums(&mut self, logs: u32) -> Result<(), Failure> {
         let mut shop = Shop::new(self.alloc, &mut self.source, LARGE)?;
-        for _ in 0..logs {
+        for number in 0..logs {
             start(&mut self.source, &mut self.events, true)?;
             shop.put_transactions(&mut self.source, &mut self.events, 16_000, self.size)?;
             let log = self.events.bytes.as_slice();
-            list_all(self.alloc, log, Form::Text, &mut self.output)?;
-            make_plain(self.alloc, log, &mut self.output)?;
-            cut(self.alloc, log, &mut self.output)?;
+            let output = &mut self.output;
+            match number % 3 {
+                0 => list_all(self.alloc, log, self.zone, Form::Text, output)?,
+                1 => make_plain(self.alloc, log, output)?,
+                _ => cut(self.alloc, log, output)?,
+            }
         }
         Ok(())
     }
@@ -198,20 +227,21 @@ impl Bench {
         let (alloc, size) = (self.alloc, self.size);
         let (source, events, output) = (&mut self.source, &mut self.events, &mut self.output);
         let all = Selection::all();
-        for _ in 0..logs {
+        for number in 0..logs {
+            let way = number % 7;
             start(source, events, false)?;
-            put_cascade(alloc, source, events, size)?;
-            undo(alloc, &events.bytes, Mode::Flashback, &all, output)?;
-            cut(alloc, &events.bytes, output)?;
-            start(source, events, false)?;
-            put_tenants(alloc, source, events, size)?;
-            undo(alloc, &events.bytes, Mode::Flashback, &all, output)?;
-            undo(alloc, &events.bytes, Mode::Summary, &all, output)?;
-            list_all(alloc, &events.bytes, Form::Text, output)?;
-            start(source, events, false)?;
-            put_wide(alloc, source, events, size)?;
-            undo(alloc, &events.bytes, Mode::Flashback, &all, output)?;
-            undo(alloc, &events.bytes, Mode::Summary, &all, output)?;
+            match way {
+                0 | 1 => put_cascade(alloc, source, events, size)?,
+                2 | 3 | 4 => put_tenants(alloc, source, events, size)?,
+                _ => put_wide(alloc, source, events, size)?,
+            }
+            let log = events.bytes.as_slice();
+            match way {
+                0 | 2 | 5 => undo(alloc, log, Mode::Flashback, &all, output)?,
+                3 | 6 => undo(alloc, log, Mode::Summary, &all, output)?,
+                1 => cut(alloc, log, output)?,
+                _ => list_all(alloc, log, self.zone, Form::Text, output)?,
+            }
         }
         Ok(())
     }
