@@ -1,9 +1,9 @@
-//! Calls of the product, whose outputs go into a digest.
+//! Calls of the product. What they write and return goes into a digest.
 
 use crate::digest::Digest;
 use crate::failure::Failure;
 use blog_choice::{TableChoice, TableName};
-use blog_device::{Watched, put, read_log};
+use blog_device::{RunFault, Watched, put, read_log};
 use blog_flash::{Mode, Selection, flashback, run};
 use blog_list::{Form, Style, list};
 use blog_request::Wanted;
@@ -12,6 +12,7 @@ use blog_split::split_to;
 use blog_sql::{SqlOptions, sql_of_log};
 use jiff::tz::TimeZone;
 use std::alloc::Global;
+use std::fmt::Debug;
 
 /// How many bytes the rows events of a cut statement have at most: the programs' default.
 const LIMIT: usize = 1_000_000;
@@ -58,6 +59,12 @@ fn of_tables<'n>(tables: &'n [TableName<'n>]) -> Wanted<'n> {
     }
 }
 
+/// Takes what a call returned into the digest, after what it wrote.
+fn put_answer<T: Debug>(alloc: Global, answer: &T, output: &mut Output) -> Result<(), Failure> {
+    let text = format!(in alloc; "{answer:?}\n")?;
+    Ok(put(output, text.as_bytes())?)
+}
+
 /// Runs `flashback` on a log.
 pub fn undo(
     alloc: Global,
@@ -67,13 +74,31 @@ pub fn undo(
     output: &mut Output,
 ) -> Result<(), Failure> {
     let mut reader = Watched::new(log);
-    Ok(run(alloc, &mut reader, mode, selection, output)?)
+    let done = run(alloc, &mut reader, mode, selection, output)?;
+    put_answer(alloc, &done, output)
+}
+
+/// Takes where and why the reading of a source ended into the digest, and how many damaged events were passed over.
+fn put_end(alloc: Global, source: &Source, output: &mut Output) -> Result<(), Failure> {
+    put_answer(alloc, &source.end(), output)?;
+    put_answer(alloc, &source.fault(), output)?;
+    put_answer(alloc, &source.damaged(), output)
 }
 
 /// Reads a log as a source, to its end.
-fn open(alloc: Global, log: &[u8]) -> Result<Source, Failure> {
+fn open(alloc: Global, log: &[u8], output: &mut Output) -> Result<Source, Failure> {
     let bytes = read_log(alloc, &mut Watched::new(log))?;
-    Ok(Source::open(bytes, Reading::ALL)?)
+    let source = Source::open(bytes, Reading::ALL)?;
+    put_end(alloc, &source, output)?;
+    Ok(source)
+}
+
+/// Reads a log as a source that is whole.
+fn open_whole(alloc: Global, log: &[u8], output: &mut Output) -> Result<Source, Failure> {
+    let bytes = read_log(alloc, &mut Watched::new(log))?;
+    let source = Source::open_whole(bytes)?;
+    put_end(alloc, &source, output)?;
+    Ok(source)
 }
 
 /// The zone of times that are written.
@@ -89,14 +114,14 @@ pub fn list_all(
     form: Form,
     output: &mut Output,
 ) -> Result<(), Failure> {
-    let source = open(alloc, log)?;
+    let source = open(alloc, log, output)?;
     let style = Style {
         form,
         zone,
         gtids: true,
     };
-    list(alloc, alloc, &source, &of_tables(&[]), &style, output)?;
-    Ok(())
+    let end = list(alloc, alloc, &source, &of_tables(&[]), &style, output)?;
+    put_answer(alloc, &end, output)
 }
 
 /// Runs `binlog list` on a log: the units of a table.
@@ -107,7 +132,7 @@ pub fn list_table<'n>(
     table: &'n [u8],
     output: &mut Output,
 ) -> Result<(), Failure> {
-    let source = open(alloc, log)?;
+    let source = open(alloc, log, output)?;
     let tables = [TableName {
         schema: Some(schema),
         table,
@@ -118,22 +143,23 @@ pub fn list_table<'n>(
         zone: TimeZone::UTC,
         gtids: false,
     };
-    list(alloc, alloc, &source, &wanted, &style, output)?;
-    Ok(())
+    let end = list(alloc, alloc, &source, &wanted, &style, output)?;
+    put_answer(alloc, &end, output)
 }
 
 /// Runs `binlog plain` on a log.
 pub fn make_plain(alloc: Global, log: &[u8], output: &mut Output) -> Result<(), Failure> {
     let bytes = read_log(alloc, &mut Watched::new(log))?;
     let text = plain(bytes)?;
-    Ok(put(output, &text)?)
+    let done = put(output, &text)?;
+    put_answer(alloc, &done, output)
 }
 
 /// Runs `binlog split` on a log.
 pub fn cut(alloc: Global, log: &[u8], output: &mut Output) -> Result<(), Failure> {
-    let bytes = read_log(alloc, &mut Watched::new(log))?;
-    let source = Source::open_whole(bytes)?;
-    Ok(split_to(alloc, output, source.bytes(), LIMIT)?)
+    let source = open_whole(alloc, log, output)?;
+    let done = split_to(alloc, output, source.bytes(), LIMIT)?;
+    put_answer(alloc, &done, output)
 }
 
 /// Runs `binlog sql` on a log.
@@ -143,20 +169,24 @@ pub fn print(
     each_transaction: bool,
     output: &mut Output,
 ) -> Result<(), Failure> {
-    let bytes = read_log(alloc, &mut Watched::new(log))?;
-    let source = Source::open_whole(bytes)?;
+    let source = open_whole(alloc, log, output)?;
     let how = SqlOptions {
         each_transaction,
         time: Some(1_780_000_000),
         schemas: &[],
     };
-    Ok(sql_of_log(alloc, output, source.bytes(), LIMIT, &how)?)
+    let done = sql_of_log(alloc, output, source.bytes(), LIMIT, &how)?;
+    put_answer(alloc, &done, output)
 }
 
 /// The log that undoes changes of a log.
-pub fn undone(alloc: Global, log: &[u8], selection: &Selection<'_>) -> Result<Vec<u8>, Failure> {
-    match flashback(alloc, log, selection) {
-        Ok(undo) => Ok(undo),
-        Err(fault) => Err(Failure::Run(blog_device::RunFault::Log(fault))),
-    }
+pub fn undone(
+    alloc: Global,
+    log: &[u8],
+    selection: &Selection<'_>,
+    output: &mut Output,
+) -> Result<Vec<u8>, Failure> {
+    let undo = flashback(alloc, log, selection).map_err(RunFault::Log)?;
+    put(output, &undo)?;
+    Ok(undo)
 }

@@ -18,7 +18,7 @@ use blog_list::Form;
 use jiff::tz::TimeZone;
 use std::alloc::Global;
 
-/// What was written.
+/// What was written and returned.
 #[derive(Clone, Copy)]
 pub struct Written {
     /// How many bytes.
@@ -108,7 +108,8 @@ impl Bench {
     fn make_undo(&mut self, shop: &mut Shop, round: u32) -> Result<Vec<u8>, Failure> {
         let large = self.make_large(shop, round)?;
         let range = of_range(large.start, large.stop);
-        undone(self.alloc, self.events.bytes.as_slice(), &range)
+        let log = self.events.bytes.as_slice();
+        undone(self.alloc, log, &range, &mut self.output)
     }
 
     /// Makes a log of small transactions with checksums, and a bulk load among them.

@@ -1,4 +1,4 @@
-//! Does the jobs that users wait for, on logs that it makes, and prints a digest of all that they write.
+//! Does the jobs that users wait for, on logs that it makes, and prints a digest of all that they write and return.
 #![tactic(auto)]
 
 mod calls;
