@@ -79,12 +79,30 @@ impl Events {
         Ok(())
     }
 
-    /// Begins a transaction of this number: its GTID event and its `BEGIN` in the schema `shop`.
-    pub fn begin(&mut self, number: u64, thread: u32) -> Result<(), AllocError> {
+    /// Appends the GTID event of a transaction of this number.
+    pub fn put_gtid(&mut self, number: u64) -> Result<(), AllocError> {
         // of the first transaction of the sample: the flags, the server's UUID and what follows the number
         let gtid = &CLOSED[217..273];
-        self.put(33, 0, &[&gtid[..17], &number.to_le_bytes(), &gtid[25..]])?;
-        self.put(2, 8, &[&thread.to_le_bytes(), &CLOSED[300..348]])
+        self.put(33, 0, &[&gtid[..17], &number.to_le_bytes(), &gtid[25..]])
+    }
+
+    /// Appends a query of this thread in the schema `shop`, by the parts of its text.
+    pub fn put_query(
+        &mut self,
+        thread: u32,
+        flags: u16,
+        text: [&[u8]; 3],
+    ) -> Result<(), AllocError> {
+        // of the same transaction: what is between the thread and the text
+        let [head, middle, tail] = text;
+        let thread = thread.to_le_bytes();
+        self.put(2, flags, &[&thread, &CLOSED[300..343], head, middle, tail])
+    }
+
+    /// Begins a transaction of this number: its GTID event and its `BEGIN` in the schema `shop`.
+    pub fn begin(&mut self, number: u64, thread: u32) -> Result<(), AllocError> {
+        self.put_gtid(number)?;
+        self.put_query(thread, 8, [b"BEGIN", b"", b""])
     }
 
     /// Ends a transaction of this number.

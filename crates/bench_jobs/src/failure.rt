@@ -11,7 +11,7 @@ use thiserror::Error;
 #[derive(Debug, Drop, Error)]
 pub enum Failure {
     /// The arguments ask for nothing.
-    #[error("JOB SEED LOGS KB, the job one of list, undo, apply, rows, sums and awkward")]
+    #[error("JOB SEED LOGS KB, the job one of list, undo, apply, rows, sums, awkward, optional and statements")]
     Words,
     /// The system refused a call.
     #[error("the system: {0}")]

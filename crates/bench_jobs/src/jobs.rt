@@ -9,8 +9,9 @@ use crate::failure::Failure;
 use crate::random::Source;
 use crate::rows::{Action, Bodies};
 use crate::shapes::{
-    LARGE, SCHEMA, SMALL, Shop, put_cascade, put_tenants, put_wide, start, table_of,
+    LARGE, ONE_ROW, SCHEMA, SMALL, Shop, put_cascade, put_tenants, put_wide, start, table_of,
 };
+use crate::statements::Mixed;
 use crate::words::{Job, Task};
 use blog_device::Watched;
 use blog_flash::{Mode, Selection};
@@ -57,6 +58,8 @@ pub fn work(alloc: Global, task: &Task) -> Result<Written, Failure> {
         Job::Rows => bench.print_rows(task.logs)?,
         Job::Sums => bench.check_sums(task.logs)?,
         Job::Awkward => bench.do_awkward(task.logs)?,
+        Job::Optional => bench.do_optional(task.logs)?,
+        Job::Statements => bench.list_statements(task.logs)?,
     }
     let digest = bench.output.device();
     Ok(Written {
@@ -243,6 +246,37 @@ impl Bench {
                 1 => cut(alloc, log, output)?,
                 _ => list_all(alloc, log, self.zone, Form::Text, output)?,
             }
+        }
+        Ok(())
+    }
+
+    /// Lists, summaries and reversed logs of events of one row, of tables with optional columns.
+    fn do_optional(&mut self, logs: u32) -> Result<(), Failure> {
+        let mut shop = Shop::with_optional(self.alloc, &mut self.source)?;
+        for number in 0..logs {
+            start(&mut self.source, &mut self.events, false)?;
+            // one event for each statement
+            shop.put_transactions(&mut self.source, &mut self.events, 1, self.size)?;
+            let (alloc, all) = (self.alloc, Selection::all());
+            let (log, output) = (self.events.bytes.as_slice(), &mut self.output);
+            match number % 3 {
+                0 => list_all(alloc, log, self.zone, Form::Text, output)?,
+                1 => undo(alloc, log, Mode::Summary, &all, output)?,
+                _ => undo(alloc, log, Mode::Flashback, &all, output)?,
+            }
+        }
+        Ok(())
+    }
+
+    /// Lists of statements and of rows in three languages, as JSON.
+    fn list_statements(&mut self, logs: u32) -> Result<(), Failure> {
+        let alloc = self.alloc;
+        let mixed = Mixed::new(alloc, &mut self.source, ONE_ROW)?;
+        for _ in 0..logs {
+            start(&mut self.source, &mut self.events, true)?;
+            mixed.put_transactions(alloc, &mut self.source, &mut self.events, self.size)?;
+            let log = self.events.bytes.as_slice();
+            list_all(alloc, log, self.zone, Form::Json, &mut self.output)?;
         }
         Ok(())
     }

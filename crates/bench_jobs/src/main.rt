@@ -9,6 +9,7 @@ mod jobs;
 mod random;
 mod rows;
 mod shapes;
+mod statements;
 mod tables;
 mod words;
 

@@ -41,7 +41,7 @@ pub struct Sizes {
     pub least: u64,
     /// ..and up to as many more.
     pub more: u64,
-    /// Of how many columns of 256 the value is NULL.
+    /// Of how many columns of 256 the value is NULL, but for optional ones.
     pub nulls: u8,
 }
 

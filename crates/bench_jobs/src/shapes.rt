@@ -3,7 +3,7 @@
 use crate::events::{Events, low_half};
 use crate::random::Source;
 use crate::rows::{Action, Bodies, Sizes};
-use crate::tables::{COLUMNS, Column, Table, WIDE};
+use crate::tables::{COLUMNS, Column, OPTIONAL, Table, WIDE};
 use std::alloc::{AllocError, Global};
 
 /// The tables of an online shop.
@@ -33,12 +33,17 @@ const TIME: u32 = 1_770_000_000;
 
 /// A table of the shop.
 pub fn table_of(number: usize) -> Table<'static> {
+    table_with(number, &COLUMNS)
+}
+
+/// A table of the shop that has the first ones of these columns.
+fn table_with(number: usize, columns: &'static [Column; 40]) -> Table<'static> {
     let width = WIDTHS.get(number).copied().unwrap_or(8).min(40);
     Table {
         id: 90u32.wrapping_add(low_half(number)),
         schema: SCHEMA,
         name: NAMES.get(number).copied().unwrap_or(b"t"),
-        columns: &COLUMNS[..width],
+        columns: &columns[..width],
     }
 }
 
@@ -54,10 +59,29 @@ pub struct Shop {
 impl Shop {
     /// Makes rows events of these sizes.
     pub fn new(alloc: Global, source: &mut Source, sizes: Sizes) -> Result<Shop, AllocError> {
+        Shop::with_columns(alloc, source, &COLUMNS, sizes)
+    }
+
+    /// Makes rows events of one row, of tables that have optional columns.
+    pub fn with_optional(alloc: Global, source: &mut Source) -> Result<Shop, AllocError> {
+        let sizes = Sizes {
+            nulls: 0,
+            ..ONE_ROW
+        };
+        Shop::with_columns(alloc, source, &OPTIONAL, sizes)
+    }
+
+    /// Makes rows events of these sizes, of tables that have these columns.
+    fn with_columns(
+        alloc: Global,
+        source: &mut Source,
+        columns: &'static [Column; 40],
+        sizes: Sizes,
+    ) -> Result<Shop, AllocError> {
         let mut bodies = Vec::new(alloc);
         for number in 0..12 {
             for action in [Action::Insert, Action::Update, Action::Delete] {
-                let table = table_of(number);
+                let table = table_with(number, columns);
                 bodies.push(Bodies::new(alloc, source, &table, action, sizes)?)?;
             }
         }
@@ -139,6 +163,14 @@ pub const LARGE: Sizes = Sizes {
     nulls: 40,
 };
 
+/// Rows events of one row.
+pub const ONE_ROW: Sizes = Sizes {
+    bodies: 64,
+    least: 1,
+    more: 1,
+    nulls: 40,
+};
+
 /// Starts a log.
 pub fn start(source: &mut Source, events: &mut Events, sums: bool) -> Result<(), AllocError> {
     events.start(TIME.wrapping_add(low_half(source.index(1 << 24))), sums)
@@ -151,16 +183,11 @@ pub fn put_cascade(
     events: &mut Events,
     end: usize,
 ) -> Result<(), AllocError> {
-    let sizes = Sizes {
-        bodies: 64,
-        least: 1,
-        more: 1,
-        nulls: 40,
-    };
     let mut tables = Vec::new(alloc);
     for number in [0, 1, 4, 5] {
         let table = table_of(number);
-        tables.push(Bodies::new(alloc, source, &table, Action::Delete, sizes)?)?;
+        let bodies = Bodies::new(alloc, source, &table, Action::Delete, ONE_ROW)?;
+        tables.push(bodies)?;
     }
     events.begin(1, 7)?;
     for table in tables.as_slice() {

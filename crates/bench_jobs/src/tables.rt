@@ -20,6 +20,10 @@ pub enum Column {
     State,
     Text,
     Json,
+    /// A short text that is NULL in 95 of 100 rows.
+    Phone,
+    /// A longer one.
+    Note,
 }
 
 /// Forty columns. Tables have as many of the first ones as they are wide.
@@ -66,6 +70,50 @@ pub static COLUMNS: [Column; 40] = [
     Column::Long,
 ];
 
+/// Forty columns, of which a half are texts that nearly no row has.
+pub static OPTIONAL: [Column; 40] = [
+    Column::LongLong,
+    Column::Long,
+    Column::Title,
+    Column::Phone,
+    Column::Text,
+    Column::Phone,
+    Column::DateTime,
+    Column::Note,
+    Column::State,
+    Column::Phone,
+    Column::Title,
+    Column::Note,
+    Column::Decimal,
+    Column::Phone,
+    Column::Json,
+    Column::Phone,
+    Column::Note,
+    Column::Code,
+    Column::Phone,
+    Column::Text,
+    Column::Timestamp,
+    Column::Phone,
+    Column::Phone,
+    Column::Note,
+    Column::Name,
+    Column::Phone,
+    Column::Tiny,
+    Column::Note,
+    Column::Phone,
+    Column::Title,
+    Column::Phone,
+    Column::Decimal,
+    Column::Phone,
+    Column::Note,
+    Column::Long,
+    Column::Phone,
+    Column::Json,
+    Column::Phone,
+    Column::Double,
+    Column::Note,
+];
+
 /// The columns of tables that have very many.
 pub static WIDE: [Column; 8] = [
     Column::Long,
@@ -90,7 +138,7 @@ impl Column {
             Column::DateTime => 18,
             Column::Timestamp => 17,
             Column::Decimal => 246,
-            Column::Name | Column::Title => 15,
+            Column::Name | Column::Title | Column::Phone | Column::Note => 15,
             Column::Code | Column::State => 254,
             Column::Text => 252,
             Column::Json => 245,
@@ -105,12 +153,20 @@ impl Column {
             Column::DateTime => &[0],
             Column::Timestamp => &[3],
             Column::Decimal => &[11, 2],
-            Column::Name => &[80, 0],
-            Column::Title => &[252, 3],
+            Column::Name | Column::Phone => &[80, 0],
+            Column::Title | Column::Note => &[252, 3],
             Column::Code => &[254, 36],
             Column::State => &[247, 1],
             Column::Text => &[2],
             Column::Json => &[4],
+        }
+    }
+
+    /// In how many rows of 256 its value is NULL, if it is in this many of a column that isn't optional.
+    fn nulls(self, others: u8) -> u8 {
+        match self {
+            Column::Phone | Column::Note => 243,
+            _ => others,
         }
     }
 
@@ -123,9 +179,9 @@ impl Column {
             Column::Tiny | Column::State => put_bytes(source, out, 1),
             Column::DateTime | Column::Decimal => put_bytes(source, out, 5),
             Column::Timestamp => put_bytes(source, out, 6),
-            Column::Name => put_counted(source, out, 1, 4, 20),
+            Column::Name | Column::Phone => put_counted(source, out, 1, 4, 20),
             Column::Code => put_counted(source, out, 1, 3, 12),
-            Column::Title => put_counted(source, out, 2, 10, 60),
+            Column::Title | Column::Note => put_counted(source, out, 2, 10, 60),
             Column::Text => put_counted(source, out, 2, 20, 200),
             Column::Json => put_counted(source, out, 4, 30, 150),
         }
@@ -209,7 +265,7 @@ impl Table<'_> {
         Ok(body)
     }
 
-    /// Appends the image of a row, of whose columns so many of 256 are NULL.
+    /// Appends the image of a row, of whose columns so many of 256 are NULL, but for optional ones.
     pub fn put_image(
         &self,
         source: &mut Source,
@@ -224,7 +280,7 @@ impl Table<'_> {
             let mut bits = 0u8;
             let mut bit = 1u8;
             for (column, draw) in group.iter().zip(&draws) {
-                if *draw < nulls && !first {
+                if *draw < column.nulls(nulls) && !first {
                     bits |= bit;
                 } else {
                     column.put(source, values)?;

@@ -15,6 +15,10 @@ pub enum Job {
     Sums,
     /// Statements of many events of one row, many tables, and tables of many columns.
     Awkward,
+    /// Events of one row of tables with optional columns.
+    Optional,
+    /// Statements and names in three languages, as JSON.
+    Statements,
 }
 
 impl Job {
@@ -27,6 +31,8 @@ impl Job {
             "rows" => Some(Job::Rows),
             "sums" => Some(Job::Sums),
             "awkward" => Some(Job::Awkward),
+            "optional" => Some(Job::Optional),
+            "statements" => Some(Job::Statements),
             _ => None,
         }
     }
