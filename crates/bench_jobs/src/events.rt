@@ -1,5 +1,6 @@
 //! Logs, event by event.
 
+use crate::sums::Ending;
 use blog_sum::crc32;
 use sample_logs::builder::NEWER_FRONT;
 use sample_logs::summed::CLOSED;
@@ -55,11 +56,40 @@ impl Events {
 
     /// Appends an event.
     pub fn put(&mut self, kind: u8, flags: u16, body: &[&[u8]]) -> Result<(), AllocError> {
+        let sum = self.put_unsummed(kind, flags, body, &[])?;
+        self.put_sum(sum)
+    }
+
+    /// Appends an event whose body ends with bytes of which this is known.
+    pub fn put_ending(
+        &mut self,
+        kind: u8,
+        flags: u16,
+        body: &[&[u8]],
+        rest: &[u8],
+        ending: &Ending,
+    ) -> Result<(), AllocError> {
+        let sum = self.put_unsummed(kind, flags, body, rest)?;
+        self.bytes.extend_from_slice(rest)?;
+        self.put_sum(if self.sums { ending.sum_after(sum) } else { 0 })
+    }
+
+    /// Appends an event without the rest of its body and its checksum. Returns the CRC-32 of that if events have checksums,
+    /// else 0.
+    fn put_unsummed(
+        &mut self,
+        kind: u8,
+        flags: u16,
+        body: &[&[u8]],
+        rest: &[u8],
+    ) -> Result<u32, AllocError> {
         let start = self.bytes.len();
         let fixed = if self.sums { 23 } else { 19usize };
         let size = body
             .iter()
-            .fold(fixed, |size, part| size.wrapping_add(part.len()));
+            .fold(fixed.wrapping_add(rest.len()), |size, part| {
+                size.wrapping_add(part.len())
+            });
         self.bytes.extend_from_slice(&self.time.to_le_bytes())?;
         self.bytes.extend_from_slice(&[kind, 1, 0, 0, 0])?;
         self.bytes.extend_from_slice(&four_bytes(size))?;
@@ -69,11 +99,15 @@ impl Events {
         for part in body {
             self.bytes.extend_from_slice(part)?;
         }
+        Ok(match self.bytes.as_slice().get(start..) {
+            Some(event) if self.sums => crc32(event),
+            _ => 0,
+        })
+    }
+
+    /// Appends the checksum of an event, if events have one.
+    fn put_sum(&mut self, sum: u32) -> Result<(), AllocError> {
         if self.sums {
-            let sum = match self.bytes.as_slice().get(start..) {
-                Some(event) => crc32(event),
-                None => 0,
-            };
             self.bytes.extend_from_slice(&sum.to_le_bytes())?;
         }
         Ok(())

@@ -10,6 +10,7 @@ mod random;
 mod rows;
 mod shapes;
 mod statements;
+mod sums;
 mod tables;
 mod words;
 

@@ -2,6 +2,7 @@
 
 use crate::events::Events;
 use crate::random::Source;
+use crate::sums::Ending;
 use crate::tables::{Table, put_packed};
 use std::alloc::{AllocError, Global};
 
@@ -53,8 +54,25 @@ pub struct Bodies {
     kind: u8,
     bytes: Vec<u8>,
     ends: Vec<usize>,
+    /// What is known of each behind those four bytes.
+    endings: Vec<Ending>,
     /// Where the first four bytes of the first row's first value are in each.
     key: usize,
+}
+
+/// What a body has before its rows: the table's id, flags, and which columns there are.
+fn head_of(alloc: Global, table: &Table<'_>, action: Action) -> Result<Vec<u8>, AllocError> {
+    let mut head = Vec::new(alloc);
+    head.extend_from_slice(&table.id.to_le_bytes())?;
+    head.extend_from_slice(&[0, 0, 0, 0, 2, 0])?;
+    put_packed(&mut head, table.columns.len())?;
+    let bits = table.columns.len().div_ceil(8);
+    for _ in 0..action.images() {
+        for _ in 0..bits {
+            head.push(0xFF)?;
+        }
+    }
+    Ok(head)
 }
 
 impl Bodies {
@@ -66,27 +84,20 @@ impl Bodies {
         action: Action,
         sizes: Sizes,
     ) -> Result<Bodies, AllocError> {
-        let mut head = Vec::new(alloc);
-        head.extend_from_slice(&table.id.to_le_bytes())?;
-        head.extend_from_slice(&[0, 0, 0, 0, 2, 0])?;
-        put_packed(&mut head, table.columns.len())?;
-        let bits = table.columns.len().div_ceil(8);
-        for _ in 0..action.images() {
-            for _ in 0..bits {
-                head.push(0xFF)?;
-            }
-        }
+        let head = head_of(alloc, table, action)?;
         let mut bodies = Bodies {
             table: table.id,
             map: table.map_body(alloc)?,
             kind: action.kind(),
             bytes: Vec::new(alloc),
             ends: Vec::new(alloc),
-            key: head.len().wrapping_add(bits),
+            endings: Vec::new(alloc),
+            key: head.len().wrapping_add(table.columns.len().div_ceil(8)),
         };
         let mut values = Vec::new(alloc);
         for _ in 0..sizes.bodies {
             let most = sizes.least.wrapping_add(source.below(sizes.more)) as usize;
+            let start = bodies.bytes.len();
             bodies.bytes.extend_from_slice(&head)?;
             let end = bodies.bytes.len().wrapping_add(most);
             // no row has less than a byte
@@ -99,14 +110,16 @@ impl Bodies {
                 }
             }
             bodies.ends.push(bodies.bytes.len())?;
+            let rest = start.wrapping_add(bodies.key).wrapping_add(4);
+            let rest = bodies.bytes.as_slice().get(rest..).unwrap_or(&[]);
+            bodies.endings.push(Ending::new(rest))?;
         }
         Ok(bodies)
     }
 
-    /// One of them.
-    fn pick(&self, source: &mut Source) -> &[u8] {
+    /// That of this number.
+    fn body(&self, number: usize) -> &[u8] {
         let ends = self.ends.as_slice();
-        let number = source.index(ends.len());
         let start = match number.checked_sub(1) {
             Some(before) => ends.get(before).copied().unwrap_or(0),
             None => 0,
@@ -138,12 +151,17 @@ impl Bodies {
         events: &mut Events,
         last: bool,
     ) -> Result<(), AllocError> {
-        let body = self.pick(source);
+        let number = source.index(self.ends.len());
+        let body = self.body(number);
         let [first, second, third, fourth] = table.to_le_bytes();
         let front = [first, second, third, fourth, 0, 0, last as u8, 0];
         let middle = body.get(8..self.key).unwrap_or(&[]);
         let rest = body.get(self.key.wrapping_add(4)..).unwrap_or(&[]);
-        events.put(self.kind, 0, &[&front, middle, &source.four(), rest])
+        let body: [&[u8]; 3] = [&front, middle, &source.four()];
+        match self.endings.as_slice().get(number) {
+            Some(ending) => events.put_ending(self.kind, 0, &body, rest, ending),
+            None => Ok(()),
+        }
     }
 
     /// Appends a statement: a map, and rows events till the log has so many bytes; at least one.
