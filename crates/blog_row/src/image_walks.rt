@@ -2,7 +2,8 @@
 
 ghost use Rattle.std.specs.Prelude.{◌≡◌, ◌<◌, ◌≤◌, ◌+◌, ◌^◌, ◌++◌, true, drop, length, is_some, option_map, unwrap_or, reverse, [], IfSome};
 ghost use Rattle.std.specs.List.{concat};
-ghost use Rattle.blog_row.specs.Image.{images_of};
+ghost use Rattle.blog_row.specs.Column.{Layout as Columns};
+ghost use Rattle.blog_row.specs.Image.{image_len_of, images_of};
 ghost use Rattle.blog_row.specs.code.LayoutView.{layout_columns};
 ghost use Rattle.blog_row.specs.code.StorageView.{AreStored, AreLookedUp};
 
@@ -10,7 +11,9 @@ use crate::column::Storage;
 use crate::layout::Layout;
 use crate::same_nulls::{count_same, put_image, put_same};
 use crate::steady_nulls::SteadyNulls;
-use crate::storages::{ALL_STORAGES, LEAST_STORAGES, MANY_STORAGES, MOST_STORAGES, len_by};
+use crate::storages::{
+    ALL_STORAGES, FEW_STORAGES, LEAST_STORAGES, MANY_STORAGES, MOST_STORAGES, few_len_by, len_by,
+};
 
 /// Whether images of so many bytes are enough to look up how the columns are stored before any of them is read: 32 bytes
 /// for each column, and 64. An event of one row seldom has as many.
@@ -78,6 +81,23 @@ pub(crate) fn images_in(layout: &Layout<'_>, bytes: &[u8]) -> Option<usize>
     Some(images)
 }
 
+/// How long the image is with which the bytes begin, in bytes; None where they begin with none. It has at most so many
+/// columns, which are stored so.
+#[inline(always)]
+fn len_up_to<const MOST: usize>(storages: &[Storage], steady: bool, bytes: &[u8]) -> Option<usize>
+    requires small { MOST ≤ 4096 }
+    requires some { 0 < length storages.now }
+    requires few { length storages.now ≤ MOST }
+    ensures exact { (columns : Columns) → AreStored columns storages.now → result ≡ image_len_of columns bytes.now }
+    ensures within { IfSome result (λ m. m ≤ length bytes.now) }
+{
+    if MOST <= FEW_STORAGES {
+        few_len_by(storages, bytes)
+    } else {
+        len_by(storages, steady, bytes)
+    }
+}
+
 /// Counts images behind others that were counted, by how the columns are stored.
 #[inline(never)]
 fn count_stored(layout: &Layout<'_>, before: usize, bytes: &[u8]) -> Option<usize>
@@ -85,7 +105,9 @@ fn count_stored(layout: &Layout<'_>, before: usize, bytes: &[u8]) -> Option<usiz
     ensures { result ≡ option_map (λ images. before + length images) (images_of (layout_columns layout.now) bytes.now) }
 {
     let columns = layout.columns();
-    if columns <= MOST_STORAGES {
+    if columns <= FEW_STORAGES {
+        count_up_to::<FEW_STORAGES>(layout, before, bytes)
+    } else if columns <= MOST_STORAGES {
         count_up_to::<MOST_STORAGES>(layout, before, bytes)
     } else if columns <= MANY_STORAGES {
         count_up_to::<MANY_STORAGES>(layout, before, bytes)
@@ -109,7 +131,7 @@ fn count_up_to<const MOST: usize>(layout: &Layout<'_>, before: usize, bytes: &[u
     let mut images = before + same;
     let mut nulls = SteadyNulls::new(layout.columns());
     'images: while !rest.is_empty() {
-        let len = len_by(storages, nulls.are_steady(), rest)?;
+        let len = len_up_to::<MOST>(storages, nulls.are_steady(), rest)?;
         nulls.look_at(rest);
         let (_, behind) = rest.split_at(len);
         rest = behind;
@@ -153,7 +175,9 @@ fn put_stored(layout: &Layout<'_>, bytes: &[u8], to: &mut [u8])
     ensures { to.new ≡ concat (reverse (unwrap_or (images_of (layout_columns layout.now) bytes.now) [])) ++ drop (length bytes.now) to.old }
 {
     let columns = layout.columns();
-    if columns <= MOST_STORAGES {
+    if columns <= FEW_STORAGES {
+        put_up_to::<FEW_STORAGES>(layout, bytes, to);
+    } else if columns <= MOST_STORAGES {
         put_up_to::<MOST_STORAGES>(layout, bytes, to);
     } else if columns <= MANY_STORAGES {
         put_up_to::<MANY_STORAGES>(layout, bytes, to);
@@ -178,7 +202,7 @@ fn put_up_to<const MOST: usize>(layout: &Layout<'_>, bytes: &[u8], to: &mut [u8]
     let mut rest = put_same(storages, bytes, to);
     let mut nulls = SteadyNulls::new(columns);
     'images: while !rest.is_empty() {
-        let Some(len) = len_by(storages, nulls.are_steady(), rest) else {
+        let Some(len) = len_up_to::<MOST>(storages, nulls.are_steady(), rest) else {
             unreachable!();
         };
         nulls.look_at(rest);

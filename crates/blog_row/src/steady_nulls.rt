@@ -1,10 +1,8 @@
 //! Whether the images of an event have the null bits of the images two before them, as in an update the images before
 //! and after the change. A processor predicts these, and then it takes less time to jump over a NULL than to mask it.
 
+use crate::storages::FEW_STORAGES;
 use byteorder::{ByteOrder, LittleEndian};
-
-/// With so many columns at most a processor predicts irregular null bits, too.
-const FEW_COLUMNS: usize = 4;
 
 /// How many images are looked at. Each but the first two is compared with that two before it.
 const LOOKED_AT: u32 = 8;
@@ -28,18 +26,21 @@ pub(crate) struct SteadyNulls<'a> {
 }
 
 impl<'a> SteadyNulls<'a> {
-    /// What is known before the first image of so many columns.
+    /// What is known before the first image of so many columns. Of a few columns nothing is looked at.
     #[inline(always)]
     pub(crate) fn new(columns: usize) -> SteadyNulls<'a> {
-        let few = columns <= FEW_COLUMNS;
         SteadyNulls {
-            steady: few,
+            steady: false,
             columns: if columns < 64 {
                 (1 << columns) - 1
             } else {
                 u64::MAX
             },
-            left: if few { 0 } else { LOOKED_AT },
+            left: if columns <= FEW_STORAGES {
+                0
+            } else {
+                LOOKED_AT
+            },
             changed: 0,
             last_but_one: &[],
             last: &[],

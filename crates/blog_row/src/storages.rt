@@ -16,6 +16,9 @@ use byteorder::{ByteOrder, LittleEndian};
 /// The fewest columns for which `Rows` and `StoredLayout` look up storages. With fewer, a processor predicts the NULLs.
 pub(crate) const LEAST_STORAGES: usize = 4;
 
+/// The most columns that are few: their images are walked column by column.
+pub(crate) const FEW_STORAGES: usize = 6;
+
 /// The most columns whose storages take little room. They are looked up where images are read one by one, too.
 pub(crate) const MOST_STORAGES: usize = 64;
 
@@ -202,5 +205,19 @@ pub(crate) fn len_by(storages: &[Storage], steady: bool, bytes: &[u8]) -> Option
     let count = storages.len().div_ceil(8);
     let (nulls, _) = cut_at(count, bytes)?;
     let end = values_end(storages, steady, nulls, count, bytes);
+    if end <= bytes.len() { Some(end) } else { None }
+}
+
+/// The same of a few columns, whose null bits are in one byte. For so few a processor predicts irregular null bits, too, so
+/// each NULL is jumped over.
+#[inline(always)]
+pub(crate) fn few_len_by(storages: &[Storage], bytes: &[u8]) -> Option<usize>
+    requires some { 0 < length storages.now }
+    requires few { length storages.now ≤ 8 }
+    ensures exact { (columns : Layout) → AreStored columns storages.now → result ≡ image_len_of columns bytes.now }
+    ensures within { IfSome result (λ m. m ≤ length bytes.now) }
+{
+    let (nulls, _) = cut_at(1, bytes)?;
+    let end = columns_end::<true>(storages, 0, storages.len(), nulls, 1, bytes);
     if end <= bytes.len() { Some(end) } else { None }
 }

@@ -16,7 +16,7 @@ images-init g c =
     let stored : AreStored (layout_columns c.args.layout.now) (take c.columns.result c.look_up.new.storages) = subst (λ n. AreStored (layout_columns c.args.layout.now) (take n c.look_up.new.storages)) (sym c.columns.ensures) c.look_up.ensures.stored in
     record {
       stored = stored;
-      small = omega (arith, as_many_stored _ _ stored, c.requires.columns, c.requires.small);
+      small = (omega (arith, as_many_stored _ _ stored, some_columns c.args.layout.now), omega (arith, as_many_stored _ _ stored, c.requires.columns));
       so_far = counted_behind c.args.before c.count_same-same.result.0 _ _ (c.count_same-same.ensures.images _ stored);
       few = omega (arith, c.count_same-same.ensures.few);
     }

@@ -18,14 +18,14 @@ images-init g c =
     let stored : AreStored (layout_columns c.args.layout.now) (take c.columns-columns.result c.look_up.new.storages) = subst (λ n. AreStored (layout_columns c.args.layout.now) (take n c.look_up.new.storages)) (sym c.columns-columns.ensures) c.look_up.ensures.stored in
     record {
       stored = stored;
-      small = omega (arith, as_many_stored _ _ stored, c.requires.columns, c.requires.small);
+      small = (omega (arith, as_many_stored _ _ stored, some_columns c.args.layout.now), omega (arith, as_many_stored _ _ stored, c.requires.columns));
       written = c.put_same-rest.ensures _ _ stored (written_before _ _ _ c.requires.imaged c.requires.room);
     }
 
 pub unreachable-requires : goal.unreachable-requires
 unreachable-requires g c =
     let some : 0 < length c.images.rest.now = grind (arith, common_steps) in
-    let none : image_len_of (layout_columns c.args.layout.now) c.images.rest.now ≡ None = sym (c.len_by.ensures.exact _ c.images.invariant.stored) ∙ c.in_default.is in
+    let none : image_len_of (layout_columns c.args.layout.now) c.images.rest.now ≡ None = sym (c.len_up_to.ensures.exact _ c.images.invariant.stored) ∙ c.in_default.is in
     let all = drop (length c.args.bytes.now) c.args.to.now ∷ unwrap_or (images_of (layout_columns c.args.layout.now) c.args.bytes.now) [] in
     written_there (layout_columns c.args.layout.now) all c.images.rest.now c.images.to c.images.invariant.written some none
 
@@ -34,13 +34,13 @@ put_image-rest-requires-clause-room g c = c.images.invariant.written.within
 
 pub images-smaller : goal.images-smaller
 images-smaller g c =
-    let len : image_len_of (layout_columns c.args.layout.now) c.images.rest.now ≡ Some c.in-Some.len = sym (c.len_by.ensures.exact _ c.images.invariant.stored) ∙ c.in-Some.is in
+    let len : image_len_of (layout_columns c.args.layout.now) c.images.rest.now ≡ Some c.in-Some.len = sym (c.len_up_to.ensures.exact _ c.images.invariant.stored) ∙ c.in-Some.is in
     let one : OneImage (layout_columns c.args.layout.now) c.images.rest.now c.in-Some.len = one_image _ _ _ (some_columns c.args.layout.now) len in
     omega (arith, one.positive, one.within, c.put_image-rest.ensures.left)
 
 pub images-preserved : goal.images-preserved
 images-preserved g c =
-    let len : image_len_of (layout_columns c.args.layout.now) c.images.rest.now ≡ Some c.in-Some.len = sym (c.len_by.ensures.exact _ c.images.invariant.stored) ∙ c.in-Some.is in
+    let len : image_len_of (layout_columns c.args.layout.now) c.images.rest.now ≡ Some c.in-Some.len = sym (c.len_up_to.ensures.exact _ c.images.invariant.stored) ∙ c.in-Some.is in
     let all = drop (length c.args.bytes.now) c.args.to.now ∷ unwrap_or (images_of (layout_columns c.args.layout.now) c.args.bytes.now) [] in
     record {
       stored = c.images.invariant.stored;
