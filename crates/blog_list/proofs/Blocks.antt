@@ -1,13 +1,6 @@
--- Digits and blanks that are appended block by block.
+-- Blanks that are appended block by block.
 use Rattle.std.proofs.Common.{◌≡◌, ℕ, ◌+◌, ◌-◌, ◌/◌, ◌%◌, ◌<◌, ◌≤◌, List, [], ◌∷◌, ◌++◌, replicate, slice_index, take, refl, sym, ap, ◌∙◌, arith}
 use Rattle.std.proofs.lemmas.List.{replicate-append-replicate, take-replicate}
-use Rattle.hex.specs.Hex.{encode_with}
-
--- the digits of some bytes, and of those behind them
-pub encode_with-append : (t xs ys : List ℕ) → encode_with t (xs ++ ys) ≡ encode_with t xs ++ encode_with t ys
-unfolding encode_with
-encode_with-append t [] ys = refl
-encode_with-append t (x ∷ xs) ys = ap (λ (more : List ℕ). slice_index t (x / 16) ∷ slice_index t (x % 16) ∷ more) (encode_with-append t xs ys)
 
 -- blanks
 abbrev pub blanks : ℕ → List ℕ

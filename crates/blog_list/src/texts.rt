@@ -1,15 +1,12 @@
 //! Texts that grow at their end.
 
-ghost use Rattle.std.specs.Prelude.{◌≡◌, ◌≤◌, ◌-◌, ◌∷◌, ◌++◌, [], OnOk, codes, drop, length, take};
+ghost use Rattle.std.specs.Prelude.{◌≡◌, ◌≤◌, ◌+◌, ◌-◌, ◌∷◌, ◌++◌, [], OnOk, codes, drop, length, take};
 ghost use Rattle.std.specs.Fmt.{decimal};
 ghost use Rattle.hex.specs.Hex.{encode_lower};
 ghost use Rattle.blog_list.specs.Lines.{digits, hyphened, padded, server_text};
 
 use itoa::Buffer;
 use std::alloc::{AllocError, Allocator};
-
-/// How many bytes are put in hexadecimal digits at once, at most. A server's id comes in parts of 2 to 6 bytes.
-const BLOCK_LEN: usize = 16;
 
 /// Appends a text.
 pub(crate) fn put_text<A: Allocator>(out: &mut Vec<u8, A>, text: &[u8]) -> Result<(), AllocError>
@@ -36,27 +33,14 @@ pub(crate) fn put_byte<A: Allocator>(out: &mut Vec<u8, A>, byte: u8) -> Result<(
 }
 
 /// Appends at most 16 bytes in hexadecimal digits.
-fn put_block<A: Allocator>(out: &mut Vec<u8, A>, bytes: &[u8]) -> Result<(), AllocError>
+fn put_hex<A: Allocator>(out: &mut Vec<u8, A>, bytes: &[u8]) -> Result<(), AllocError>
     requires { length bytes.now ≤ 16 }
     ensures { OnOk result (out.new.items ≡ out.old.items ++ encode_lower bytes.now) }
 {
-    let mut digits = [0; 2 * BLOCK_LEN];
+    let mut digits = [0; 32];
     let len = 2 * bytes.len();
     hex::encode_to_slice(bytes, &mut digits[..len]).unwrap();
     put_text(out, &digits[..len])
-}
-
-/// Appends bytes in hexadecimal digits.
-pub(crate) fn put_hex<A: Allocator>(out: &mut Vec<u8, A>, bytes: &[u8]) -> Result<(), AllocError>
-    ensures { OnOk result (out.new.items ≡ out.old.items ++ encode_lower bytes.now) }
-{
-    let mut rest = bytes;
-    'digits: while rest.len() > BLOCK_LEN {
-        let (block, behind) = rest.split_at(BLOCK_LEN);
-        put_block(out, block)?;
-        rest = behind;
-    }
-    put_block(out, rest)
 }
 
 /// Appends a number in decimal digits, behind blanks up to ten columns.
@@ -86,7 +70,7 @@ pub(crate) fn put_server<A: Allocator>(
     put_digits(out, server, 10, 16)
 }
 
-/// Appends the hexadecimal digits of bytes from a number on, up to another.
+/// Appends the hexadecimal digits of at most 16 bytes from a number on, up to another.
 #[tactic(auto, unfolding(crate::specs::Lines::digits))]
 fn put_digits<A: Allocator>(
     out: &mut Vec<u8, A>,
@@ -94,7 +78,8 @@ fn put_digits<A: Allocator>(
     from: usize,
     to: usize,
 ) -> Result<(), AllocError>
-    requires { from ≤ to }
+    requires within { from ≤ to }
+    requires few { to ≤ from + 16 }
     ensures { OnOk result (out.new.items ≡ out.old.items ++ digits from to bytes.now) }
 {
     let behind = bytes.get(from..).unwrap_or(&[]);
@@ -109,7 +94,8 @@ fn put_hyphened<A: Allocator>(
     from: usize,
     to: usize,
 ) -> Result<(), AllocError>
-    requires { from ≤ to }
+    requires within { from ≤ to }
+    requires few { to ≤ from + 16 }
     ensures { OnOk result (out.new.items ≡ out.old.items ++ hyphened from to bytes.now) }
 {
     put_digits(out, bytes, from, to)?;
