@@ -7,9 +7,10 @@ use crate::digest::Digest;
 use crate::events::{Events, low_half};
 use crate::failure::Failure;
 use crate::random::Source;
-use crate::rows::{Action, Bodies};
+use crate::rows::{Action, Bodies, Sizes};
 use crate::shapes::{
-    LARGE, ONE_ROW, SCHEMA, SMALL, Shop, put_cascade, put_tenants, put_wide, start, table_of,
+    LARGE, ONE_ROW, OPTIONAL_LARGE, OPTIONAL_ONE_ROW, SCHEMA, SMALL, Shop, put_cascade,
+    put_tenants, put_wide, start, table_of, table_with,
 };
 use crate::statements::Mixed;
 use crate::words::{Job, Task};
@@ -81,21 +82,21 @@ struct Large {
 
 impl Bench {
     /// Makes the rows events of a large transaction of a table.
-    fn large_bodies(&mut self, round: u32) -> Result<(usize, Bodies), Failure> {
+    fn large_bodies(&mut self, round: u32, sizes: Sizes) -> Result<(usize, Bodies), Failure> {
         let number = LARGE_TABLES.get(round as usize % 3).copied().unwrap_or(0);
         let action = if round % 2 == 0 {
             Action::Delete
         } else {
             Action::Update
         };
-        let table = table_of(number);
-        let bodies = Bodies::new(self.alloc, &mut self.source, &table, action, LARGE)?;
+        let table = table_with(number, sizes.columns);
+        let bodies = Bodies::new(self.alloc, &mut self.source, &table, action, sizes)?;
         Ok((number, bodies))
     }
 
     /// Makes a log without checksums, of which a large transaction has seven tenths.
     fn make_large(&mut self, shop: &mut Shop, round: u32) -> Result<Large, Failure> {
-        let (table, bodies) = self.large_bodies(round)?;
+        let (table, bodies) = self.large_bodies(round, LARGE)?;
         let part = self.size / 10;
         start(&mut self.source, &mut self.events, false)?;
         let before = part.saturating_mul(2);
@@ -117,7 +118,7 @@ impl Bench {
 
     /// Makes a log of small transactions with checksums, and a bulk load among them.
     fn make_small(&mut self, shop: &mut Shop, round: u32) -> Result<(), Failure> {
-        let (_, bodies) = self.large_bodies(round.wrapping_mul(2))?;
+        let (_, bodies) = self.large_bodies(round.wrapping_mul(2), LARGE)?;
         let part = self.size / 10;
         start(&mut self.source, &mut self.events, true)?;
         let before = part.saturating_mul(7);
@@ -250,13 +251,24 @@ impl Bench {
         Ok(())
     }
 
-    /// Lists, summaries and reversed logs of events of one row, of tables with optional columns.
+    /// Makes a log without checksums of tables with optional columns: statements of many events of one row, or, in each second
+    /// round, one statement in events of 8 KB.
+    fn make_optional(&mut self, shop: &mut Shop, round: u32) -> Result<(), Failure> {
+        start(&mut self.source, &mut self.events, false)?;
+        if round % 2 == 0 {
+            shop.put_transactions(&mut self.source, &mut self.events, 200_000, self.size)?;
+        } else {
+            let (_, bodies) = self.large_bodies(round / 2, OPTIONAL_LARGE)?;
+            shop.put_large(&mut self.source, &mut self.events, &bodies, self.size)?;
+        }
+        Ok(())
+    }
+
+    /// Lists, summaries and reversed logs of tables with optional columns.
     fn do_optional(&mut self, logs: u32) -> Result<(), Failure> {
-        let mut shop = Shop::with_optional(self.alloc, &mut self.source)?;
+        let mut shop = Shop::new(self.alloc, &mut self.source, OPTIONAL_ONE_ROW)?;
         for number in 0..logs {
-            start(&mut self.source, &mut self.events, false)?;
-            // one event for each statement
-            shop.put_transactions(&mut self.source, &mut self.events, 1, self.size)?;
+            self.make_optional(&mut shop, number / 3)?;
             let (alloc, all) = (self.alloc, Selection::all());
             let (log, output) = (self.events.bytes.as_slice(), &mut self.output);
             match number % 3 {

@@ -3,7 +3,7 @@
 use crate::events::Events;
 use crate::random::Source;
 use crate::sums::Ending;
-use crate::tables::{Table, put_packed};
+use crate::tables::{Column, Table, put_packed};
 use std::alloc::{AllocError, Global};
 
 /// What rows events do.
@@ -44,6 +44,8 @@ pub struct Sizes {
     pub more: u64,
     /// Of how many columns of 256 the value is NULL, but for optional ones.
     pub nulls: u8,
+    /// The first ones of these are the columns of the shop's tables.
+    pub columns: &'static [Column; 40],
 }
 
 /// Bodies of rows events of one table.

@@ -37,7 +37,7 @@ pub fn table_of(number: usize) -> Table<'static> {
 }
 
 /// A table of the shop that has the first ones of these columns.
-fn table_with(number: usize, columns: &'static [Column; 40]) -> Table<'static> {
+pub fn table_with(number: usize, columns: &'static [Column; 40]) -> Table<'static> {
     let width = WIDTHS.get(number).copied().unwrap_or(8).min(40);
     Table {
         id: 90u32.wrapping_add(low_half(number)),
@@ -59,29 +59,10 @@ pub struct Shop {
 impl Shop {
     /// Makes rows events of these sizes.
     pub fn new(alloc: Global, source: &mut Source, sizes: Sizes) -> Result<Shop, AllocError> {
-        Shop::with_columns(alloc, source, &COLUMNS, sizes)
-    }
-
-    /// Makes rows events of one row, of tables that have optional columns.
-    pub fn with_optional(alloc: Global, source: &mut Source) -> Result<Shop, AllocError> {
-        let sizes = Sizes {
-            nulls: 0,
-            ..ONE_ROW
-        };
-        Shop::with_columns(alloc, source, &OPTIONAL, sizes)
-    }
-
-    /// Makes rows events of these sizes, of tables that have these columns.
-    fn with_columns(
-        alloc: Global,
-        source: &mut Source,
-        columns: &'static [Column; 40],
-        sizes: Sizes,
-    ) -> Result<Shop, AllocError> {
         let mut bodies = Vec::new(alloc);
         for number in 0..12 {
             for action in [Action::Insert, Action::Update, Action::Delete] {
-                let table = table_with(number, columns);
+                let table = table_with(number, sizes.columns);
                 bodies.push(Bodies::new(alloc, source, &table, action, sizes)?)?;
             }
         }
@@ -153,6 +134,7 @@ pub const SMALL: Sizes = Sizes {
     least: 60,
     more: 400,
     nulls: 40,
+    columns: &COLUMNS,
 };
 
 /// Rows events of about 8 KB.
@@ -161,6 +143,7 @@ pub const LARGE: Sizes = Sizes {
     least: 8_000,
     more: 100,
     nulls: 40,
+    columns: &COLUMNS,
 };
 
 /// Rows events of one row.
@@ -169,6 +152,21 @@ pub const ONE_ROW: Sizes = Sizes {
     least: 1,
     more: 1,
     nulls: 40,
+    columns: &COLUMNS,
+};
+
+/// The same of tables with optional columns.
+pub const OPTIONAL_ONE_ROW: Sizes = Sizes {
+    nulls: 0,
+    columns: &OPTIONAL,
+    ..ONE_ROW
+};
+
+/// Rows events of about 8 KB of such tables.
+pub const OPTIONAL_LARGE: Sizes = Sizes {
+    nulls: 0,
+    columns: &OPTIONAL,
+    ..LARGE
 };
 
 /// Starts a log.

@@ -32,6 +32,9 @@ fn product(first: u32, second: u32) -> u32 {
 fn zeros(len: usize) -> u32 {
     let (mut zeros, mut power, mut rest) = (ONE, BYTE, len);
     for _ in 0..64u32 {
+        if rest == 0 {
+            break;
+        }
         if rest % 2 == 1 {
             zeros = product(zeros, power);
         }
