@@ -1,7 +1,7 @@
 -- How images are put in reverse order: from the front of what is left to the end of what is free.
 use Rattle.std.proofs.Common.{reverse, is_some, true, unwrap_or, refl, ◌≡◌, ◌+◌, ◌-◌, ◌<◌, ◌≤◌, ℕ, List, [], ◌∷◌, ◌++◌, length, take, drop, Option, Some, None, option_map, sym, ap, ◌∙◌, arith, append_assoc, length-append, drop_at, length-take-le, drop-drop}
 use Rattle.std.specs.List.{concat}
-use Rattle.std.proofs.lemmas.List.{append-nil, drop_all, reverse-append}
+use Rattle.std.proofs.lemmas.List.{append-nil, reverse-append}
 use Rattle.std.proofs.lemmas.List.Folds.{concat-append}
 use Rattle.std.proofs.lemmas.Option.{same_Some}
 use Rattle.blog_row.specs.Column.{Layout}
@@ -16,22 +16,7 @@ reversed_before image images =
     ap concat (reverse-append (image ∷ []) images) ∙ concat-append (reverse images) (image ∷ [])
     ∙ ap (λ (t : List ℕ). concat (reverse images) ++ t) (append-nil image)
 
--- nothing is written
-pub written_none : (layout : Layout) (bytes to : List ℕ) → is_some (images_of layout bytes) ≡ true → length to ≡ length bytes → Written layout (unwrap_or (images_of layout bytes) []) bytes to
-written_none layout bytes to imaged room = by_case (images_of layout bytes) refl imaged
-  where
-    by_case : (o : Option (List (List ℕ))) → images_of layout bytes ≡ o → is_some o ≡ true → Written layout (unwrap_or o []) bytes to
-    by_case None e some = absurd (cc)
-    by_case (Some images) e some =
-        let none : drop (length bytes) to ≡ [] = drop_all (length bytes) to (omega (arith, room)) in
-        record {
-          left = images;
-          left_is = e;
-          within = omega (arith, room);
-          text = sym (ap (λ (t : List ℕ). concat (reverse images) ++ t) none ∙ append-nil (concat (reverse images)));
-        }
-
--- nothing is written, and behind the room for the images something else stands
+-- nothing is written; what stands behind the room for the images stays
 pub written_before : (layout : Layout) (bytes to : List ℕ) → is_some (images_of layout bytes) ≡ true → length bytes ≤ length to → Written layout (drop (length bytes) to ∷ unwrap_or (images_of layout bytes) []) bytes to
 written_before layout bytes to imaged room = by_case (images_of layout bytes) refl imaged
   where

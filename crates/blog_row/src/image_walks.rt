@@ -12,29 +12,32 @@ use crate::layout::Layout;
 use crate::same_nulls::{count_same, put_image, put_same};
 use crate::steady_nulls::SteadyNulls;
 use crate::storages::{
-    ALL_STORAGES, FEW_STORAGES, LEAST_STORAGES, MANY_STORAGES, MOST_STORAGES, few_len_by, len_by,
+    ALL_STORAGES, FEW_STORAGES, LEAST_STORAGES, MOST_STORAGES, WIDE_STORAGES, few_len_by, len_by,
 };
 
-/// Whether images of so many bytes are enough to look up how the columns are stored before any of them is read: 32 bytes
-/// for each column, and 64. An event of one row seldom has as many.
+/// Returns whether it pays to look up how the columns are stored before the first image of an event with `len` bytes of
+/// images: if they have more than 64 bytes for each column, and the columns are at most 64. A single row seldom has as many.
 #[inline(always)]
-fn has_many(columns: usize, len: usize) -> bool {
-    columns <= MANY_STORAGES && columns + 2 < len / 32
+fn pays_before(columns: usize, len: usize) -> bool
+    ensures { result ≡ true → columns ≤ 64 }
+{
+    columns <= MOST_STORAGES && columns < len / 64
 }
 
-/// Whether it pays to look up how the columns are stored for the images that are left, behind one of so many bytes. To look
-/// up takes about as long as two images take by types, and longer where most values are NULL, which take few bytes.
+/// Returns whether it pays to look up how the columns are stored after an image of `len` bytes, for the images in the `left`
+/// bytes after it. To look up takes about as long as two images take by types. So more than two have to be left: by the
+/// length of the last one, and with 32 bytes for each column, since the next one can be longer.
 #[inline(always)]
-fn pays(columns: usize, len: usize, left: usize) -> bool {
-    len < left / 4 + left / 8 && columns < left / 16
+fn pays_after(columns: usize, len: usize, left: usize) -> bool {
+    len < left / 4 + left / 8 && columns < left / 32
 }
 
-/// How each column is stored, where it pays to look it up before images of so many bytes are read one by one.
+/// Looks up how each column is stored, if that pays before images of `len` bytes are read one by one.
 pub(crate) fn storages_for(layout: &Layout<'_>, len: usize) -> Option<[Storage; MOST_STORAGES]>
     ensures { AreLookedUp (layout_columns layout.now) result }
 {
     let columns = layout.columns();
-    if LEAST_STORAGES <= columns && columns <= MOST_STORAGES && has_many(columns, len) {
+    if LEAST_STORAGES <= columns && pays_before(columns, len) {
         let mut storages = [Storage::Fixed(0); MOST_STORAGES];
         layout.look_up(&mut storages);
         Some(storages)
@@ -64,7 +67,7 @@ pub(crate) fn images_in(layout: &Layout<'_>, bytes: &[u8]) -> Option<usize>
     ensures { result ≡ option_map length (images_of (layout_columns layout.now) bytes.now) }
 {
     let columns = layout.columns();
-    if has_many(columns, bytes.len()) {
+    if pays_before(columns, bytes.len()) {
         return count_stored(layout, 0, bytes);
     }
     let mut rest = bytes;
@@ -74,15 +77,15 @@ pub(crate) fn images_in(layout: &Layout<'_>, bytes: &[u8]) -> Option<usize>
         let (_, behind) = rest.split_at(len);
         rest = behind;
         images += 1;
-        if pays(columns, len, rest.len()) {
+        if pays_after(columns, len, rest.len()) {
             return count_stored(layout, images, rest);
         }
     }
     Some(images)
 }
 
-/// How long the image is with which the bytes begin, in bytes; None where they begin with none. It has at most so many
-/// columns, which are stored so.
+/// Returns how long the image is that the bytes begin with, in bytes; None if they begin with none. The storages are those of
+/// its columns, at most `MOST`.
 #[inline(always)]
 fn len_up_to<const MOST: usize>(storages: &[Storage], steady: bool, bytes: &[u8]) -> Option<usize>
     requires small { MOST ≤ 4096 }
@@ -98,7 +101,7 @@ fn len_up_to<const MOST: usize>(storages: &[Storage], steady: bool, bytes: &[u8]
     }
 }
 
-/// Counts images behind others that were counted, by how the columns are stored.
+/// Counts images by how the columns are stored, and adds them to those that were counted before.
 #[inline(never)]
 fn count_stored(layout: &Layout<'_>, before: usize, bytes: &[u8]) -> Option<usize>
     requires few { before + length bytes.now < 2 ^ 64 }
@@ -109,14 +112,14 @@ fn count_stored(layout: &Layout<'_>, before: usize, bytes: &[u8]) -> Option<usiz
         count_up_to::<FEW_STORAGES>(layout, before, bytes)
     } else if columns <= MOST_STORAGES {
         count_up_to::<MOST_STORAGES>(layout, before, bytes)
-    } else if columns <= MANY_STORAGES {
-        count_up_to::<MANY_STORAGES>(layout, before, bytes)
+    } else if columns <= WIDE_STORAGES {
+        count_up_to::<WIDE_STORAGES>(layout, before, bytes)
     } else {
         count_up_to::<ALL_STORAGES>(layout, before, bytes)
     }
 }
 
-/// The same, where there are at most so many columns. It stands alone, since each call pays for the room of its storages.
+/// Does the same of at most `MOST` columns. It isn't inlined, since each call pays for the room of its storages.
 #[inline(never)]
 fn count_up_to<const MOST: usize>(layout: &Layout<'_>, before: usize, bytes: &[u8]) -> Option<usize>
     requires small { MOST ≤ 4096 }
@@ -129,7 +132,7 @@ fn count_up_to<const MOST: usize>(layout: &Layout<'_>, before: usize, bytes: &[u
     let storages = &room[..layout.columns()];
     let (same, mut rest) = count_same(storages, bytes);
     let mut images = before + same;
-    let mut nulls = SteadyNulls::new(layout.columns());
+    let mut nulls = SteadyNulls::new(layout.columns(), rest.len());
     'images: while !rest.is_empty() {
         let len = len_up_to::<MOST>(storages, nulls.are_steady(), rest)?;
         nulls.look_at(rest);
@@ -147,7 +150,7 @@ pub(crate) fn put_from_last(layout: &Layout<'_>, bytes: &[u8], to: &mut [u8])
     ensures { to.new ≡ concat (reverse (unwrap_or (images_of (layout_columns layout.now) bytes.now) [])) }
 {
     let columns = layout.columns();
-    if has_many(columns, bytes.len()) {
+    if pays_before(columns, bytes.len()) {
         put_stored(layout, bytes, to);
         return;
     }
@@ -160,14 +163,14 @@ pub(crate) fn put_from_last(layout: &Layout<'_>, bytes: &[u8], to: &mut [u8])
         // As many bytes are still free in front as there are still to be read.
         to[behind.len()..rest.len()].copy_from_slice(image);
         rest = behind;
-        if pays(columns, len, rest.len()) {
+        if pays_after(columns, len, rest.len()) {
             put_stored(layout, rest, to);
             return;
         }
     }
 }
 
-/// Writes images from the last to the first to the front of the room, by how the columns are stored.
+/// Writes images from the last to the first to the beginning of the room, by how the columns are stored.
 #[inline(never)]
 fn put_stored(layout: &Layout<'_>, bytes: &[u8], to: &mut [u8])
     requires imaged { is_some (images_of (layout_columns layout.now) bytes.now) ≡ true }
@@ -179,14 +182,14 @@ fn put_stored(layout: &Layout<'_>, bytes: &[u8], to: &mut [u8])
         put_up_to::<FEW_STORAGES>(layout, bytes, to);
     } else if columns <= MOST_STORAGES {
         put_up_to::<MOST_STORAGES>(layout, bytes, to);
-    } else if columns <= MANY_STORAGES {
-        put_up_to::<MANY_STORAGES>(layout, bytes, to);
+    } else if columns <= WIDE_STORAGES {
+        put_up_to::<WIDE_STORAGES>(layout, bytes, to);
     } else {
         put_up_to::<ALL_STORAGES>(layout, bytes, to);
     }
 }
 
-/// The same, where there are at most so many columns.
+/// Does the same of at most `MOST` columns.
 #[inline(never)]
 fn put_up_to<const MOST: usize>(layout: &Layout<'_>, bytes: &[u8], to: &mut [u8])
     requires small { MOST ≤ 4096 }
@@ -200,7 +203,7 @@ fn put_up_to<const MOST: usize>(layout: &Layout<'_>, bytes: &[u8], to: &mut [u8]
     let columns = layout.columns();
     let storages = &room[..columns];
     let mut rest = put_same(storages, bytes, to);
-    let mut nulls = SteadyNulls::new(columns);
+    let mut nulls = SteadyNulls::new(columns, rest.len());
     'images: while !rest.is_empty() {
         let Some(len) = len_up_to::<MOST>(storages, nulls.are_steady(), rest) else {
             unreachable!();

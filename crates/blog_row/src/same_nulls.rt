@@ -1,7 +1,7 @@
-//! How long images are, by their null bits alone, for a few columns of fixed width. Two kinds of null bits are known: an
-//! image is expected to begin with those of the image two before it, because an update has an image before the change and
-//! one after it by turns, or else with those of the image just before. A processor predicts which, and goes on after the
-//! image without waiting for them.
+//! How long images are, by their null bits alone, for a few columns of fixed width. Two bytes of null bits are known with
+//! their lengths, one for every first and one for every second image, because an update has an image before the change and
+//! one after it by turns. An image is compared with its own byte, and then with the other one. A processor predicts which it
+//! is equal to, and goes on after the image without waiting for its null bits.
 
 ghost use Rattle.std.specs.Prelude.{◌≡◌, ◌<◌, ◌≤◌, ◌+◌, true, ℕ, List, is_some, Some, length, slice_get, option_map, IfSome};
 ghost use Rattle.blog_row.specs.Column.{Layout};

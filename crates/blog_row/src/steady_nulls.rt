@@ -4,10 +4,13 @@
 use crate::storages::FEW_STORAGES;
 use byteorder::{ByteOrder, LittleEndian};
 
-/// How many images are looked at. Each but the first two is compared with that two before it.
+/// How many images are looked at. Each but the first two is compared with the image two before it.
 const LOOKED_AT: u32 = 8;
 
-/// How many null bits are compared, of so many bytes that begin an image.
+/// The fewest bytes of images that are looked at. With fewer, hardly an image is left after eight.
+const LEAST_BYTES: usize = 1024;
+
+/// How many bytes at the beginning of an image are compared. They have the null bits of at most 64 columns.
 const COMPARED_BYTES: usize = 8;
 
 /// What is known of how steady the null bits of images are. It decides how fast a walk over them is, and nothing else.
@@ -26,9 +29,10 @@ pub(crate) struct SteadyNulls<'a> {
 }
 
 impl<'a> SteadyNulls<'a> {
-    /// What is known before the first image of so many columns. Of a few columns nothing is looked at.
+    /// Returns what is known before the first image, of `len` bytes of images. No image of a narrow table is looked at, or of
+    /// few bytes.
     #[inline(always)]
-    pub(crate) fn new(columns: usize) -> SteadyNulls<'a> {
+    pub(crate) fn new(columns: usize, len: usize) -> SteadyNulls<'a> {
         SteadyNulls {
             steady: false,
             columns: if columns < 64 {
@@ -47,13 +51,13 @@ impl<'a> SteadyNulls<'a> {
         }
     }
 
-    /// Whether null bits are steady, as far as they were looked at.
+    /// Returns whether null bits are steady, as far as they were looked at.
     #[inline(always)]
     pub(crate) fn are_steady(&self) -> bool {
         self.steady
     }
 
-    /// Looks at the null bits of the image with which the bytes begin, if it is one of the first.
+    /// Looks at the null bits of the image that the bytes begin with, if it is one of the first.
     #[inline(always)]
     pub(crate) fn look_at(&mut self, bytes: &'a [u8]) {
         if self.left > 0 {
@@ -61,8 +65,8 @@ impl<'a> SteadyNulls<'a> {
         }
     }
 
-    /// Compares the null bits of an image with those of the image two before it. They are steady where of sixteen columns
-    /// less than one changes from one image to the next but one.
+    /// Compares the null bits of an image with those of the image two before it. They are steady if fewer than one in sixteen
+    /// is another one: a wrong prediction takes about as long as the masks of some sixteen columns.
     #[inline(never)]
     fn compare(&mut self, bytes: &'a [u8]) {
         let before = self.last_but_one;

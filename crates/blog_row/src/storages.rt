@@ -13,17 +13,19 @@ use crate::image::{cut_at, stored_end};
 use crate::layout::column_at;
 use byteorder::{ByteOrder, LittleEndian};
 
-/// The fewest columns for which `Rows` and `StoredLayout` look up storages. With fewer, a processor predicts the NULLs.
+/// The fewest columns for which `Rows` and `StoredLayout` look up storages. With fewer, types and metadata take no longer.
 pub(crate) const LEAST_STORAGES: usize = 4;
 
-/// The most columns that are few: their images are walked column by column.
+/// The most columns of a narrow table: its images are walked with a jump over each NULL. With more, masks are faster if null
+/// bits are irregular.
 pub(crate) const FEW_STORAGES: usize = 6;
 
-/// The most columns whose storages take little room. They are looked up where images are read one by one, too.
+/// The most columns whose storages take little room, 256 bytes. They are looked up where images are read one by one, too.
 pub(crate) const MOST_STORAGES: usize = 64;
 
-/// The most columns of a wide table whose storages take a few pages less than those of 4,096.
-pub(crate) const MANY_STORAGES: usize = 512;
+/// The most columns of a wide table whose storages take 2 KB of room in place of 16 KB, which would have to be set for a few
+/// images.
+pub(crate) const WIDE_STORAGES: usize = 512;
 
 /// The most columns that a table can have.
 pub(crate) const ALL_STORAGES: usize = 4096;

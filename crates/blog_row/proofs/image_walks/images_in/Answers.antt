@@ -9,10 +9,10 @@ returns-in_err-len c =
     let some : 0 < length c.images.rest.now = grind (arith, common_steps) in
     c.from_residual.ensures ∙ sym (count_stops (layout_columns c.args.layout.now) c.images.rest.now c.images.images _ some (sym c.in_err-len.ensures.exact) c.images.invariant.0)
 
-pub returns-then-pays : goal.returns-then-pays
-returns-then-pays c =
+pub returns-then-pays_after : goal.returns-then-pays_after
+returns-then-pays_after c =
     let one : OneImage (layout_columns c.args.layout.now) c.images.rest.now c.in_ok-len.len = one_image _ _ _ (some_columns c.args.layout.now) (sym c.in_ok-len.ensures.exact) in
-    c.count_stored-then-pays.ensures ∙ count_step _ _ _ _ _ _ one c.split_at.ensures.back c.images.invariant.0
+    c.count_stored-then-pays_after.ensures ∙ count_step _ _ _ _ _ _ one c.split_at.ensures.back c.images.invariant.0
 
 pub images-smaller : goal.images-smaller
 images-smaller c =

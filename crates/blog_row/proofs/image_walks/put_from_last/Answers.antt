@@ -12,19 +12,19 @@ unreachable-requires c =
     let none : image_len_of (layout_columns c.args.layout.now) c.images.rest.now ≡ None = sym c.image_len.ensures.exact ∙ c.in_default.is in
     written_there (layout_columns c.args.layout.now) _ c.images.rest.now c.images.to c.images.invariant some none
 
-pub put_stored-requires-then-pays-clause-imaged : goal.put_stored-requires-then-pays-clause-imaged
-put_stored-requires-then-pays-clause-imaged c =
+pub put_stored-requires-then-pays_after-clause-imaged : goal.put_stored-requires-then-pays_after-clause-imaged
+put_stored-requires-then-pays_after-clause-imaged c =
     let len : image_len_of (layout_columns c.args.layout.now) c.images.rest.now ≡ Some c.in-Some.len = sym c.image_len.ensures.exact ∙ c.in-Some.is in
     let one : OneImage (layout_columns c.args.layout.now) c.images.rest.now c.in-Some.len = one_image _ _ _ (some_columns c.args.layout.now) len in
     let image : c.copy_from_slice.new.self ≡ take c.in-Some.len c.images.rest.now = c.copy_from_slice.ensures.after ∙ c.split_at.ensures.front in
     written_imaged _ _ _ _ (written_more (layout_columns c.args.layout.now) _ c.images.rest.now c.split_at.result.1.now c.images.to c.copy_from_slice.new.self c.in-Some.len one image c.split_at.ensures.back c.split_at.ensures.back_len c.images.invariant)
 
-pub returns-then-pays : goal.returns-then-pays
-returns-then-pays c =
+pub returns-then-pays_after : goal.returns-then-pays_after
+returns-then-pays_after c =
     let len : image_len_of (layout_columns c.args.layout.now) c.images.rest.now ≡ Some c.in-Some.len = sym c.image_len.ensures.exact ∙ c.in-Some.is in
     let one : OneImage (layout_columns c.args.layout.now) c.images.rest.now c.in-Some.len = one_image _ _ _ (some_columns c.args.layout.now) len in
     let image : c.copy_from_slice.new.self ≡ take c.in-Some.len c.images.rest.now = c.copy_from_slice.ensures.after ∙ c.split_at.ensures.front in
-    written_rest _ _ _ _ _ (written_more (layout_columns c.args.layout.now) _ c.images.rest.now c.split_at.result.1.now c.images.to c.copy_from_slice.new.self c.in-Some.len one image c.split_at.ensures.back c.split_at.ensures.back_len c.images.invariant) c.put_stored-then-pays.ensures
+    written_rest _ _ _ _ _ (written_more (layout_columns c.args.layout.now) _ c.images.rest.now c.split_at.result.1.now c.images.to c.copy_from_slice.new.self c.in-Some.len one image c.split_at.ensures.back c.split_at.ensures.back_len c.images.invariant) c.put_stored-then-pays_after.ensures
 
 pub images-smaller : goal.images-smaller
 images-smaller c =
