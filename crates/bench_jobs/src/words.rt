@@ -15,7 +15,7 @@ pub enum Job {
     Sums,
     /// Statements of many events of one row, many tables, and tables of many columns.
     Awkward,
-    /// Events of one row of tables with optional columns.
+    /// Events of one row and of 8 KB, of tables with optional columns.
     Optional,
     /// Statements and names in three languages, as JSON.
     Statements,
