@@ -58,6 +58,7 @@ fn short_literal_len(text: &[u8]) -> usize
 }
 
 /// Appends a control character by its number.
+#[inline(never)]
 fn put_control<A: Allocator>(out: &mut Vec<u8, A>, byte: u8) -> Result<(), AllocError>
     ensures { OnOk result (out.new.items ≡ out.old.items ++ json_control byte) }
 {
@@ -66,6 +67,7 @@ fn put_control<A: Allocator>(out: &mut Vec<u8, A>, byte: u8) -> Result<(), Alloc
 }
 
 /// Appends the escape of a byte.
+#[inline(always)]
 fn put_escape<A: Allocator>(out: &mut Vec<u8, A>, byte: u8) -> Result<(), AllocError>
     requires { is_escaped byte ≡ true }
     ensures { OnOk result (out.new.items ≡ out.old.items ++ json_char byte) }
