@@ -62,7 +62,9 @@ pub(crate) fn storages_of<'s>(
     }
 }
 
-/// How many images the bytes are, one after the other and without a remainder.
+/// How many images the bytes are, one after the other and without a remainder. It isn't inlined: among the code of its
+/// callers, the walk by types would keep its place in memory.
+#[inline(never)]
 pub(crate) fn images_in(layout: &Layout<'_>, bytes: &[u8]) -> Option<usize>
     ensures { result ≡ option_map length (images_of (layout_columns layout.now) bytes.now) }
 {
