@@ -3,10 +3,11 @@
 
 ghost use Rattle.std.specs.Prelude.{◌≡◌, ◌<◌, ◌≤◌, ◌+◌, ◌*◌, ◌∷◌, ◌%◌, ◌/◌, None, Some, length, drop, slice_index, true, IfSome, IfNone};
 ghost use Rattle.std.specs.List.{list_all};
-ghost use Rattle.blog_row.specs.Column.{columns_of, is_column, value_front};
+ghost use Rattle.blog_row.specs.Column.{columns_of, is_column, storage_of, value_front};
 ghost use Rattle.blog_row.specs.Image.{image_len_of};
 ghost use Rattle.blog_row.specs.code.LayoutReading.{column_here};
 ghost use Rattle.blog_row.specs.code.PositionView.{EndsAt, behind_from, from_position};
+ghost use Rattle.blog_row.specs.code.StorageView.{storage_seen};
 
 use crate::column::Storage;
 use crate::constants::MYSQL_TYPE_VARCHAR;
@@ -26,28 +27,25 @@ fn behind_own<'a>(kinds: &[u8], i: usize, metadata: &'a [u8]) -> &'a [u8]
     others
 }
 
-/// Where the value of a column ends whose type is seldom. It stands once for all of them.
+/// The same as `stored_here`, once for all columns whose types are seldom.
 #[inline(never)]
-fn seldom_end(kind: u8, metadata: &[u8], at: usize, bytes: &[u8]) -> Option<usize>
+fn stored_by_metadata(kind: u8, metadata: &[u8]) -> Storage
     requires { is_column (column_here kind metadata.now) ≡ true }
-    ensures { EndsAt (value_front (column_here kind metadata.now)) at bytes.now result }
+    ensures { storage_of (column_here kind metadata.now) ≡ Some (storage_seen result) }
 {
-    stored_end(stored_here(kind, metadata), at, bytes)
+    stored_here(kind, metadata)
 }
 
-/// Where the value of a column ends that begins at a position; where the type says it, the metadata is not looked at, and
-/// the most common type with metadata comes first.
+/// The same; where the type says it, the metadata is not looked at, and the most common type with metadata comes first.
 #[inline(always)]
-fn typed_end(kind: u8, metadata: &[u8], at: usize, bytes: &[u8]) -> Option<usize>
+fn storage_at(kind: u8, metadata: &[u8]) -> Storage
     requires { is_column (column_here kind metadata.now) ≡ true }
-    ensures { EndsAt (value_front (column_here kind metadata.now)) at bytes.now result }
+    ensures { storage_of (column_here kind metadata.now) ≡ Some (storage_seen result) }
 {
     match plain_width(kind) {
-        Some(width) => stored_end(Storage::Fixed(width), at, bytes),
-        None if kind == MYSQL_TYPE_VARCHAR => {
-            stored_end(stored_here(MYSQL_TYPE_VARCHAR, metadata), at, bytes)
-        }
-        None => seldom_end(kind, metadata, at, bytes),
+        Some(width) => Storage::Fixed(width),
+        None if kind == MYSQL_TYPE_VARCHAR => stored_here(MYSQL_TYPE_VARCHAR, metadata),
+        None => stored_by_metadata(kind, metadata),
     }
 }
 
@@ -58,7 +56,7 @@ fn value_end(kinds: &[u8], i: usize, metadata: &[u8], at: usize, bytes: &[u8]) -
     requires known { list_all is_column (columns_of (drop i kinds.now) metadata.now) ≡ true }
     ensures { EndsAt (value_front (column_here (slice_index kinds.now i) metadata.now)) at bytes.now result }
 {
-    typed_end(kinds[i], metadata, at, bytes)
+    stored_end(storage_at(kinds[i], metadata), at, bytes)
 }
 
 /// Where the values of the next columns end, `count` of them from column `from` on, whose null bits are in one byte; and

@@ -1,5 +1,0 @@
-use Rattle.blog_row.proofs.PositionWalking.{column_ends}
-use Rattle.blog_row.proofs.typed_walk.seldom_end.Goals as goal
-
-pub returns : goal.returns
-returns c = column_ends _ _ c.args.at c.args.bytes.now _ c.stored_here.ensures c.stored_end.ensures
