@@ -29,8 +29,8 @@ pub(crate) struct SteadyNulls<'a> {
 }
 
 impl<'a> SteadyNulls<'a> {
-    /// Returns what is known before the first image, of `len` bytes of images. No image of a narrow table is looked at, or of
-    /// few bytes.
+    /// Returns what is known before the first image, of `len` bytes of images. Images of a narrow table, or of few bytes in
+    /// all, aren't looked at.
     #[inline(always)]
     pub(crate) fn new(columns: usize, len: usize) -> SteadyNulls<'a> {
         SteadyNulls {
@@ -40,7 +40,7 @@ impl<'a> SteadyNulls<'a> {
             } else {
                 u64::MAX
             },
-            left: if columns <= FEW_STORAGES {
+            left: if columns <= FEW_STORAGES || len < LEAST_BYTES {
                 0
             } else {
                 LOOKED_AT
