@@ -1,4 +1,3 @@
-mod Blocks
 mod Ending
 mod Growing
 mod JsonBytes

@@ -4,7 +4,6 @@ ghost use Rattle.std.specs.Prelude.{◌≡◌, ◌++◌, IfOk, OnOk, replicate, 
 ghost use Rattle.jiff.specs.Words.{plain_zone};
 ghost use Rattle.blog_list.specs.Columns.{IsHeading, IsPadded, IsSeasonsHeading, IsTimeColumn, PutsTime, heading_of_two};
 
-use crate::texts::put_text;
 use crate::times::{instant_of, time_text};
 use jiff::tz::TimeZone;
 use std::alloc::{AllocError, Allocator};
@@ -15,9 +14,6 @@ const TIME_COLUMNS: usize = 19;
 /// Some winter and some summer, which is which by the hemisphere, after the last change of a zone's rules that is known:
 /// 2100-01-01 and 2100-07-01.
 const SEASONS: (u32, u32) = (4_102_444_800, 4_118_083_200);
-
-/// Blanks, which are put by parts of this text.
-const BLANKS: &[u8; 32] = b"                                ";
 
 /// The column of times in a list: the time zone of the clock, and the heading, which names it.
 #[derive(Drop)]
@@ -115,10 +111,8 @@ fn put_padded<A: Allocator>(
 fn put_blanks<A: Allocator>(out: &mut Vec<u8, A>, count: usize) -> Result<(), AllocError>
     ensures { OnOk result (out.new.items ≡ out.old.items ++ replicate count 32) }
 {
-    let mut left = count;
-    'blanks: while left > BLANKS.len() {
-        put_text(out, BLANKS)?;
-        left -= BLANKS.len();
+    'blanks: for _ in 0..count {
+        out.push(b' ')?;
     }
-    put_text(out, &BLANKS[..left])
+    Ok(())
 }

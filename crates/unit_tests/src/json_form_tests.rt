@@ -1,5 +1,5 @@
-//! Lists of units as JSON, compared with what serde writes: names, statements, ids and faults of many kinds, times on both sides
-//! of clock changes, and damaged events.
+//! Lists of units as JSON, compared with what serde writes: names, statements, ids and faults of many kinds, times on both
+//! sides of clock changes, and damaged events.
 
 use crate::json_lines::{lines_of, put_totals};
 use crate::lists::ALL;
