@@ -95,6 +95,11 @@ fn print_no_log<W: fmt::Write>(
     }
 }
 
+/// Returns whether a path is one by which systems name standard output.
+fn is_output(path: &str) -> bool {
+    path == "/dev/stdout" || path == "/dev/fd/1" || path == "/proc/self/fd/1"
+}
+
 /// Why there is no result file, or what is left beside it.
 fn print_file_fault<W: fmt::Write, A: Allocator>(
     f: &mut fmt::Formatter<W>,
@@ -108,6 +113,10 @@ fn print_file_fault<W: fmt::Write, A: Allocator>(
         FileFault::IsLog(path) => write!(
             f,
             "the result file is the log: {path}: give another name"
+        ),
+        FileFault::IsLink(path) if is_output(path) => write!(
+            f,
+            "the result file is standard output: {path}: leave -r out"
         ),
         FileFault::IsLink(path) => write!(
             f,

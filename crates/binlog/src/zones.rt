@@ -127,10 +127,16 @@ pub fn zone_in<R: Files + AllocGlobal>(
     }
 }
 
-/// Whether a text can be a zone's name, and leads to no file outside of the folder. `posix` has the zones again, and `right`
-/// has them with leap seconds, which events don't count.
+/// Returns whether a text can be a zone's name, and leads to no file outside of the folder. `posix` has the zones again, and
+/// `right` has them with leap seconds, which events don't count. `localtime` and `posixrules` are names of other zones, and
+/// `Factory` is the zone of a machine whose zone isn't set.
 fn is_zone_name(name: &str) -> bool {
-    !name.starts_with("posix/") && !name.starts_with("right/") && name.split('/').all(is_part)
+    name != "localtime"
+        && name != "posixrules"
+        && name != "Factory"
+        && !name.starts_with("posix/")
+        && !name.starts_with("right/")
+        && name.split('/').all(is_part)
 }
 
 /// Whether a text can be a part of a zone's name: a letter, and then letters, digits, `_`, `+` and `-`.

@@ -1,3 +1,6 @@
+mod AnyNamed
+mod Anys
+mod Sets
 pub mod About
 pub mod Found
 pub mod Names

@@ -4,10 +4,7 @@ ghost use Rattle.std.specs.Prelude.{◌≡◌, map};
 ghost use Rattle.std.specs.List.{list_any};
 ghost use Rattle.std.specs.Option.{option_copied};
 ghost use Rattle.blog_choice.specs.Choice.{read_name, chooses_all, is_in, matches, chooses};
-ghost use Rattle.blog_choice.specs.Naming.{names_chosen};
 ghost use Rattle.blog_choice.specs.code.Views.{name_value, choice_value};
-
-use crate::naming::{changes_what_it_names, has_name, is_any_named};
 
 /// The name of a table, compared byte by byte.
 #[derive(Clone, Copy, Debug)]
@@ -94,39 +91,5 @@ impl TableChoice<'_> {
             is_any_matching(self.tables, self.database, schema, table)
         };
         is_wanted && !is_any_matching(self.excluded, None, schema, table)
-    }
-
-    /// Returns whether a statement names a chosen table. In doubt it does.
-    ///
-    /// `text` is the statement's text, and `default_schema` the schema that it runs in. `inside` says whether it is inside a
-    /// transaction: between `BEGIN` or `XA START` and the end.
-    ///
-    /// - A statement can change tables that it doesn't name, through a trigger, a view or a cascade. So it names every table,
-    ///   unless its first word is ALTER, ANALYZE, CREATE, DROP, FLUSH, GRANT, OPTIMIZE, RENAME, REPAIR, REVOKE, TRUNCATE
-    ///   or XA. Inside a transaction it names every table, unless its first two words are CREATE TABLE. A text that begins
-    ///   with a comment has no first word.
-    /// - It names one of `tables` if its text has the table's name. It also does if its text has the word DATABASE or SCHEMA
-    ///   and the schema's name. A name without a schema is in `database`; without a `database`, one of these two words is
-    ///   enough.
-    /// - If `tables` is empty, it names a table of `database` if that is its default schema, or if its text has that name. If
-    ///   there is no `database` either, it names every table.
-    ///
-    /// A text has a name if the name is in it as a word: ASCII letters are compared without case, and no letter, digit, `_`
-    /// or `$` is beside it. Every text has an empty name, and a name with a backtick or a byte from 128 on. `excluded` has no
-    /// effect.
-    #[tactic(auto, unfolding(crate::specs::Naming::names_chosen))]
-    pub fn is_named(&self, default_schema: &[u8], text: &[u8], inside: bool) -> bool
-        ensures { result ≡ names_chosen (choice_value self.now) default_schema.now text.now inside }
-    {
-        if !changes_what_it_names(text, inside) {
-            return true;
-        }
-        if !self.tables.is_empty() {
-            return is_any_named(self.tables, self.database, text);
-        }
-        match self.database {
-            Some(name) => default_schema == name || has_name(text, name),
-            None => true,
-        }
     }
 }

@@ -18,6 +18,6 @@ pub fn words_are_found_exactly()
 
 /// A statement about a chosen table names it. The call does nothing.
 pub fn statements_about_chosen_tables_name_them()
-    ensures named { (choice : Choice) (default_schema text schema table : List ℕ) (inside : Bool)
-        → chooses choice schema table ≡ true → IsAbout default_schema text schema table → names_chosen choice default_schema text inside ≡ true }
+    ensures named { (choice : Choice) (default_schema text schema table : List ℕ) (inside twins : Bool)
+        → chooses choice schema table ≡ true → IsAbout default_schema text schema table → names_chosen choice default_schema text inside twins ≡ true }
 {}

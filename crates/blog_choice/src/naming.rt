@@ -1,13 +1,10 @@
 //! Which names a statement's text has, and whether it changes only tables that it names.
 
-ghost use Rattle.std.specs.Prelude.{◌≡◌, map};
+ghost use Rattle.std.specs.Prelude.{◌≡◌};
 ghost use Rattle.std.specs.List.{list_any};
-ghost use Rattle.std.specs.Option.{option_copied};
 ghost use Rattle.std.specs.Str.{str_eq_ignore_ascii_case};
-ghost use Rattle.blog_choice.specs.Naming.{is_special, has_name, is_about_schemas, names_table, changes_what_it_names, naming_words};
-ghost use Rattle.blog_choice.specs.code.Views.{name_value};
+ghost use Rattle.blog_choice.specs.Naming.{changes_what_it_names, has_name, has_twins, is_about_schemas, is_special, is_twin, naming_words};
 
-use crate::choice::TableName;
 use crate::words::{is_same_word, occurs, split_first_word};
 
 /// The first words of statements that change no table by a trigger, a view or a cascade.
@@ -26,47 +23,45 @@ const NAMING_WORDS: [&[u8]; 12] = [
     b"XA",
 ];
 
-/// Whether a text can spell a name in other bytes: an empty one, or one with a byte from 128 on or a backtick.
+/// Returns whether any client can spell a name in other bytes: an empty one, or one with a byte from 128 on, a backtick or `"`.
 #[tactic(auto, unfolding(crate::specs::Naming::is_special))]
-fn is_special(name: &[u8]) -> bool
+pub(crate) fn is_special(name: &[u8]) -> bool
     ensures { result ≡ is_special name.now }
 {
-    name.is_empty() || name.iter().any(|byte| *byte == b'`' || *byte >= 128)
+    name.is_empty()
+        || name
+            .iter()
+            .any(|byte| *byte == b'"' || *byte == b'`' || *byte >= 128)
 }
 
-/// Whether a text has a name.
-#[tactic(auto, unfolding(crate::specs::Naming::has_name))]
-pub(crate) fn has_name(text: &[u8], name: &[u8]) -> bool
-    ensures { result ≡ has_name text.now name.now }
+/// Returns whether a byte is a character of ASCII that has two spellings in armscii8, sjis or ujis.
+fn is_twin(byte: u8) -> bool
+    ensures { result ≡ is_twin byte }
 {
-    is_special(name) || occurs(name, text)
+    matches!(byte, b'\'' | b'(' | b')' | b',' | b'-' | b'.' | b'\\')
 }
 
-/// Whether a text is about schemas.
-fn is_about_schemas(text: &[u8]) -> bool
+/// Returns whether a client of one of these character sets can spell a name in other bytes.
+#[tactic(auto, unfolding(crate::specs::Naming::has_twins))]
+pub(crate) fn has_twins(name: &[u8]) -> bool
+    ensures { result ≡ has_twins name.now }
+{
+    name.iter().any(|byte| is_twin(*byte))
+}
+
+/// Returns whether a text has a name. `twins` says whether its client has one of these character sets.
+#[tactic(auto, unfolding(crate::specs::Naming::has_name))]
+pub(crate) fn has_name(text: &[u8], name: &[u8], twins: bool) -> bool
+    ensures { result ≡ has_name twins text.now name.now }
+{
+    is_special(name) || has_twins(name) && twins || occurs(name, text)
+}
+
+/// Returns whether a text is about schemas.
+pub(crate) fn is_about_schemas(text: &[u8]) -> bool
     ensures { result ≡ is_about_schemas text.now }
 {
     occurs(b"DATABASE", text) || occurs(b"SCHEMA", text)
-}
-
-/// Whether a text names a table, or its schema where it is about schemas.
-#[tactic(auto, unfolding(crate::specs::Naming::names_table))]
-fn names_table(name: &TableName<'_>, database: Option<&[u8]>, text: &[u8]) -> bool
-    ensures { result ≡ names_table (option_copied database.entry) text.now (name_value name.now) }
-{
-    has_name(text, name.table)
-        || is_about_schemas(text)
-            && match name.schema.or(database) {
-                Some(schema) => has_name(text, schema),
-                None => true,
-            }
-}
-
-/// Whether a text names one of some tables.
-pub(crate) fn is_any_named(names: &[TableName<'_>], database: Option<&[u8]>, text: &[u8]) -> bool
-    ensures { result ≡ list_any (names_table (option_copied database.entry) text.now) (map name_value names.now) }
-{
-    names.iter().any(|name| names_table(name, database, text))
 }
 
 /// Whether a word is one of some words.

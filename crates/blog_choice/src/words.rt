@@ -12,14 +12,14 @@ fn is_word_byte(byte: u8) -> bool
 }
 
 /// Whether a text has a byte of a word at a place.
-fn is_word_at(text: &[u8], place: usize) -> bool
+pub(crate) fn is_word_at(text: &[u8], place: usize) -> bool
     ensures { result ≡ is_word_byte (slice_index text.now place) }
 {
     place < text.len() && is_word_byte(text[place])
 }
 
 /// Whether a text has a byte of a word before a place.
-fn is_word_before(text: &[u8], place: usize) -> bool
+pub(crate) fn is_word_before(text: &[u8], place: usize) -> bool
     ensures { result ≡ is_word_byte (slice_index (0 ∷ text.now) place) }
 {
     place > 0 && is_word_at(text, place - 1)

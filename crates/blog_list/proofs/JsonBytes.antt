@@ -1,26 +1,29 @@
 -- Strings of JSON byte by byte, for texts that are UTF-8.
-use Rattle.std.specs.List.{flat_map, prefix_len}
+use Rattle.std.specs.List.{flat_map, list_any, prefix_len}
+use Rattle.std.specs.Prelude.{◌||◌, Bool}
 use Rattle.std.specs.Str.{IsUtf8}
 use Rattle.std.specs.Char.{encode_utf8}
 use Rattle.std.specs.Str.{encode_utf8_all}
 use Rattle.std.proofs.Common.{◌≡◌, ◌≢◌, ℕ, suc, ◌+◌, ◌/◌, ◌%◌, ◌<◌, ◌≤◌, true, false, not, List, [], ◌∷◌, ◌++◌, take, drop, refl, sym, ap, ap₂, ◌∙◌, arith, ⊎_elim, append-nil}
-use Rattle.std.proofs.lemmas.Bool.{cases_Bool, cases_lt, cond-true, cond-false, ne_eqb, le-ltb, lt-ltb}
+use Rattle.std.proofs.lemmas.Bool.{cases_Bool, cases_lt, or_parts, cond-true, cond-false, ne_eqb, le-ltb, lt-ltb}
 use Rattle.std.proofs.lemmas.Bool.Decides.{nat_tests}
 use Rattle.std.proofs.lemmas.List.Concat.{flat_map-append}
 use Rattle.std.proofs.lemmas.Str.{encode_ascii}
 use Rattle.bstr.specs.Utf8.{lossy_chars}
 use Rattle.bstr.proofs.lemmas.EncodeLemmas.{lossy_chars-utf8}
-use Rattle.blog_list.specs.code.Json.{is_escaped, is_literal, json_byte, json_char}
+use Rattle.blog_list.specs.code.Json.{is_escaped, is_high_control, is_literal, json_byte, json_char}
 use Rattle.blog_list.proofs.Growing.{next-part}
 
 -- which numbers of characters stand for themselves
 record IsLiteral (c : ℕ) : Type 0 where
   visible : 0x20 ≤ c
+  no_control : is_high_control c ≡ false
   no_quote : c ≢ 0x22
   no_backslash : c ≢ 0x5C
 
-IsLiteral-from : (c : ℕ) → is_escaped c ≡ false → IsLiteral c
-IsLiteral-from c literal = record {
+IsLiteral-from : (c : ℕ) → is_escaped c ≡ false → is_high_control c ≡ false → IsLiteral c
+IsLiteral-from c literal control = record {
+  no_control = control;
   visible = grind (arith, nat_tests);
   no_quote = λ e. grind (arith, nat_tests);
   no_backslash = λ e. grind (arith, nat_tests);
@@ -35,7 +38,7 @@ char-literal c is =
     ∙ cond-false _ _ _ (ne_eqb c 0x0D (λ e. omega arith))
     ∙ cond-false _ _ _ (ne_eqb c 0x08 (λ e. omega arith))
     ∙ cond-false _ _ _ (ne_eqb c 0x0C (λ e. omega arith))
-    ∙ cond-false _ _ _ (le-ltb c 0x20 is.visible)
+    ∙ cond-false _ _ _ (ap₂ (λ (low high : Bool). low || high) (le-ltb c 0x20 is.visible) is.no_control)
 
 byte-literal : (byte : ℕ) → is_escaped byte ≡ false → json_byte byte ≡ byte ∷ []
 unfolding json_byte
@@ -46,18 +49,18 @@ unfolding json_byte
 byte-escaped byte escaped = cond-true _ _ _ escaped
 
 -- a number from 128 on
-high-literal : (c : ℕ) → 128 ≤ c → IsLiteral c
-high-literal c high = record { visible = omega arith; no_quote = λ e. omega arith; no_backslash = λ e. omega arith }
+high-literal : (c : ℕ) → 128 ≤ c → is_high_control c ≡ false → IsLiteral c
+high-literal c high control = record { no_control = control; visible = omega arith; no_quote = λ e. omega arith; no_backslash = λ e. omega arith }
 
 -- a byte of a character of several
 byte-high : (byte : ℕ) → 128 ≤ byte → json_byte byte ≡ byte ∷ []
 byte-high byte high = byte-literal byte (grind (arith, nat_tests))
 
 -- an ASCII character
-ascii-byte : (c : ℕ) → c < 128 → json_byte c ≡ json_char c
-ascii-byte c low = ⊎_elim
+ascii-byte : (c : ℕ) → c < 128 → is_high_control c ≡ false → json_byte c ≡ json_char c
+ascii-byte c low control = ⊎_elim
     (λ escaped. byte-escaped c escaped)
-    (λ literal. byte-literal c literal ∙ sym (char-literal c (IsLiteral-from c literal) ∙ encode_ascii c low))
+    (λ literal. byte-literal c literal ∙ sym (char-literal c (IsLiteral-from c literal control) ∙ encode_ascii c low))
     (cases_Bool (is_escaped c))
 
 -- another
@@ -74,23 +77,24 @@ high-bytes c high = ⊎_elim
     (cases_lt c 65536))
     (cases_lt c 2048)
 
-char-bytes : (c : ℕ) → flat_map json_byte (encode_utf8 c) ≡ json_char c
-char-bytes c = ⊎_elim
+char-bytes : (c : ℕ) → is_high_control c ≡ false → flat_map json_byte (encode_utf8 c) ≡ json_char c
+char-bytes c control = ⊎_elim
     (λ (low : c < 128).
-    ap (flat_map json_byte) (encode_ascii c low) ∙ append-nil (json_byte c) ∙ ascii-byte c low)
-    (λ (high : 128 ≤ c). high-bytes c high ∙ sym (char-literal c (high-literal c high)))
+    ap (flat_map json_byte) (encode_ascii c low) ∙ append-nil (json_byte c) ∙ ascii-byte c low control)
+    (λ (high : 128 ≤ c). high-bytes c high ∙ sym (char-literal c (high-literal c high control)))
     (cases_lt c 128)
 
-chars-bytes : (cs : List ℕ) → flat_map json_byte (encode_utf8_all cs) ≡ flat_map json_char cs
-chars-bytes [] = refl
-chars-bytes (c ∷ cs) =
+chars-bytes : (cs : List ℕ) → list_any is_high_control cs ≡ false → flat_map json_byte (encode_utf8_all cs) ≡ flat_map json_char cs
+chars-bytes [] none = refl
+chars-bytes (c ∷ cs) none =
+    let parts = or_parts (is_high_control c) (list_any is_high_control cs) none in
     flat_map-append json_byte (encode_utf8 c) (encode_utf8_all cs)
-    ∙ ap₂ (λ (first later : List ℕ). first ++ later) (char-bytes c) (chars-bytes cs)
+    ∙ ap₂ (λ (first later : List ℕ). first ++ later) (char-bytes c parts.0) (chars-bytes cs parts.1)
 
 -- the bytes of a text are those of its characters
-pub text-bytes : (text : List ℕ) → IsUtf8 text → flat_map json_byte text ≡ flat_map json_char (lossy_chars text)
-text-bytes text is =
-    ap (flat_map json_byte) (sym (lossy_chars-utf8 text is)) ∙ chars-bytes (lossy_chars text)
+pub text-bytes : (text : List ℕ) → IsUtf8 text → list_any is_high_control (lossy_chars text) ≡ false → flat_map json_byte text ≡ flat_map json_char (lossy_chars text)
+text-bytes text is none =
+    ap (flat_map json_byte) (sym (lossy_chars-utf8 text is)) ∙ chars-bytes (lossy_chars text) none
 
 -- the first bytes, up to one that needs an escape, stand for themselves
 one-literal : (n m byte : ℕ) (rest : List ℕ) → n ≡ suc m → is_escaped byte ≡ false

@@ -1,5 +1,5 @@
 -- How bytes of a log are printed for people: control characters, and bytes that aren't UTF-8, are written as escapes.
-use Rattle.std.specs.Prelude.{ℕ, zero, suc, ◌-◌, ◌==◌, nat_le, false, if◌then◌else◌, List, [], ◌∷◌, ◌++◌, length, Option, Some, None, unwrap_or, codes, ◌*◌, encode_utf8}
+use Rattle.std.specs.Prelude.{ℕ, zero, suc, ◌-◌, ◌/◌, ◌%◌, ◌==◌, ◌&&◌, ◌||◌, Bool, nat_le, nat_lt, false, if◌then◌else◌, List, [], ◌∷◌, ◌++◌, length, Option, Some, None, unwrap_or, codes, ◌*◌, encode_utf8}
 use Rattle.std.specs.Char.{is_control}
 use Rattle.std.specs.List.{flat_map}
 use Rattle.bstr.specs.Utf8.{decoded}
@@ -33,8 +33,18 @@ marks = marks_behind 0
 abbrev pub byte_escape : ℕ → List ℕ
 byte_escape byte = codes "\\x" ++ encode_lower (byte ∷ [])
 
+-- a character that hides, joins or turns what stands beside it: marks of direction and of width 0, line and paragraph
+-- separators (Unicode Standard, "Layout Controls"; Unicode Standard Annex 9)
+abbrev pub is_layout : ℕ → Bool
+is_layout c =
+    c == 0x061C || ((nat_le 0x200B c && nat_le c 0x200F) || ((nat_le 0x2028 c && nat_le c 0x202E) || ((nat_le 0x2060 c && nat_le c 0x2069) || c == 0xFEFF)))
+
+-- its number, in four digits
+abbrev pub layout_escape : ℕ → List ℕ
+layout_escape c = codes "\\u{" ++ (encode_lower (c / 256 ∷ c % 256 ∷ []) ++ codes "}")
+
 -- a character: a backslash as `\\`, a line feed, a tab and a carriage return as `\n`, `\t` and `\r`, the bytes of any other
--- control character as `\x1b`
+-- control character as `\x1b`, and one that changes what stands beside it as `\u{202e}`
 abbrev pub char_shown : ℕ → List ℕ
 char_shown c =
     if c == 0x5C then codes "\\\\"
@@ -42,6 +52,7 @@ char_shown c =
     else if c == 0x09 then codes "\\t"
     else if c == 0x0D then codes "\\r"
     else if is_control c then flat_map byte_escape (encode_utf8 c)
+    else if is_layout c then layout_escape c
     else encode_utf8 c
 
 abbrev pub shown : Mark → List ℕ
@@ -72,13 +83,15 @@ char_columns c =
     else if c == 0x09 then 2
     else if c == 0x0D then 2
     else if is_control c then 4 * length (encode_utf8 c)
+    else if is_layout c then 8
     else unwrap_or (char_width false c) 0
 
 abbrev pub columns_of : Mark → ℕ
 columns_of (Character c) = char_columns c
 columns_of (Byte byte) = 4
 
--- the beginning of a text in at most so many columns; two points follow where that isn't all
-abbrev pub beginning : ℕ → List Mark → List ℕ
-beginning left [] = []
-beginning left (mark ∷ marks) = if nat_le (columns_of mark) left then shown mark ++ beginning (left - columns_of mark) marks else codes ".."
+-- the beginning of a text in at most this many columns and characters; two points follow where that isn't all
+abbrev pub beginning : ℕ → ℕ → List Mark → List ℕ
+beginning columns characters [] = []
+beginning columns characters (mark ∷ marks) =
+    if nat_le (columns_of mark) columns && nat_lt 0 characters then shown mark ++ beginning (columns - columns_of mark) (characters - 1) marks else codes ".."

@@ -103,7 +103,7 @@ fault_text name pos = name ++ option_map_or (λ pos. codes " at " ++ decimal pos
 -- the same, and the beginning of the text of a statement, or what an event is
 abbrev pub refusal_text : Refusal → List ℕ
 refusal_text r =
-    fault_text r.name r.pos ++ (option_map_or (λ text. codes ": " ++ beginning 60 (marks text)) r.statement []
+    fault_text r.name r.pos ++ (option_map_or (λ text. codes ": " ++ beginning 60 240 (marks text)) r.statement []
     ++ option_map_or (λ words. codes ": " ++ words) r.event [])
 
 abbrev pub changes_text : Result (List TableCount) Refusal → List ℕ

@@ -1,6 +1,7 @@
 -- What is shown of the units of a log, and which of them are wanted.
-use Rattle.std.specs.Prelude.{ℕ, ◌==◌, Bool, true, false, not, nat_le, nat_lt, if◌then◌else◌, List, [], ◌∷◌, map, filter, drop, Option, Some, None, option_and_then, option_map, Result, Ok, Err, codes}
+use Rattle.std.specs.Prelude.{ℕ, ◌==◌, ◌&&◌, ◌||◌, Bool, true, false, not, nat_le, nat_lt, if◌then◌else◌, List, [], ◌∷◌, map, filter, drop, Option, Some, None, option_and_then, option_map, Result, Ok, Err, codes}
 use Rattle.std.specs.List.{count_by, list_any}
+use Rattle.std.specs.Option.{option_map_or}
 use Rattle.blog_event.specs.declared.fault.Fault.{Fault}
 use Rattle.blog_event.specs.declared.fault.Fault.TheVariants.{OutOfPlace, UnknownEvent}
 use Rattle.blog_event.specs.Event.{Event, event_at}
@@ -43,13 +44,34 @@ words_of (UnknownEvent pos) number = event_words number
 words_of (OutOfPlace pos) number = if number == 15 then Some (codes "a relay log") else event_words number
 words_of _ number = None
 
+-- an event is a damaged one that was passed over
+abbrev pub is_damaged : Event → Bool
+is_damaged e = e.kind == 255
+
+-- what a damaged event was, by its type, which is in the flags: QUERY_EVENT; XID_EVENT; TABLE_MAP_EVENT; the GTID events; rows events
+abbrev pub damaged_words : ℕ → Option (List ℕ)
+damaged_words number =
+    if number == 2 then Some (codes "a query") else
+    if number == 16 then Some (codes "the end of a transaction") else
+    if number == 19 then Some (codes "a table map") else
+    if number == 33 || (number == 34 || number == 42) then Some (codes "a GTID") else
+    if (nat_le 23 number && nat_le number 25) || ((nat_le 30 number && nat_le number 32) || number == 39) then Some (codes "rows") else None
+
+-- the name of a fault, of an event if there is one there
+abbrev pub shown_name : Fault → Option Event → List ℕ
+shown_name fault event = if option_map_or is_damaged event false then codes "Damaged" else name_of fault
+
+-- what the event of a fault is, where it is known
+abbrev pub shown_words : Fault → Event → Option (List ℕ)
+shown_words fault e = if is_damaged e then damaged_words e.flags else words_of fault e.kind
+
 -- why a unit is refused that stops here, by its fault, with positions at their places
 abbrev pub refusal_of : List ℕ → (ℕ → ℕ) → ℕ → Fault → Refusal
 refusal_of log place stop fault = record {
-  name = name_of fault;
+  name = shown_name fault (event_of_fault log stop fault);
   pos = option_map place (position_of fault);
   statement = option_and_then text_of_query (event_of_fault log stop fault);
-  event = option_and_then (λ e. words_of fault e.kind) (event_of_fault log stop fault);
+  event = option_and_then (shown_words fault) (event_of_fault log stop fault);
 }
 
 abbrev pub changes_shown : List ℕ → (ℕ → ℕ) → ℕ → Result (List TableCount) Fault → Result (List TableCount) Refusal

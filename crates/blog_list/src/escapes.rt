@@ -2,11 +2,11 @@
 
 ghost use Rattle.std.specs.Prelude.{◌≡◌, ◌≤◌, ◌++◌, ◌∷◌, [], OnOk, true, false, encode_utf8, length};
 ghost use Rattle.std.specs.List.{flat_map};
-ghost use Rattle.blog_list.specs.Escapes.{beginning, byte_escape, char_columns, char_shown, columns_of, escaped, marks, quoted, quoted_mark, quoted_table, shown};
+ghost use Rattle.blog_list.specs.Escapes.{beginning, byte_escape, char_columns, char_shown, columns_of, escaped, is_layout, layout_escape, marks, quoted, quoted_mark, quoted_table, shown};
 ghost use Rattle.blog_list.specs.code.Plain.{is_plain, plain_len};
 
 use crate::marks::{Mark, Marks};
-use crate::texts::{put_byte, put_text};
+use crate::texts::{put_byte, put_hex, put_text};
 use std::alloc::{AllocError, Allocator};
 use unicode_width::UnicodeWidthChar;
 
@@ -48,6 +48,24 @@ fn put_escapes<A: Allocator>(out: &mut Vec<u8, A>, bytes: &[u8]) -> Result<(), A
     Ok(())
 }
 
+/// Returns whether a character hides, joins or turns what stands beside it.
+fn is_layout(c: char) -> bool
+    ensures { result ≡ is_layout c }
+{
+    matches!(c, '\u{61C}' | '\u{200B}'..='\u{200F}' | '\u{2028}'..='\u{202E}' | '\u{2060}'..='\u{2069}' | '\u{FEFF}')
+}
+
+/// Appends such a character as `\u{202e}`.
+fn put_layout<A: Allocator>(out: &mut Vec<u8, A>, c: char) -> Result<(), AllocError>
+    requires { is_layout c ≡ true }
+    ensures { OnOk result (out.new.items ≡ out.old.items ++ layout_escape c) }
+{
+    let number = u32::from(c);
+    put_text(out, b"\\u{")?;
+    put_hex(out, &[(number / 256) as u8, (number % 256) as u8])?;
+    put_text(out, b"}")
+}
+
 /// Appends a character, escaped.
 fn put_char<A: Allocator>(out: &mut Vec<u8, A>, c: char) -> Result<(), AllocError>
     ensures { OnOk result (out.new.items ≡ out.old.items ++ char_shown c) }
@@ -58,6 +76,7 @@ fn put_char<A: Allocator>(out: &mut Vec<u8, A>, c: char) -> Result<(), AllocErro
         '\t' => put_text(out, b"\\t"),
         '\r' => put_text(out, b"\\r"),
         _ if c.is_control() => put_escapes(out, c.encode_utf8(&mut [0; 4]).as_bytes()),
+        _ if is_layout(c) => put_layout(out, c),
         _ => put_text(out, c.encode_utf8(&mut [0; 4]).as_bytes()),
     }
 }
@@ -130,6 +149,7 @@ fn char_columns(c: char) -> usize
         '\t' => 2,
         '\r' => 2,
         _ if c.is_control() => 4 * c.len_utf8(),
+        _ if is_layout(c) => 8,
         _ => c.width().unwrap_or(0),
     }
 }
@@ -144,21 +164,25 @@ fn columns_of(mark: Mark) -> usize
     }
 }
 
-/// Appends the beginning of a text, escaped, in at most so many columns of a terminal. Two points follow where that isn't all.
+/// Appends the beginning of a text, escaped, in at most this many columns of a terminal and characters. Two points follow if
+/// that isn't all.
 pub(crate) fn put_beginning<A: Allocator>(
     out: &mut Vec<u8, A>,
     text: &[u8],
     columns: usize,
+    characters: usize,
 ) -> Result<(), AllocError>
-    ensures { OnOk result (out.new.items ≡ out.old.items ++ beginning columns (marks text.now)) }
+    ensures { OnOk result (out.new.items ≡ out.old.items ++ beginning columns characters (marks text.now)) }
 {
     let mut left = columns;
+    let mut more = characters;
     for mark in Marks::new(text) {
         let width = columns_of(mark);
-        if width > left {
+        if width > left || more == 0 {
             return put_text(out, b"..");
         }
         left -= width;
+        more -= 1;
         put_mark(out, mark)?;
     }
     Ok(())

@@ -9,8 +9,8 @@ ghost use Rattle.blog_units.specs.code.UnitsView.{id_told};
 ghost use Rattle.blog_list.specs.code.Json.{PutsJsonTime, json_count, json_counts, json_damaged, json_gtid, json_id, json_name, json_tables, json_thread, json_totals};
 
 use crate::beginning::Beginning;
-use crate::fault_events::{statement_of, words_of};
-use crate::json_text::{put_lossy, put_str, put_string};
+use crate::fault_events::{name_in, statement_of, words_of};
+use crate::json_text::{put_lossy, put_str, put_string, put_visible};
 use crate::lines::put_id;
 use crate::texts::put_text;
 use crate::times::rfc_3339_text;
@@ -24,6 +24,9 @@ use std::alloc::{AllocError, Allocator, Global};
 
 /// How many columns of a statement's text are printed.
 const TEXT_COLUMNS: usize = 1000;
+
+/// The most characters of it: many of them can be in no column.
+const TEXT_CHARACTERS: usize = 4000;
 
 /// Appends the line of a unit, with positions of the server's log, and with the log's name, if there is one.
 pub(crate) fn put_unit<A: Allocator + Copy, B: Allocator>(
@@ -204,19 +207,23 @@ fn put_refusal<A: Allocator, B: Allocator>(
     stop: u32,
 ) -> Result<(), AllocError> {
     put_text(out, b",\"fault\":")?;
-    put_str(out, fault.name())?;
+    put_visible(out, name_in(log, fault, stop))?;
     if let Some(position) = source.at_place(fault).at() {
         put_numbered(out, b",\"position\":", u64::from(position))?;
     }
     if let Some(text) = statement_of(log, fault, stop) {
-        let columns = TEXT_COLUMNS;
-        let shown = format!(in global; "{}", Beginning { text, columns })?;
+        let beginning = Beginning {
+            text,
+            columns: TEXT_COLUMNS,
+            characters: TEXT_CHARACTERS,
+        };
+        let shown = format!(in global; "{beginning}")?;
         put_text(out, b",\"statement\":")?;
-        put_str(out, shown.as_str())?;
+        put_visible(out, shown.as_str())?;
     }
     if let Some(words) = words_of(log, fault, stop) {
         put_text(out, b",\"event\":")?;
-        put_str(out, words)?;
+        put_visible(out, words)?;
     }
     Ok(())
 }

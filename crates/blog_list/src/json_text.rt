@@ -1,9 +1,10 @@
 //! Texts as strings of JSON (RFC 8259), with the shortest escape for each character that needs one.
 
-ghost use Rattle.std.specs.Prelude.{◌≡◌, ◌≤◌, ◌++◌, OnOk, length, map, true};
-ghost use Rattle.std.specs.List.{flat_map, prefix_len};
+ghost use Rattle.std.specs.Prelude.{◌≡◌, ◌≤◌, ◌++◌, OnOk, false, length, map, true};
+ghost use Rattle.std.specs.List.{flat_map, list_any, prefix_len};
+ghost use Rattle.bstr.specs.Utf8.{lossy_chars};
 ghost use Rattle.std.specs.Simd.Lanes.{mask_l};
-ghost use Rattle.blog_list.specs.code.Json.{is_escaped, is_literal, json_byte, json_char, json_control, json_string};
+ghost use Rattle.blog_list.specs.code.Json.{is_escaped, is_high_control, is_literal, json_byte, json_char, json_control, json_string};
 
 use crate::texts::{put_byte, put_text};
 use bstr::ByteSlice;
@@ -84,10 +85,27 @@ fn put_escape<A: Allocator>(out: &mut Vec<u8, A>, byte: u8) -> Result<(), AllocE
     put_text(out, &[b'\\', letter])
 }
 
+/// Returns whether a character is one of the control characters that JSON allows in a string.
+fn is_high_control(c: char) -> bool
+    ensures { result ≡ is_high_control c }
+{
+    c >= '\u{7F}' && c <= '\u{9F}'
+}
+
+/// Returns whether a text has one of these.
+fn has_high_control(text: &[u8]) -> bool
+    ensures { result ≡ list_any is_high_control (lossy_chars text.now) }
+{
+    text.chars().any(|c| is_high_control(c))
+}
+
 /// Appends a character of a string.
 fn put_char<A: Allocator>(out: &mut Vec<u8, A>, c: char) -> Result<(), AllocError>
     ensures { OnOk result (out.new.items ≡ out.old.items ++ json_char c) }
 {
+    if is_high_control(c) {
+        return put_control(out, c as u8);
+    }
     if !c.is_ascii() {
         return put_text(out, c.encode_utf8(&mut [0; 4]).as_bytes());
     }
@@ -117,13 +135,24 @@ fn put_escaped<A: Allocator>(out: &mut Vec<u8, A>, text: &[u8]) -> Result<(), Al
     Ok(())
 }
 
-/// Appends a text as a string.
-pub(crate) fn put_str<A: Allocator>(out: &mut Vec<u8, A>, text: &str) -> Result<(), AllocError>
-    ensures { OnOk result (out.new.items ≡ out.old.items ++ json_string text.now) }
+/// Appends a text as a string, in which no control character is from U+007F on.
+pub(crate) fn put_visible<A: Allocator>(out: &mut Vec<u8, A>, text: &str) -> Result<(), AllocError>
+    ensures { list_any is_high_control (lossy_chars text.now) ≡ false → OnOk result (out.new.items ≡ out.old.items ++ json_string text.now) }
 {
     put_text(out, b"\"")?;
     put_escaped(out, text.as_bytes())?;
     put_text(out, b"\"")
+}
+
+/// Appends a text as a string.
+pub(crate) fn put_str<A: Allocator>(out: &mut Vec<u8, A>, text: &str) -> Result<(), AllocError>
+    ensures { OnOk result (out.new.items ≡ out.old.items ++ json_string text.now) }
+{
+    if has_high_control(text.as_bytes()) {
+        put_lossy(out, text.as_bytes())
+    } else {
+        put_visible(out, text)
+    }
 }
 
 /// Appends bytes as a string, with U+FFFD for what is no character.

@@ -8,9 +8,9 @@ ghost use Rattle.blog_list.specs.Laws.{all_columns};
 ghost use Rattle.blog_list.specs.Lines.{LogList, header, totals_lines};
 ghost use Rattle.blog_list.specs.Texts.{AreLogTexts, IsListText, IsLogText};
 
-/// A text that fits in the columns is printed whole, escaped. The call does nothing.
+/// A text that fits in the columns, and has no more than this many characters, is printed whole, escaped. The call does nothing.
 pub fn short_texts_are_whole()
-    ensures { (columns : ℕ) (text : List ℕ) → all_columns (marks text) ≤ columns → beginning columns (marks text) ≡ escaped text }
+    ensures { (columns characters : ℕ) (text : List ℕ) → all_columns (marks text) ≤ columns → length (marks text) ≤ characters → beginning columns characters (marks text) ≡ escaped text }
 {}
 
 /// The parts that a `ListWriter` writes of logs are a list of them: the header, what is listed of each log in turn, and the

@@ -2,7 +2,6 @@
 
 ghost use Rattle.std.specs.Prelude.{◌≡◌, ◌++◌, ◌≤◌, ◌-◌, OnOk, codes, option_copied, option_map, string_bytes};
 ghost use Rattle.std.specs.Fmt.{decimal};
-ghost use Rattle.blog_event.specs.Fault.{name_of, position_of as fault_position};
 ghost use Rattle.blog_event.specs.code.LogView.{log_bytes};
 ghost use Rattle.blog_trans.specs.Changes.{counts_of};
 ghost use Rattle.blog_trans.specs.Groups.{groups};
@@ -15,7 +14,7 @@ ghost use Rattle.blog_request.specs.Wanted.{changes_told};
 
 use crate::column::TimeColumn;
 use crate::escapes::{put_beginning, put_escaped, put_table};
-use crate::fault_events::{statement_of, words_of};
+use crate::fault_events::{name_in, statement_of, words_of};
 use crate::texts::{put_number, put_padded, put_server, put_text};
 use blog_event::{Fault, Log};
 use blog_source::Source;
@@ -25,6 +24,9 @@ use std::alloc::{AllocError, Allocator};
 
 /// How many columns of a statement's text are printed.
 const TEXT_COLUMNS: usize = 60;
+
+/// The most characters of it: many of them can be in no column.
+const TEXT_CHARACTERS: usize = 240;
 
 /// Appends the line above all others, with a heading of global transaction ids or without.
 #[tactic(auto, unfolding(crate::specs::Lines::header))]
@@ -203,10 +205,10 @@ fn put_refusal<A: Allocator>(
 ) -> Result<(), AllocError>
     ensures { OnOk result (out.new.items ≡ out.old.items ++ refusal_text (refusal_of (log_bytes log.now) (source_place source.now) stop fault.now)) }
 {
-    put_fault(out, &source.at_place(fault))?;
+    put_fault(out, name_in(log, fault, stop), source.at_place(fault).at())?;
     if let Some(text) = statement_of(log, fault, stop) {
         put_text(out, b": ")?;
-        put_beginning(out, text, TEXT_COLUMNS)?;
+        put_beginning(out, text, TEXT_COLUMNS, TEXT_CHARACTERS)?;
     }
     if let Some(words) = words_of(log, fault, stop) {
         put_text(out, b": ")?;
@@ -215,13 +217,17 @@ fn put_refusal<A: Allocator>(
     Ok(())
 }
 
-/// Appends a fault.
+/// Appends the name of a fault, and its position, if it has one.
 #[tactic(auto, unfolding(crate::specs::Lines::fault_text))]
-fn put_fault<A: Allocator>(out: &mut Vec<u8, A>, fault: &Fault) -> Result<(), AllocError>
-    ensures { OnOk result (out.new.items ≡ out.old.items ++ fault_text (name_of fault.now) (fault_position fault.now)) }
+fn put_fault<A: Allocator>(
+    out: &mut Vec<u8, A>,
+    name: &str,
+    position: Option<u32>,
+) -> Result<(), AllocError>
+    ensures { OnOk result (out.new.items ≡ out.old.items ++ fault_text name.now position) }
 {
-    put_text(out, fault.name().as_bytes())?;
-    match fault.at() {
+    put_text(out, name.as_bytes())?;
+    match position {
         Some(pos) => {
             put_text(out, b" at ")?;
             put_number(out, u64::from(pos))

@@ -28,6 +28,7 @@ use crate::listing::{Form, Style};
 use crate::places::wanted_inside;
 use crate::totals::Totals;
 use crate::{json, lines, totals};
+use blog_choice::ChosenNames;
 use blog_device::{RunFault, Watched, put, put_part};
 use blog_event::{Fault, Log};
 use blog_request::{Concern, Wanted, is_before};
@@ -175,6 +176,7 @@ impl<'z, A: Allocator + Copy> ListWriter<'z, A> {
     {
         self.put_name(text, name)?;
         totals.add_damaged(source.damaged());
+        let names = ChosenNames::new(self.alloc, &wanted.choice)?;
         let mut whole = true;
         for unit in Units::new(self.alloc, log) {
             if !is_before(unit.start, wanted.stop) {
@@ -184,7 +186,7 @@ impl<'z, A: Allocator + Copy> ListWriter<'z, A> {
                 return Err(RunFault::Log(Fault::OutOfMemory));
             }
             whole = unit.whole;
-            let concern = wanted.concern(log, &unit);
+            let concern = wanted.concern(&names, log, &unit);
             totals.count(concern, &unit);
             if is_listed(concern) {
                 self.put_unit(text, source, log, name, &unit)?;

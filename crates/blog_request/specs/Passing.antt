@@ -1,6 +1,6 @@
 -- Which units a choice of tables passes over: statements that name none of the chosen tables.
-use Rattle.std.specs.Prelude.{ℕ, ◌+◌, Bool, true, false, not, ◌&&◌, List, length, take, drop, Some, slice_index}
-use Rattle.std.specs.List.{list_any, list_all}
+use Rattle.std.specs.Prelude.{ℕ, ◌+◌, ◌%◌, ◌==◌, Bool, true, false, not, ◌&&◌, ◌||◌, nat_le, List, length, take, drop, Some, slice_index}
+use Rattle.std.specs.List.{list_any, list_all, range_with_len}
 use Rattle.std.specs.Option.{option_map_or}
 use Rattle.byteorder.specs.Endian.{little_number}
 use Rattle.blog_event.specs.Event.{Event}
@@ -16,9 +16,29 @@ use Rattle.blog_choice.specs.Naming.{names_chosen}
 unfoldable pub query_schema : List ℕ → List ℕ
 query_schema body = take (slice_index body 8) (drop (13 + little_number 2 (drop 11 body)) body)
 
+-- its status variables: as many bytes as two bytes say
+abbrev pub query_status : List ℕ → List ℕ
+query_status body = take (little_number 2 (drop 11 body)) (drop 13 body)
+
+-- the numbers of the collations of armscii8, sjis and ujis, which in MariaDB there are again from 1,024 on: in these character
+-- sets some characters of ASCII have two spellings
+abbrev pub is_twin_set : ℕ → Bool
+is_twin_set number =
+    let n = number % 1024 in
+    n == 32 || (n == 64 || (n == 13 || (n == 88 || (n == 12 || n == 91))))
+
+-- at a place of the status variables there is a 4, which says that the client's character set follows, and such a number
+abbrev pub is_twin_at : List ℕ → ℕ → Bool
+is_twin_at status place = slice_index status place == 4 && (nat_le (place + 3) (length status) && is_twin_set (little_number 2 (drop (place + 1) status)))
+
+-- The client of a query may have such a character set: also where the bytes at that place are another variable's
+-- (MySQL Internals manual, "Query_event", Q_CHARSET_CODE).
+unfoldable pub may_have_twins : List ℕ → Bool
+may_have_twins body = list_any (is_twin_at (query_status body)) (range_with_len 0 (length (query_status body)))
+
 -- a statement names a chosen table; one that can't be read does
 abbrev pub names_table : Choice → Bool → Event → Bool
-names_table choice inside e = option_map_or (λ text. names_chosen choice (query_schema e.body) text inside) (query_text e.body) true
+names_table choice inside e = option_map_or (λ text. names_chosen choice (query_schema e.body) text inside (may_have_twins e.body)) (query_text e.body) true
 
 -- what begins or ends a transaction, a savepoint, and what may be ignored
 abbrev pub is_bare : EventKind → Bool

@@ -6,11 +6,12 @@ ghost use Rattle.blog_trans.specs.Changes.{counts_of};
 ghost use Rattle.blog_trans.specs.Groups.{groups};
 ghost use Rattle.blog_trans.specs.code.IndexView.{index_bytes, index_selection, table_counted};
 ghost use Rattle.blog_units.specs.code.UnitsView.{facts_told};
+ghost use Rattle.blog_choice.specs.code.ChosenView.{names_choice};
 ghost use Rattle.blog_choice.specs.code.Views.{choice_value};
 ghost use Rattle.blog_request.specs.Wanted.{by_tables, changes_told, concern_of, has_chosen, is_before, is_from, is_in_range, is_of_threads, is_wanted, is_wanted_unit};
 
 use crate::passing::is_passed_over;
-use blog_choice::TableChoice;
+use blog_choice::{ChosenNames, TableChoice};
 use blog_event::{Fault, Log};
 use blog_trans::Index;
 use blog_units::Unit;
@@ -27,7 +28,7 @@ pub struct Wanted<'w> {
     pub from_time: Option<u32>,
     /// Those before this time, in seconds since 1970 in UTC.
     pub to_time: Option<u32>,
-    /// Those of these threads of the server, by the `BEGIN` event; of any thread if there are none.
+    /// Those of these threads of the server, by the first Query event; of any thread if there are none.
     pub threads: &'w [u32],
     /// Those that change a chosen table. Those that can't be undone are wanted too, since which tables they change isn't
     /// known, but for statements that name none of the chosen tables.
@@ -46,18 +47,30 @@ pub enum Concern {
 }
 
 impl Wanted<'_> {
-    /// Returns whether a unit of a log is wanted, and not passed over.
-    pub fn has<A: Allocator>(&self, log: &Log<'_>, unit: &Unit<'_, A>) -> bool
+    /// Returns whether a unit of a log is wanted, and not passed over. `names` are the names of `choice`.
+    pub fn has<A: Allocator + Copy, B: Allocator>(
+        &self,
+        names: &ChosenNames<'_, A>,
+        log: &Log<'_>,
+        unit: &Unit<'_, B>,
+    ) -> bool
+        requires { names_choice names.now ≡ choice_value self.now.choice }
         ensures { result ≡ is_wanted_unit self.now (log_bytes log.now) (facts_told unit.now) (changes_told unit.now.groups) }
     {
-        match self.concern(log, unit) {
+        match self.concern(names, log, unit) {
             Concern::Wanted => true,
             Concern::PassedOver | Concern::Other => false,
         }
     }
 
-    /// Returns whether a unit of a log is wanted, or passed over.
-    pub fn concern<A: Allocator>(&self, log: &Log<'_>, unit: &Unit<'_, A>) -> Concern
+    /// Returns whether a unit of a log is wanted, or passed over. `names` are the names of `choice`.
+    pub fn concern<A: Allocator + Copy, B: Allocator>(
+        &self,
+        names: &ChosenNames<'_, A>,
+        log: &Log<'_>,
+        unit: &Unit<'_, B>,
+    ) -> Concern
+        requires { names_choice names.now ≡ choice_value self.now.choice }
         ensures { result ≡ concern_of self.now (log_bytes log.now) (facts_told unit.now) (changes_told unit.now.groups) }
     {
         if !self.has_in_range(unit) {
@@ -65,7 +78,7 @@ impl Wanted<'_> {
         } else if self.choice.is_all() {
             Concern::Wanted
         } else {
-            by_tables(&self.choice, log, unit)
+            by_tables(names, log, unit)
         }
     }
 
@@ -82,13 +95,17 @@ impl Wanted<'_> {
 }
 
 /// Whether a unit is wanted, by its tables.
-fn by_tables<A: Allocator>(choice: &TableChoice<'_>, log: &Log<'_>, unit: &Unit<'_, A>) -> Concern
-    ensures { result ≡ by_tables (choice_value choice.now) (log_bytes log.now) (facts_told unit.now) (changes_told unit.now.groups) }
+fn by_tables<A: Allocator + Copy, B: Allocator>(
+    names: &ChosenNames<'_, A>,
+    log: &Log<'_>,
+    unit: &Unit<'_, B>,
+) -> Concern
+    ensures { result ≡ by_tables (names_choice names.now) (log_bytes log.now) (facts_told unit.now) (changes_told unit.now.groups) }
 {
     match &unit.groups {
-        Ok(groups) if changes_chosen(choice, groups) => Concern::Wanted,
+        Ok(groups) if changes_chosen(&names.choice(), groups) => Concern::Wanted,
         Ok(_) => Concern::Other,
-        Err(Fault::Statement { .. }) if is_passed_over(choice, log, unit.start, unit.stop) =>
+        Err(Fault::Statement { .. }) if is_passed_over(names, log, unit.start, unit.stop) =>
             Concern::PassedOver,
         Err(_) => Concern::Wanted,
     }

@@ -16,12 +16,12 @@ use Rattle.blog_sum.proofs.Formats.{described-long, plain-described, plain-none}
 use Rattle.blog_sum.proofs.Summed.{format-accepted, format-event, summed-algorithm}
 use Rattle.blog_sum.proofs.Texts.{format-size}
 use Rattle.blog_source.specs.declared.reading.Reading.{Reading}
-use Rattle.blog_source.specs.Found.{begins_right, check_of, found, found_with, is_wrong_sum, source_refusal}
+use Rattle.blog_source.specs.Found.{as_damaged, begins_right, check_of, found, found_with, is_wrong_sum, source_refusal}
 use Rattle.blog_source.specs.Handed.{bare, handed, handed_events, handed_format, handed_log, is_tagged, known}
 use Rattle.blog_source.proofs.Accepted.{IsAccepted, is-accepted, is-read, later_of}
 use Rattle.blog_gtid.proofs.Lengths.{gtid_fits}
 use Rattle.blog_source.proofs.LogText.{IsText, text-long, text-opens, text-read, text-stands}
-use Rattle.blog_source.proofs.Moving.{has-room}
+use Rattle.blog_source.proofs.Moving.{has-room, wrong-has-room}
 
 -- ---- the events behind the format description
 
@@ -64,6 +64,17 @@ known-event sums pos e short event room = by_case (is_tagged (bare sums e)) refl
         )
     by_case false is = rw is (bare-event sums pos e short event room)
 
+-- a damaged event
+damaged-event : (e : Event) → IsEvent e → IsEvent (record e { kind = 255; flags = e.kind })
+damaged-event e event = record {
+  timestamp = event.timestamp;
+  kind = omega arith;
+  server_id = event.server_id;
+  size = event.size;
+  log_pos = event.log_pos;
+  flags = let kind = event.kind in omega arith;
+}
+
 -- events are handed out from a position on, and end no later than another
 abbrev pub Fit : ℕ → ℕ → List Event → Type 0
 Fit pos end es = AllByRecursion IsEvent es × (end_of pos es ≤ end)
@@ -73,7 +84,7 @@ handed-fit : (how : Reading) (sums : Bool) (len pos at : ℕ) (es : List Event) 
     → Fit pos (end_of at es) (flat_map (handed sums) (found how sums len at (placed_from at es)).kept)
 handed-fit how sums len pos at [] before events short = (tt, before)
 handed-fit how sums len pos at (e ∷ es) before events short =
-    by_check (check_of sums p) passed refl (handed-fit how sums len (pos + event_size (known (bare sums e))) (at + event_size e) es) (handed-fit how sums len pos (at + event_size e) es (omega arith) events.1 short)
+    by_check (check_of sums p) passed refl refl (λ (next : ℕ) (fits : next ≤ at + event_size e). handed-fit how sums len next (at + event_size e) es fits events.1 short)
   where
     p : Placed
     p = record { pos = at; event = e }
@@ -81,20 +92,28 @@ handed-fit how sums len pos at (e ∷ es) before events short =
     passed : Bool
     passed = how.skip_damaged && (is_wrong_sum (check_of sums p) && begins_right (placed_from (at + event_size e) es))
 
-    by_check : (check : Option SumFault) (passed : Bool) → check_of sums p ≡ check
-        → (pos + event_size (known (bare sums e)) ≤ at + event_size e → AllByRecursion IsEvent es → end_of (at + event_size e) es < 2 ^ 32
-        → Fit (pos + event_size (known (bare sums e))) (end_of (at + event_size e) es) (flat_map (handed sums) (found how sums len (at + event_size e) (placed_from (at + event_size e) es)).kept))
-        → Fit pos (end_of (at + event_size e) es) (flat_map (handed sums) (found how sums len (at + event_size e) (placed_from (at + event_size e) es)).kept)
+    by_check : (check : Option SumFault) (b : Bool) → check_of sums p ≡ check → passed ≡ b
+        → ((next : ℕ) → next ≤ at + event_size e
+        → Fit next (end_of (at + event_size e) es) (flat_map (handed sums) (found how sums len (at + event_size e) (placed_from (at + event_size e) es)).kept))
         → Fit pos (end_of (at + event_size e) es)
-        (flat_map (handed sums) (found_with check passed p (found how sums len (at + event_size e) (placed_from (at + event_size e) es))).kept)
-    by_check None passed fine kept skipped =
+        (flat_map (handed sums) (found_with check b p (found how sums len (at + event_size e) (placed_from (at + event_size e) es))).kept)
+    by_check None b fine tested later =
         let past = end-past (at + event_size e) es in
         let own = known-event sums at e (omega arith) events.0 (has-room sums p fine) in
         let size = own.1 in
-        let later = kept (omega arith) events.1 short in
-        ((own.0, later.0), later.1)
-    by_check (Some fault) true fails kept skipped = skipped
-    by_check (Some fault) false fails kept skipped = let past = end-past (at + event_size e) es in (tt, omega arith)
+        let rest = later (pos + event_size (known (bare sums e))) (omega arith) in
+        ((own.0, rest.0), rest.1)
+    by_check (Some fault) true fails tested later =
+        let d : Event = (as_damaged p).event in
+        let both = and_parts how.skip_damaged (is_wrong_sum (check_of sums p) && begins_right (placed_from (at + event_size e) es)) tested in
+        let wrong : is_wrong_sum (Some fault) ≡ true =
+        ap is_wrong_sum (sym fails) ∙ (and_parts (is_wrong_sum (check_of sums p)) (begins_right (placed_from (at + event_size e) es)) both.1).0 in
+        let past = end-past (at + event_size e) es in
+        let own = known-event sums at d (omega arith) (damaged-event e events.0) (wrong-has-room sums p fault fails wrong) in
+        let size = own.1 in
+        let rest = later (pos + event_size (known (bare sums d))) (omega arith) in
+        ((own.0, rest.0), rest.1)
+    by_check (Some fault) false fails tested later = let past = end-past (at + event_size e) es in (tt, omega arith)
 
 -- ---- the format description
 

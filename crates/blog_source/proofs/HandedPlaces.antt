@@ -1,5 +1,5 @@
 -- The places of the events that are handed out, and the positions of these places.
-use Rattle.std.proofs.Common.{◌≡◌, ℕ, ◌+◌, ◌≤◌, false, List, [], ◌∷◌, ◌++◌, length, take, drop, Some, None, refl, sym, subst, ap, ◌∙◌, arith, append_assoc, length-append}
+use Rattle.std.proofs.Common.{◌≡◌, ℕ, ◌+◌, ◌≤◌, false, List, [], ◌∷◌, ◌++◌, length, take, drop, Some, None, refl, sym, subst, ap, ◌∙◌, arith, append_assoc, inl, inr, length-append}
 use Rattle.std.specs.Prelude.{map, nat_lt}
 use Rattle.std.specs.List.{flat_map, AllByRecursion}
 use Rattle.std.proofs.lemmas.Bool.Decides.{nat_tests}
@@ -13,7 +13,7 @@ use Rattle.blog_source.specs.declared.reading.Reading.{Reading}
 use Rattle.blog_source.specs.Found.{Found, found, found_of, source_refusal}
 use Rattle.blog_source.specs.Handed.{handed, handed_format, handed_log}
 use Rattle.blog_source.specs.Places.{first_of, place_of, position_of}
-use Rattle.blog_source.specs.Laws.{HandedOut, handed_from, handed_out, placed_of}
+use Rattle.blog_source.specs.Laws.{HandedOut, StandsIn, handed_from, handed_out, placed_of}
 use Rattle.blog_source.proofs.Accepted.{IsAccepted, is-accepted, is-read, later_of}
 use Rattle.blog_source.proofs.HandedLog.{IsHanded, is-handed, handed-stands, handed-text}
 use Rattle.blog_source.proofs.LogText.{text-marked, text-read}
@@ -77,7 +77,7 @@ handed_are how bytes are fine =
 -- ---- the events of the server's log for which they stand
 
 pub handed_sources : (how : Reading) (bytes : List ℕ) → AreBytes bytes → source_refusal bytes ≡ None
-    → AllByRecursion (λ h. event_at (drop h.source.pos bytes) ≡ Some h.source.event) (handed_out how bytes)
+    → AllByRecursion (λ h. StandsIn bytes h.source) (handed_out how bytes)
 unfolding kept_of
 handed_sources how bytes are fine =
     let log : IsAccepted bytes = is-accepted bytes fine in
@@ -86,8 +86,9 @@ handed_sources how bytes are fine =
     let es : List Event = later_of bytes how.stop log in
     let P : Placed → Type 0 = λ p. event_at (drop p.pos bytes) ≡ Some p.event in
     let stand : AllByRecursion P (placed_from 4 (log.format ∷ es)) = events-stand bytes magic reads.begins.0 4 (log.format ∷ es) reads.begins.1 refl reads.events in
-    subst (λ (hs : List HandedOut). AllByRecursion (λ h. P h.source) hs) (sym (out-is how bytes log))
-    (from-each P (has_sums bytes) at (kept_of how bytes log) (kept-all P how (has_sums bytes) (length bytes) at (placed_from at es) stand.1))
+    subst (λ (hs : List HandedOut). AllByRecursion (λ h. StandsIn bytes h.source) hs) (sym (out-is how bytes log))
+    (from-each (StandsIn bytes) (has_sums bytes) at (kept_of how bytes log)
+    (kept-all P (StandsIn bytes) how (has_sums bytes) (length bytes) at (placed_from at es) (λ p stands. inl stands) (λ p stands. inr (p.event, stands, refl)) stand.1))
 
 -- ---- the place of an event
 

@@ -10,7 +10,8 @@ use Rattle.blog_sum.specs.declared.fault.SumFault.{SumFault}
 use Rattle.blog_sum.specs.declared.fault.SumFault.TheVariants.{Log, WrongSum}
 use Rattle.blog_sum.specs.Sums.{ends_in_its_sum, unless}
 use Rattle.blog_sum.proofs.Summed.{none-first}
-use Rattle.blog_source.specs.Found.{check_of}
+use Rattle.blog_event.specs.Fault.{first_failing}
+use Rattle.blog_source.specs.Found.{check_of, is_wrong_sum}
 use Rattle.blog_event.specs.declared.event.Header.{Header}
 use Rattle.byteorder.specs.Endian.{little_number}
 use Rattle.blog_event.specs.Event.{Event, event_at, event_size, event_text}
@@ -20,7 +21,7 @@ use Rattle.blog_source.specs.declared.form.Form.{Form}
 use Rattle.blog_source.specs.declared.form.Form.TheVariants.{Places, Plain}
 use Rattle.blog_source.specs.Handed.{bare, is_tagged}
 use Rattle.blog_event.specs.Writing.{header_text}
-use Rattle.blog_source.specs.code.Walk.{IsHeaderOf, formed, moved, moved_bare, moved_size, pos_as, put_text}
+use Rattle.blog_source.specs.code.Walk.{IsHeaderOf, damaged_header, formed, moved, moved_bare, moved_size, pos_as, put_text}
 use borrow.Rule.Slice.PartMut.{put_mid}
 use lib.Seq.{paste}
 
@@ -167,7 +168,7 @@ moved-body true bytes at size e found is room =
 moved-body false bytes at size e found is room = body-is bytes at e found ∙ ap (λ (size : ℕ). take (size - 19) (drop (at + 19) bytes)) (sym is)
 
 -- it is the event that is moved, without a log_pos
-bare-is : (sums : Bool) (bytes : List ℕ) (at : ℕ) (h : Header) (e : Event) → event_at (drop at bytes) ≡ Some e → IsHeaderOf e h
+pub bare-is : (sums : Bool) (bytes : List ℕ) (at : ℕ) (h : Header) (e : Event) → event_at (drop at bytes) ≡ Some e → IsHeaderOf e h
     → (sums ≡ true → 23 ≤ h.size) → record (bare sums e) { log_pos = 0 } ≡ moved_bare sums at h bytes
 bare-is true bytes at h e found is room =
     let body = moved-body true bytes at h.size e found is.size room in
@@ -187,15 +188,24 @@ placed-same form at to e = by_case (is_tagged e) refl
     by_case true is = rw is refl
     by_case false is = rw is refl
 
+-- the same of a damaged event
+pub damaged-is : (sums : Bool) (bytes : List ℕ) (at : ℕ) (h : Header) (e : Event) → event_at (drop at bytes) ≡ Some e → IsHeaderOf e h
+    → (sums ≡ true → 23 ≤ h.size) → record (bare sums (record e { kind = 255; flags = e.kind })) { log_pos = 0 } ≡ moved_bare sums at (damaged_header h) bytes
+damaged-is true bytes at h e found is room =
+    let body = moved-body true bytes at h.size e found is.size room in
+    λ i. record { timestamp = sym is.timestamp i; kind = 255; server_id = sym is.server_id i; log_pos = 0; flags = sym is.kind i; body = body i }
+damaged-is false bytes at h e found is room =
+    let body = moved-body false bytes at h.size e found is.size room in
+    λ i. record { timestamp = sym is.timestamp i; kind = 255; server_id = sym is.server_id i; log_pos = 0; flags = sym is.kind i; body = body i }
+
 -- what is put for it, and for those behind it
-pub kept-text : (form : Form) (sums : Bool) (bytes : List ℕ) (at to : ℕ) (h : Header) (e : Event) (ps : List Placed) → event_at (drop at bytes) ≡ Some e → IsHeaderOf e h
-    → (sums ≡ true → 23 ≤ h.size)
+pub kept-text : (form : Form) (sums : Bool) (bytes : List ℕ) (at to : ℕ) (h : Header) (e : Event) (ps : List Placed) → record (bare sums e) { log_pos = 0 } ≡ moved_bare sums at h bytes
     → put_text form sums to (record { pos = at; event = e } ∷ ps) ≡ event_text (moved form sums to at h bytes) ++ put_text form sums (to + event_size (moved form sums to at h bytes)) ps
-kept-text Places sums bytes at to h e ps found is room =
-    let moves = sym (placed-same Places at to (bare sums e)) ∙ ap (put_as Places at to) (bare-is sums bytes at h e found is room) in
+kept-text Places sums bytes at to h e ps moved_is =
+    let moves = sym (placed-same Places at to (bare sums e)) ∙ ap (put_as Places at to) moved_is in
     (λ i. event_text (moves i) ++ put_text Places sums (to + event_size (moves i)) ps)
-kept-text Plain sums bytes at to h e ps found is room =
-    let moves = sym (placed-same Plain at to (bare sums e)) ∙ ap (put_as Plain at to) (bare-is sums bytes at h e found is room) in
+kept-text Plain sums bytes at to h e ps moved_is =
+    let moves = sym (placed-same Plain at to (bare sums e)) ∙ ap (put_as Plain at to) moved_is in
     (λ i. event_text (moves i) ++ put_text Plain sums (to + event_size (moves i)) ps)
 
 -- ---- the checks of an event
@@ -204,6 +214,17 @@ kept-text Plain sums bytes at to h e ps found is room =
 unless-none : (test : Bool) (fault : SumFault) → unless test fault ≡ None → test ≡ true
 unless-none true fault none = refl
 unless-none false fault none = absurd (none-some fault (sym none))
+
+-- so has one whose sum is wrong
+cut-isnt-wrong : (test other : Bool) (pos : ℕ) (fault : SumFault) → first_failing (unless test (Log (CutEvent pos)) ∷ unless other (WrongSum pos) ∷ []) ≡ Some fault
+    → is_wrong_sum (Some fault) ≡ true → test ≡ true
+cut-isnt-wrong true other pos fault first wrong = refl
+cut-isnt-wrong false other pos fault first wrong = absurd (cc)
+
+pub wrong-has-room : (sums : Bool) (p : Placed) (fault : SumFault) → check_of sums p ≡ Some fault → is_wrong_sum (Some fault) ≡ true → sums ≡ true → 23 ≤ event_size p.event
+wrong-has-room true p fault fails wrong is =
+    leb-true 23 (event_size p.event) (cut-isnt-wrong (nat_le 23 (event_size p.event)) (ends_in_its_sum (event_text p.event)) p.pos fault fails wrong)
+wrong-has-room false p fault fails wrong is = absurd (cc)
 
 pub has-room : (sums : Bool) (p : Placed) → check_of sums p ≡ None → sums ≡ true → 23 ≤ event_size p.event
 has-room true p passes is =

@@ -10,7 +10,7 @@ use Rattle.blog_event.specs.File.{Placed, placed_from, end_of}
 use Rattle.blog_event.proofs.Framing.{event-again, text-length}
 use Rattle.blog_sum.specs.declared.fault.SumFault.{SumFault}
 use Rattle.blog_source.specs.declared.reading.Reading.{Reading}
-use Rattle.blog_source.specs.Found.{begins_right, check_of, found, found_with, is_wrong_sum}
+use Rattle.blog_source.specs.Found.{as_damaged, begins_right, check_of, found, found_with, is_wrong_sum}
 use Rattle.blog_source.specs.Handed.{bare, becomes, handed}
 use Rattle.blog_source.specs.Laws.{HandedOut, handed_for, handed_from, placed_of}
 use Rattle.blog_source.proofs.HandedLog.{end-past}
@@ -173,19 +173,20 @@ kept-rise how sums len low at (e ∷ es) past = by_check (check_of sums p) passe
     by_check : (check : Option SumFault) (passed : Bool) → Rise (1 + at) (found how sums len (at + event_size e) (placed_from (at + event_size e) es)).kept
         → Rise low (found_with check passed p (found how sums len (at + event_size e) (placed_from (at + event_size e) es))).kept
     by_check None passed later = (past, later)
-    by_check (Some fault) true later = rise-lower low (1 + at) (found how sums len (at + event_size e) (placed_from (at + event_size e) es)).kept (omega arith) later
+    by_check (Some fault) true later = (past, later)
     by_check (Some fault) false later = tt
 
 -- and what holds of the events that are read holds of them
-pub kept-all : (P : Placed → Type 0) (how : Reading) (sums : Bool) (len at : ℕ) (ps : List Placed) → AllByRecursion P ps → AllByRecursion P (found how sums len at ps).kept
-kept-all P how sums len at [] all = tt
-kept-all P how sums len at (p ∷ ps) all = by_check (check_of sums p) passed (kept-all P how sums len (p.pos + event_size p.event) ps all.1)
+pub kept-all : (P Q : Placed → Type 0) (how : Reading) (sums : Bool) (len at : ℕ) (ps : List Placed) → ((p : Placed) → P p → Q p) → ((p : Placed) → P p → Q (as_damaged p))
+    → AllByRecursion P ps → AllByRecursion Q (found how sums len at ps).kept
+kept-all P Q how sums len at [] same damaged all = tt
+kept-all P Q how sums len at (p ∷ ps) same damaged all = by_check (check_of sums p) passed (kept-all P Q how sums len (p.pos + event_size p.event) ps same damaged all.1)
   where
     passed : Bool
     passed = how.skip_damaged && (is_wrong_sum (check_of sums p) && begins_right ps)
 
-    by_check : (check : Option SumFault) (passed : Bool) → AllByRecursion P (found how sums len (p.pos + event_size p.event) ps).kept
-        → AllByRecursion P (found_with check passed p (found how sums len (p.pos + event_size p.event) ps)).kept
-    by_check None passed later = (all.0, later)
-    by_check (Some fault) true later = later
+    by_check : (check : Option SumFault) (passed : Bool) → AllByRecursion Q (found how sums len (p.pos + event_size p.event) ps).kept
+        → AllByRecursion Q (found_with check passed p (found how sums len (p.pos + event_size p.event) ps)).kept
+    by_check None passed later = (same p all.0, later)
+    by_check (Some fault) true later = (damaged p all.0, later)
     by_check (Some fault) false later = tt

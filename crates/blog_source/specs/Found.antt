@@ -47,8 +47,12 @@ begins_right (p ∷ ps) = is_none (sum_check p)
 abbrev pub end_fault : ℕ → Option ℕ → ℕ → Option SumFault
 end_fault len stop at = unless ((at == len) || not (is_below at stop)) (Log (CutEvent at))
 
--- What is found of a log: the events that are kept, each at its place; the first fault; where the reading ended; and how many
--- events were passed over.
+-- a damaged event that is passed over: its type is 255, which no event has, and its flags are the type that it had
+abbrev pub as_damaged : Placed → Placed
+as_damaged p = record p { event = record p.event { kind = 255; flags = p.event.kind } }
+
+-- What is found of a log: the events that are kept, each at its place, those that are passed over as damaged ones; the first
+-- fault; where the reading ended; and how many events were passed over.
 pub record Found : Type 0 where
   pub kept : List Placed
   pub fault : Option SumFault
@@ -59,7 +63,7 @@ pub record Found : Type 0 where
 -- the reading ends there
 abbrev pub found_with : Option SumFault → Bool → Placed → Found → Found
 found_with None passed p later = record later { kept = p ∷ later.kept }
-found_with (Some fault) true p later = record later { damaged = 1 + later.damaged }
+found_with (Some fault) true p later = record later { kept = as_damaged p ∷ later.kept; damaged = 1 + later.damaged }
 found_with (Some fault) false p later = record { kept = []; fault = Some fault; end = p.pos; damaged = 0 }
 
 -- what is found of the events from a position on, in a log of so many bytes, which has sums or has not. An event is passed

@@ -1,11 +1,11 @@
 -- What the laws of a source speak of.
-use Rattle.std.specs.Prelude.{◌≡◌, ℕ, ◌+◌, Bool, false, List, [], ◌∷◌, ◌++◌, map, drop, None}
+use Rattle.std.specs.Prelude.{◌≡◌, ◌⊎◌, ℕ, ◌+◌, Bool, false, List, [], ◌∷◌, ◌++◌, map, drop, None, Some}
 use Rattle.std.specs.List.{AllByRecursion}
-use Rattle.blog_event.specs.Event.{Event, event_size, unplaced}
+use Rattle.blog_event.specs.Event.{Event, event_at, event_size, unplaced}
 use Rattle.blog_event.specs.File.{Placed, placed_from, end_of}
 use Rattle.blog_sum.specs.Sums.{has_sums}
 use Rattle.blog_source.specs.declared.reading.Reading.{Reading}
-use Rattle.blog_source.specs.Found.{found_of}
+use Rattle.blog_source.specs.Found.{as_damaged, found_of}
 use Rattle.blog_source.specs.Handed.{handed, is_tagged}
 use Rattle.blog_source.specs.Places.{first_of}
 
@@ -14,7 +14,7 @@ abbrev pub whole_reading : Reading
 whole_reading = record { stop = None; skip_damaged = false }
 
 -- An event behind the format description that is handed out; the position at which it begins in the log that is handed out;
--- the event of the server's log for which it stands, at its place; and where the first event begins that is handed out for that.
+-- the event of the server's log for which it stands, at its place, as a damaged one if it was passed over; and where the first event begins that is handed out for that.
 pub record HandedOut : Type 0 where
   pub event : Event
   pub at : ℕ
@@ -37,6 +37,11 @@ handed_out how bytes = handed_from (has_sums bytes) (first_of bytes) (found_of h
 -- such an event, at its place in the log that is handed out
 abbrev pub placed_of : HandedOut → Placed
 placed_of h = record { pos = h.at; event = h.event }
+
+-- an event of a log is at its place, as it is or as a damaged one
+abbrev pub StandsIn : List ℕ → Placed → Type 0
+StandsIn bytes p =
+    (event_at (drop p.pos bytes) ≡ Some p.event) ⊎ ((e : Event) × (event_at (drop p.pos bytes) ≡ Some e) × (p ≡ as_damaged (record { pos = p.pos; event = e })))
 
 -- it begins at the same position in both logs, and is the same event but for log_pos
 abbrev pub IsUnmoved : HandedOut → Type 0

@@ -2,7 +2,7 @@
 
 ghost use Rattle.std.specs.Prelude.{◌≡◌, ◌≤◌, List, ℕ, drop, false, length, map, Some, None};
 ghost use Rattle.std.specs.List.{AllByRecursion};
-ghost use Rattle.blog_event.specs.Event.{event_at, unplaced};
+ghost use Rattle.blog_event.specs.Event.{unplaced};
 ghost use Rattle.blog_event.specs.File.{AreBytes, placed_from, read};
 ghost use Rattle.blog_event.specs.Opening.{opening_fault};
 ghost use Rattle.blog_sum.specs.declared.fault.SumFault.{SumFault};
@@ -10,7 +10,7 @@ ghost use Rattle.blog_sum.specs.Sums.{has_sums, sum_fault};
 ghost use Rattle.blog_source.specs.declared.reading.Reading.{Reading};
 ghost use Rattle.blog_source.specs.Found.{found_of, source_refusal};
 ghost use Rattle.blog_source.specs.Handed.{handed_events, handed_log};
-ghost use Rattle.blog_source.specs.Laws.{IsUnmoved, NoneTagged, handed_out, placed_of, whole_reading};
+ghost use Rattle.blog_source.specs.Laws.{IsUnmoved, NoneTagged, StandsIn, handed_out, placed_of, whole_reading};
 ghost use Rattle.blog_source.specs.Places.{place_of, position_of};
 
 /// The log that is handed out opens as a log, and is no longer than the server's log. The call does nothing.
@@ -42,7 +42,7 @@ pub fn places_are_of_the_source()
     ensures are { (how : Reading) (bytes : List ℕ) → AreBytes bytes → source_refusal bytes ≡ None
         → map placed_of (handed_out how bytes) ≡ drop 1 (placed_from 4 (read (handed_log how bytes) None)) }
     ensures source { (how : Reading) (bytes : List ℕ) → AreBytes bytes → source_refusal bytes ≡ None
-        → AllByRecursion (λ h. event_at (drop h.source.pos bytes) ≡ Some h.source.event) (handed_out how bytes) }
+        → AllByRecursion (λ h. StandsIn bytes h.source) (handed_out how bytes) }
     ensures place { (how : Reading) (bytes : List ℕ) → AreBytes bytes → source_refusal bytes ≡ None
         → AllByRecursion (λ h. place_of (handed_log how bytes) (found_of how bytes).end h.at ≡ h.source.pos) (handed_out how bytes) }
     ensures position { (how : Reading) (bytes : List ℕ) → AreBytes bytes → source_refusal bytes ≡ None

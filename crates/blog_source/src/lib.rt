@@ -23,3 +23,4 @@ pub use plain_laws::{
 };
 pub use reading::Reading;
 pub use source::Source;
+pub use walk::DAMAGED_EVENT;

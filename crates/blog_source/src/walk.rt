@@ -5,7 +5,7 @@ ghost use Rattle.std.specs.Result.{result_err};
 ghost use Rattle.blog_event.specs.Event.{event_of, event_at, event_size};
 ghost use Rattle.blog_event.specs.File.{is_below};
 ghost use Rattle.blog_source.specs.Found.{begins_right, is_wrong_sum};
-ghost use Rattle.blog_source.specs.code.Walk.{IsStep, found_left, left, next_check, put_text};
+ghost use Rattle.blog_source.specs.code.Walk.{IsStep, damaged_header, found_left, left, next_check, put_text};
 
 use crate::form::Form;
 use crate::putting::put_kept;
@@ -13,13 +13,17 @@ use crate::reading::Reading;
 use blog_event::{Event, Fault, Header, event_at};
 use blog_sum::{SumFault, summed_event};
 
+/// The type that an event with a wrong sum has in the log that is handed out, if it is passed over. No event of a server has it, so
+/// nothing that has such an event can be undone. Its flags are the type that it had.
+pub const DAMAGED_EVENT: u8 = 255;
+
 /// What is said of the event at a position.
 #[derive(Clone, Copy, Debug)]
 pub(crate) enum Step {
     /// It is kept, and this is its header.
     Keep(Header),
-    /// It is passed over, and has so many bytes.
-    PassOver(u32),
+    /// It is passed over, since its sum is wrong, and this is its header.
+    PassOver(Header),
     /// The reading ends there.
     Refuse(SumFault),
 }
@@ -104,11 +108,22 @@ fn step_at_fault(bytes: &[u8], at: u32, sums: bool, how: Reading, fault: SumFaul
     if how.skip_damaged && is_wrong_sum(&fault) {
         if let Some(event) = event_at(bytes, at) {
             if begins_right(bytes, at + event.header.size, how.stop) {
-                return Step::PassOver(event.header.size);
+                return Step::PassOver(event.header);
             }
         }
     }
     Step::Refuse(fault)
+}
+
+/// The header of a damaged event: of a type that no event has, with the type that it had in place of the flags.
+fn damaged_header(header: Header) -> Header
+    ensures { result ≡ damaged_header header }
+{
+    Header {
+        kind: DAMAGED_EVENT,
+        flags: u16::from(header.kind),
+        ..header
+    }
 }
 
 /// Goes through the events from `first` on, and puts what each becomes behind what stands in front of `first`.
@@ -132,9 +147,10 @@ pub(crate) fn hand_out(bytes: &mut [u8], first: u32, sums: bool, form: Form, how
                 to = put_kept(bytes, at, to, header, sums, form);
                 at += header.size;
             }
-            Step::PassOver(size) => {
+            Step::PassOver(header) => {
+                to = put_kept(bytes, at, to, damaged_header(header), sums, form);
+                at += header.size;
                 damaged += 1;
-                at += size;
             }
             Step::Refuse(fault) => {
                 return Walked {

@@ -4,10 +4,10 @@ use Rattle.std.specs.Prelude.{find, if◌then◌else◌, option_map}
 use Rattle.blog_event.specs.Event.{event_size}
 use Rattle.blog_event.specs.File.{Placed}
 use Rattle.blog_trans.specs.Groups.{cons_if}
-use Rattle.blog_trans.specs.Places.{is_begin, kind_at}
+use Rattle.blog_trans.specs.Places.{kind_at}
 use Rattle.blog_units.specs.declared.part.Part.{Part}
 use Rattle.blog_units.specs.declared.unit.Seen.{Seen}
-use Rattle.blog_units.specs.Units.{begun, continued, end_behind, goes_on, is_query_or_rows, opened_by, part_behind, rest_of, thread_of, units_in}
+use Rattle.blog_units.specs.Units.{begun, continued, end_behind, goes_on, is_query, is_query_or_rows, opened_by, part_behind, rest_of, thread_of, units_in}
 use Rattle.blog_units.specs.code.UnitsView.{HasStopped, or_first, or_this, seen_of, seen_with, timestamp_of}
 
 -- what is left of a unit of this part, whose events begin at a position, in front of others: where it stops, what is seen of it,
@@ -33,7 +33,7 @@ first-more test told None p rest = by_test (test p) refl
 pub seen-more : (seen : Seen) (p : Placed) (rest : List Placed) → seen_of seen (p ∷ rest) ≡ seen_of (seen_with seen p) rest
 seen-more seen p rest = λ i. record {
   time = first-more is_query_or_rows timestamp_of seen.time p rest i;
-  thread = first-more is_begin thread_of seen.thread p rest i;
+  thread = first-more is_query thread_of seen.thread p rest i;
 }
 
 -- one more event, with which the unit goes on
@@ -56,7 +56,7 @@ first-none test told (Some known) = refl
 first-none test told None = refl
 
 seen-none : (seen : Seen) → seen_of seen [] ≡ seen
-seen-none seen = λ i. record { time = first-none is_query_or_rows timestamp_of seen.time i; thread = first-none is_begin thread_of seen.thread i }
+seen-none seen = λ i. record { time = first-none is_query_or_rows timestamp_of seen.time i; thread = first-none is_query thread_of seen.thread i }
 
 ended : (from at : ℕ) (part : Part) (known seen : Seen) (now : Option Part) (ps qs : List Placed) → IsGone from at (Some part) known seen now ps qs
     → rest_of now qs ≡ [] → units_in now qs ≡ units_in None qs → HasStopped from at part known seen now ps qs

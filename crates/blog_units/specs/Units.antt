@@ -8,7 +8,7 @@ use Rattle.blog_event.specs.File.{Placed, placed_from, read}
 use Rattle.blog_row.specs.declared.event_kinds.EventKind.{EventKind}
 use Rattle.blog_row.specs.declared.event_kinds.EventKind.TheVariants as kind
 use Rattle.blog_row.specs.Kinds.{query_text, is_begin_kind}
-use Rattle.blog_trans.specs.Places.{kind_at, is_begin, is_end, is_rows}
+use Rattle.blog_trans.specs.Places.{kind_at, is_end, is_rows}
 use Rattle.blog_trans.specs.Selection.{Selection}
 use Rattle.blog_trans.specs.Groups.{cons_if}
 use Rattle.blog_units.specs.declared.part.Part.{Part}
@@ -111,6 +111,18 @@ end_behind at (p ∷ ps) = end_behind (p.pos + event_size p.event) ps
 abbrev pub is_query_or_rows : Placed → Bool
 is_query_or_rows p = p.event.kind == 2 || (is_rows p || p.event.kind == 39)
 
+-- a query of any text, whose body has its layout
+abbrev pub is_query_kind : EventKind → Bool
+is_query_kind kind.Begin = true
+is_query_kind kind.Commit = true
+is_query_kind kind.Rollback = true
+is_query_kind kind.Savepoint = true
+is_query_kind kind.OtherQuery = true
+is_query_kind _ = false
+
+abbrev pub is_query : Placed → Bool
+is_query p = is_query_kind (kind_at p)
+
 -- the thread that wrote a Query event: the first 4 bytes of its body (MySQL Internals manual, "Query_event")
 unfoldable pub thread_of : Placed → ℕ
 thread_of p = little_number 4 p.event.body
@@ -132,8 +144,8 @@ id_of e =
     then Some (record { server = take 16 (drop 1 e.body); tag = tag_of e.body; number = little_number 8 (drop 17 e.body) }) else None
 
 -- Where a unit starts and where it stops, in bytes from the file's start; the time of its first Query or rows event, of its
--- first event where there is none, in seconds since 1970 in UTC; the thread that wrote its first `BEGIN`, where it has one; its
--- global transaction id, where it begins with one; and whether it is whole.
+-- first event where there is none, in seconds since 1970 in UTC; the thread that wrote its first Query event, where it has one
+-- that can be read; its global transaction id, where it begins with one; and whether it is whole.
 pub record Facts : Type 0 where
   pub start : ℕ
   pub stop : ℕ
@@ -147,7 +159,7 @@ facts_of u = record {
   start = u.first.pos;
   stop = end_behind (u.first.pos + event_size u.first.event) u.rest;
   time = option_map_or (λ p. p.event.timestamp) (find is_query_or_rows (u.first ∷ u.rest)) u.first.event.timestamp;
-  thread = option_map thread_of (find is_begin (u.first ∷ u.rest));
+  thread = option_map thread_of (find is_query (u.first ∷ u.rest));
   id = id_of u.first.event;
   whole = is_whole (part_behind (opened_by (kind_at u.first)) u.rest);
 }

@@ -3,7 +3,7 @@
 ghost use Rattle.std.specs.Prelude.{◌≡◌, ◌||◌};
 ghost use Rattle.blog_row.specs.Kinds.{kind_of, is_end_kind};
 ghost use Rattle.blog_trans.specs.Places.{placed, kind_at};
-ghost use Rattle.blog_units.specs.Units.{after_gtid, continued, goes_on, is_of_rows, is_query_or_rows, is_rollback, opened_by};
+ghost use Rattle.blog_units.specs.Units.{after_gtid, continued, goes_on, is_of_rows, is_query_kind, is_query_or_rows, is_rollback, opened_by};
 
 use blog_event::Event;
 use blog_event::constants::{PARTIAL_UPDATE_ROWS_EVENT, QUERY_EVENT};
@@ -96,6 +96,20 @@ impl Part {
             }
             Part::Statement => Some(Part::Statement),
         }
+    }
+}
+
+/// Returns whether an event of this kind is a Query event whose body can be read.
+pub(crate) fn is_query(kind: EventKind) -> bool
+    ensures { result ≡ is_query_kind kind }
+{
+    match kind {
+        EventKind::Begin
+        | EventKind::Commit
+        | EventKind::Rollback
+        | EventKind::Savepoint
+        | EventKind::OtherQuery => true,
+        _ => false,
     }
 }
 

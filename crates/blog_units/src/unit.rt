@@ -4,11 +4,11 @@ ghost use Rattle.std.specs.Prelude.{◌≡◌, ◌≤◌, [], None, Some, IfSome
 ghost use Rattle.blog_event.specs.Event.{event_of};
 ghost use Rattle.blog_event.specs.code.LogView.{log_bytes};
 ghost use Rattle.blog_units.specs.code.Boundaries.{IsBoundary, events_behind};
-ghost use Rattle.blog_units.specs.Units.{id_of, is_query_or_rows, is_whole, tag_of, thread_of, units_in};
+ghost use Rattle.blog_units.specs.Units.{id_of, is_query, is_query_or_rows, is_whole, tag_of, thread_of, units_in};
 ghost use Rattle.blog_units.specs.code.UnitsView.{AreGroups, HasStopped, IsFirst, id_told, none_seen, or_this, seen_with, timestamp_of};
-ghost use Rattle.blog_trans.specs.Places.{is_begin, kind_at, placed};
+ghost use Rattle.blog_trans.specs.Places.{kind_at, placed};
 
-use crate::part::{Part, is_query_or_rows, opened_by};
+use crate::part::{Part, is_query, is_query_or_rows, opened_by};
 use blog_event::constants::GTID_LOG_EVENT;
 use blog_event::{Event, Fault, Log};
 use blog_trans::{EventKind, Index, Selection, event_kind, index_from};
@@ -36,7 +36,7 @@ pub struct Unit<'a, A: Allocator = Global> {
     pub stop: u32,
     /// The time of its first Query or rows event, or of its first event where there is none: seconds since 1970, in UTC.
     pub time: u32,
-    /// The thread that wrote its first `BEGIN`, where it has one.
+    /// The thread that wrote its first Query event, if it has one that can be read.
     pub thread: Option<u32>,
     /// Its global transaction id, where it begins with one.
     pub id: Option<GlobalId<'a>>,
@@ -53,7 +53,7 @@ pub struct Unit<'a, A: Allocator = Global> {
 pub(crate) struct Seen {
     /// The time of its first Query or rows event.
     pub(crate) time: Option<u32>,
-    /// The thread that wrote its first `BEGIN`.
+    /// The thread that wrote its first Query event.
     pub(crate) thread: Option<u32>,
 }
 
@@ -142,18 +142,16 @@ fn time_with(known: Option<u32>, kind: EventKind, event: &Event<'_>) -> Option<u
     }
 }
 
-/// The thread that is known, or else that which wrote an event of this kind, if it is a `BEGIN`.
+/// Returns the thread that is known, or else the one that wrote an event of this kind, if it is a Query event.
 #[tactic(auto, unfolding(crate::specs::Units::thread_of))]
 fn thread_with(known: Option<u32>, kind: EventKind, event: &Event<'_>) -> Option<u32>
     requires { kind ≡ kind_at (placed event.now) }
-    ensures { result ≡ or_this is_begin thread_of known (placed event.now) }
+    ensures { result ≡ or_this is_query thread_of known (placed event.now) }
 {
     match known {
         Some(thread) => Some(thread),
-        None => match kind {
-            EventKind::Begin => Some(LittleEndian::read_u32(event.body)),
-            _ => None,
-        },
+        None if is_query(kind) => Some(LittleEndian::read_u32(event.body)),
+        None => None,
     }
 }
 

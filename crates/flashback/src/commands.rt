@@ -13,11 +13,15 @@ ghost use Rattle.flashback.specs.declared.commands.Failure.TheVariants.{Argument
 use crate::arguments::{ArgumentsFault, Asked, Task, read_arguments};
 use blog_flash::{RunFault, Watched, prepare, put, run};
 use std::alloc::Allocator;
-use std::fs::File;
+use std::fs::{File, OpenOptions};
 use std::io;
 use std::io::{Read, Write};
+use std::os::unix::fs::OpenOptionsExt;
 use std::process::ExitCode;
 use std::rt::Files;
+
+/// The mode of a result file that is created: its owner alone may read and write it. One that is there keeps its own.
+const MODE: u32 = 0o600;
 
 /// Why the program didn't do what its arguments ask for.
 #[derive(Drop)]
@@ -187,7 +191,13 @@ fn run_to_file<R: Files, A: Allocator + Copy, D: Read>(
     ensures status { IfErr result (λ f. status_of f ≡ 1) }
 {
     let text = text_for_file(alloc, reader, task)?;
-    let Ok(file) = File::create(rt, path) else {
+    let created = OpenOptions::new()
+        .write(true)
+        .create(true)
+        .truncate(true)
+        .mode(MODE)
+        .open(rt, path);
+    let Ok(file) = created else {
         return Err(Failure::NoResultFile);
     };
     put(&mut Watched::new(file), text.as_slice())?;

@@ -101,7 +101,9 @@ fn selection_arguments<'a>(alloc: Global, command: Command<'a>) -> Result<Comman
     let database = option(alloc, DATABASE, "NAME").help(
         "Take only the changes of tables of this database",
     );
-    let table = option(alloc, TABLE, "NAME").help("Take only the changes of tables of this name");
+    let table = option(alloc, TABLE, "NAME").help(
+        "Take only the changes of tables of this name: -d shop -T orders, not -T shop.orders",
+    );
     command
         .arg(start.short('j'))?
         .arg(stop)?

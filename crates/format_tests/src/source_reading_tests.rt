@@ -96,46 +96,60 @@ fn damaged<R: AllocGlobal + Abort>(rt: &R, bytes: &[usize]) -> Vec<u8> {
     log
 }
 
-/// These parts of what is handed out for the small log, joined.
-fn handed_parts<R: AllocGlobal + Abort>(rt: &R, parts: &[(usize, usize)]) -> Vec<u8> {
-    let mut log = Vec::new(rt.alloc());
-    for (from, to) in parts {
-        let part = part_of(rt, &HANDED_INSERT, *from, *to);
-        log.extend_from_slice(part).expect(rt, "memory");
+/// The events of the small log after the format description: where each begins, in it and in what is handed out, its size there,
+/// and its type.
+static EVENTS: [(usize, usize, usize, u8); 4] = [
+    (120, 120, 39, 2),
+    (163, 159, 37, 19),
+    (204, 196, 36, 30),
+    (244, 232, 27, 16),
+];
+
+/// What is handed out for the small log with the lowest bit of these bytes flipped, each in an event of its own, or in its sum.
+fn handed_damaged<R: AllocGlobal + Abort>(rt: &R, bytes: &[usize]) -> Vec<u8> {
+    let mut log = joined(rt, &[&HANDED_INSERT]);
+    for at in bytes {
+        let (first, handed, size, kind) = *EVENTS
+            .iter()
+            .filter(|(first, _, _, _)| first <= at)
+            .last()
+            .expect(rt, "an event");
+        let inside = at.saturating_sub(first);
+        if inside < size {
+            let changed = handed.saturating_add(inside);
+            let byte = *HANDED_INSERT.get(changed).expect(rt, "a byte") ^ 1;
+            log = with_bytes(rt, &log, changed, &[byte]);
+        }
+        log = with_bytes(rt, &log, handed.saturating_add(4), &[255]);
+        log = with_bytes(rt, &log, handed.saturating_add(17), &[kind, 0]);
     }
     log
 }
 
-/// Reads the small log with these bytes damaged to its end, and checks how many events are passed over and which parts are
-/// handed out.
-fn check_passed<R: AllocGlobal + Abort>(
-    rt: &R,
-    bytes: &[usize],
-    parts: &[(usize, usize)],
-    count: u32,
-) {
+/// Reads the small log with these bytes damaged to its end, and checks what is handed out.
+fn check_passed<R: AllocGlobal + Abort>(rt: &R, bytes: &[usize]) {
     let found = Found {
         end: 275,
         fault: None,
-        damaged: count,
+        damaged: bytes.len() as u32,
     };
     check_read(
         rt,
         &damaged(rt, bytes),
         PASSING,
-        &handed_parts(rt, parts),
+        &handed_damaged(rt, bytes),
         found,
     );
 }
 
 #[test]
 fn damaged_events_are_passed_over(rt: HostRuntime) {
-    check_passed(&rt, &[], &[(0, 259)], 0);
-    check_passed(&rt, &[150], &[(0, 120), (159, 259)], 1);
-    check_passed(&rt, &[190], &[(0, 159), (196, 259)], 1);
+    check_passed(&rt, &[]);
+    check_passed(&rt, &[150]);
+    check_passed(&rt, &[190]);
     // the last byte of a sum
-    check_passed(&rt, &[243], &[(0, 196), (232, 259)], 1);
-    check_passed(&rt, &[150, 230], &[(0, 120), (159, 196), (232, 259)], 2);
+    check_passed(&rt, &[243]);
+    check_passed(&rt, &[150, 230]);
 }
 
 #[test]
@@ -146,23 +160,36 @@ fn a_damaged_size_may_be_that_of_two_events(rt: HostRuntime) {
         fault: None,
         damaged: 1,
     };
-    let handed = handed_parts(&rt, &[(0, 159), (232, 259)]);
+    // a header of type 255, a size of 77 and a log_pos of 163, with the type of a table map as flags
+    let handed = joined(
+        &rt,
+        &[
+            part_of(&rt, &HANDED_INSERT, 0, 159),
+            part_of(&rt, &SUMMED_INSERT, 163, 167),
+            &[255],
+            part_of(&rt, &SUMMED_INSERT, 168, 172),
+            &[77, 0, 0, 0, 163, 0, 0, 0, 19, 0],
+            part_of(&rt, &SUMMED_INSERT, 182, 240),
+            part_of(&rt, &HANDED_INSERT, 232, 259),
+        ],
+    );
     check_read(&rt, &log, PASSING, &handed, found);
 }
 
 #[test]
-fn places_lead_past_damaged_events(rt: HostRuntime) {
+fn places_are_those_of_damaged_events_too(rt: HostRuntime) {
     let source = opened(&rt, &damaged(&rt, &[190]), PASSING);
-    for (at, place) in [(120, 120), (159, 204), (195, 244), (222, 275)] {
+    for (at, place) in [(120, 120), (159, 163), (196, 204), (232, 244), (259, 275)] {
         assert!(rt; source.place(at) == place, "at {at}");
     }
     for (place, at) in [
         (120, 120),
         (163, 159),
-        (204, 159),
-        (205, 195),
-        (244, 195),
-        (275, 222),
+        (164, 196),
+        (204, 196),
+        (205, 232),
+        (244, 232),
+        (275, 259),
     ] {
         assert!(rt; source.position(place) == at, "of {place}");
     }
@@ -190,14 +217,15 @@ fn damaged_neighbours_end_the_reading(rt: HostRuntime) {
         handed_to(&rt, 159),
         ended(163, wrong_at(163)),
     );
-    let handed = handed_parts(&rt, &[(0, 120), (159, 196)]);
+    let whole = handed_damaged(&rt, &[150]);
+    let handed = part_of(&rt, &whole, 0, 196);
     let found = Found {
         end: 204,
         fault: Some(wrong_at(204)),
         damaged: 1,
     };
     let three = damaged(&rt, &[150, 230, 265]);
-    check_read(&rt, &three, PASSING, &handed, found);
+    check_read(&rt, &three, PASSING, handed, found);
 }
 
 #[test]
@@ -221,13 +249,14 @@ fn a_damaged_last_event_is_a_fault(rt: HostRuntime) {
             ended(163, wrong_at(163)),
         );
     }
-    let handed = handed_parts(&rt, &[(0, 159), (196, 232)]);
+    let whole = handed_damaged(&rt, &[190]);
+    let handed = part_of(&rt, &whole, 0, 232);
     let found = Found {
         end: 244,
         fault: None,
         damaged: 1,
     };
-    check_read(&rt, &log, passing_to(205), &handed, found);
+    check_read(&rt, &log, passing_to(205), handed, found);
 }
 
 /// Sizes for the event at 163 in place of 41, and whether they lead past the log's end or leave no room for a sum. The others

@@ -17,6 +17,7 @@ use sample_logs::builder::{BEGIN, Part, XID, build, set_bytes};
 use sample_logs::samples::{ALTER_BETWEEN, INSERT, MULTI_TABLE, SAVEPOINT_KEPT, UPDATE};
 use sample_logs::summed::{CLOSED, CLOSED_PLAIN, IN_USE, IN_USE_PLAIN};
 use server_logs::tagged::{TAGGED, TAGGED_PLAIN};
+use std::alloc::Global;
 use std::process::Abort;
 use std::test::Fail;
 
@@ -29,6 +30,19 @@ static TEXTS: [&'static [u8]; 36] = [
     b"\xe2\x82", b"\xe2\x82\"", b"\xed\xa0\x80", b"\xf0\x9f\x98", b"\xf0\x9f\x98\\", b"\xf4\x90\x80\x80", b"\xf8\x88\x80\x80\x80", b"\xff\xfe",
 ];
 
+/// Returns lines in which the control characters that serde writes as they are, U+007F to U+009F, are escaped.
+fn without_controls(alloc: Global, lines: &[u8]) -> Result<Vec<u8>, Fail> {
+    let mut escaped = String::new(alloc);
+    for c in str::from_utf8(lines)?.chars() {
+        if c >= '\u{7F}' && c <= '\u{9F}' {
+            escaped.push_str(format!(in alloc; "\\u{:04x}", u32::from(c))?.as_str())?;
+        } else {
+            escaped.push(c)?;
+        }
+    }
+    Ok(escaped.into_bytes())
+}
+
 /// Returns the lines of a source, under a name or without, and its totals, when they are those of serde.
 fn checked_lines(
     rt: &(impl AllocGlobal + Abort),
@@ -36,7 +50,8 @@ fn checked_lines(
     name: Option<&[u8]>,
     zone: TimeZone<'_>,
 ) -> Result<Vec<u8>, Fail> {
-    let mut wanted = lines_of(rt.alloc(), zone, source, name)?;
+    let lines = lines_of(rt.alloc(), zone, source, name)?;
+    let mut wanted = without_controls(rt.alloc(), &lines)?;
     let style = Style {
         form: Form::Json,
         zone,

@@ -8,7 +8,7 @@ mod marks;
 mod texts;
 
 use crate::json_lines::beginning::Beginning;
-use crate::json_lines::fault_events::{statement_of, words_of};
+use crate::json_lines::fault_events::{name_in, statement_of, words_of};
 use crate::json_lines::ids::put_id;
 use blog_event::Log;
 use blog_list::{Totals, rfc_3339_text};
@@ -129,7 +129,7 @@ pub(crate) fn put_unit<A: Allocator + Copy, B: Allocator>(
             line.tables = Some(tables);
         }
         Err(fault) => {
-            line.fault = Some(fault.name());
+            line.fault = Some(name_in(log, fault, unit.stop));
             line.position = source.at_place(fault).at();
             line.statement = match statement_of(log, fault, unit.stop) {
                 Some(text) => {

@@ -40,7 +40,7 @@ fn json_has_an_object_a_line(rt: HostRuntime) -> Result<(), Fail> {
         ..ALL
     };
     let lines =
-        "{\"start\":1294,\"stop\":1474,\"time\":\"2026-11-21T03:04:00+00:00\",\"timestamp\":1795230240,\"thread\":null,\"gtid\":\"283c105d-e730-11f1-97ff-02fc00000001:12\",\"fault\":\"Statement\",\"position\":1367,\"statement\":\"create table t2 (a int)\"}
+        "{\"start\":1294,\"stop\":1474,\"time\":\"2026-11-21T03:04:00+00:00\",\"timestamp\":1795230240,\"thread\":16,\"gtid\":\"283c105d-e730-11f1-97ff-02fc00000001:12\",\"fault\":\"Statement\",\"position\":1367,\"statement\":\"create table t2 (a int)\"}
 {\"start\":1474,\"stop\":1760,\"time\":\"2026-11-21T03:05:00+00:00\",\"timestamp\":1795230300,\"thread\":16,\"gtid\":\"283c105d-e730-11f1-97ff-02fc00000001:13\",\"tables\":[{\"schema\":\"shop\",\"table\":\"items\",\"inserts\":0,\"updates\":0,\"deletes\":2}]}
 {\"units\":2,\"not_undoable\":1,\"rows\":2,\"passed_over\":0}
 ";
@@ -61,7 +61,7 @@ fn positions_of_json_are_those_of_the_log(rt: HostRuntime) -> Result<(), Fail> {
         ..ALL
     };
     let line =
-        "{\"start\":490,\"stop\":702,\"time\":\"2026-11-21T03:01:00+00:00\",\"timestamp\":1795230060,\"thread\":null,\"gtid\":\"283c105d-e730-11f1-97ff-02fc00000001:9\",\"fault\":\"Statement\",\"position\":567,\"statement\":\"alter table items add column price decimal(8,2)\"}
+        "{\"start\":490,\"stop\":702,\"time\":\"2026-11-21T03:01:00+00:00\",\"timestamp\":1795230060,\"thread\":16,\"gtid\":\"283c105d-e730-11f1-97ff-02fc00000001:9\",\"fault\":\"Statement\",\"position\":567,\"statement\":\"alter table items add column price decimal(8,2)\"}
 {\"units\":1,\"not_undoable\":1,\"rows\":0,\"passed_over\":0}
 ";
     check_json(&rt, &IN_USE, &wanted, line)
@@ -108,7 +108,7 @@ fn check_statement(
     let bytes = build(rt, &[Part::Query { status, text }])?;
     let shown = str::from_utf8([b'x'; 1000].as_slice())?;
     let front = format!(in rt.alloc();
-        "{{\"start\":120,\"stop\":{stop},\"time\":\"1970-01-01T00:00:00+00:00\",\"timestamp\":0,\"thread\":null,\"gtid\":null,"
+        "{{\"start\":120,\"stop\":{stop},\"time\":\"1970-01-01T00:00:00+00:00\",\"timestamp\":0,\"thread\":0,\"gtid\":null,"
     )?;
     let back = format!(in rt.alloc();
         "\"fault\":\"Statement\",\"position\":120,\"statement\":\"{shown}{more}\"}}\n{ONE_REFUSED}"
@@ -121,6 +121,17 @@ fn check_statement(
 fn a_statement_is_shown_up_to_a_thousand_columns(rt: HostRuntime) -> Result<(), Fail> {
     check_statement(&rt, [b'x'; 1000].as_slice(), 1154, "")?;
     check_statement(&rt, [b'x'; 1001].as_slice(), 1155, "..")
+}
+
+#[test]
+fn strings_have_no_control_characters(rt: HostRuntime) -> Result<(), Fail> {
+    let name = b"a\x7f\xc2\x80\xc2\x9b\xc2\xa0";
+    let bytes = build(&rt, &[BEGIN, map_of(1, name), ONE, XID])?;
+    let lines =
+        "{\"start\":120,\"stop\":266,\"time\":\"1970-01-01T00:00:00+00:00\",\"timestamp\":0,\"thread\":0,\"gtid\":null,\"tables\":[{\"schema\":\"d\",\"table\":\"a\\u007f\\u0080\\u009b\u{A0}\",\"inserts\":1,\"updates\":0,\"deletes\":0}]}
+{\"units\":1,\"not_undoable\":0,\"rows\":1,\"passed_over\":0}
+";
+    check_json(&rt, &bytes, &ALL, lines)
 }
 
 #[test]

@@ -78,7 +78,7 @@ units 1, not undoable 0, rows 2
 ";
     check_all(&rt, &SAVEPOINT_KEPT, lines)?;
     let lines = "       240        500  2026-11-22 07:26:55         243  `d`.`k` inserts 1
-       500        682  2026-11-22 07:26:55              Statement at 573: alter table d.k add column z int
+       500        682  2026-11-22 07:26:55         243  Statement at 573: alter table d.k add column z int
        682        947  2026-11-22 07:26:55         243  `d`.`k` inserts 1
 units 3, not undoable 1, rows 2
 ";
@@ -141,7 +141,7 @@ fn a_log_with_checksums_has_its_own_positions(rt: HostRuntime) -> Result<(), Fai
 #[test]
 fn faults_of_units_are_at_the_positions_of_the_log(rt: HostRuntime) -> Result<(), Fail> {
     let lines =
-        "       490        702  2026-11-21 03:01:00              Statement at 567: alter table items add column price decimal(8,2)
+        "       490        702  2026-11-21 03:01:00          16  Statement at 567: alter table items add column price decimal(8,2)
 units 1, not undoable 1, rows 0
 ";
     let wanted = Wanted {
@@ -205,9 +205,31 @@ fn damaged_events_are_counted(rt: HostRuntime) -> Result<(), Fail> {
     let answer = list(rt.alloc(), rt.alloc(), &source, &ALL, &TEXT, &mut output);
     assert_eq!(rt; answer, Ok(None));
     let [first, second, _, fourth] = CLOSED_LINES;
-    let third =
-        "       811       1215  2026-11-21 02:02:00          13  `shop`.`items` deletes 1\n";
-    let last = "units 4, not undoable 0, rows 7\ndamaged events passed over 1\n";
+    let third = "       811       1215  2026-11-21 02:02:00          13  Damaged at 1026: rows\n";
+    let last = "units 4, not undoable 1, rows 6\ndamaged events passed over 1\n";
+    let text = format!(in rt.alloc(); "{HEADER}{first}{second}{third}{fourth}{last}")?;
+    assert_eq!(rt; str::from_utf8(output.device().as_slice())?, text.as_str());
+    Ok(())
+}
+
+/// A damaged event between two transactions is in neither: here the GTID of the second, which is left without one.
+#[test]
+fn a_damaged_event_between_units_is_in_neither(rt: HostRuntime) -> Result<(), Fail> {
+    let mut damaged = CLOSED;
+    damaged[540] ^= 1;
+    let how = Reading {
+        stop: None,
+        skip_damaged: true,
+    };
+    let source = source_with(&rt, &damaged, how)?;
+    let mut output = Watched::new(Vec::new(rt.alloc()));
+    let answer = list(rt.alloc(), rt.alloc(), &source, &ALL, &TEXT, &mut output);
+    assert_eq!(rt; answer, Ok(None));
+    let [first, _, third, fourth] = CLOSED_LINES;
+    let second = "       512        591  2026-11-21 02:01:00              Damaged at 512: a GTID
+       591        811  2026-11-21 02:01:00          13  `shop`.`items` inserts 2
+";
+    let last = "units 5, not undoable 1, rows 9\ndamaged events passed over 1\n";
     let text = format!(in rt.alloc(); "{HEADER}{first}{second}{third}{fourth}{last}")?;
     assert_eq!(rt; str::from_utf8(output.device().as_slice())?, text.as_str());
     Ok(())
@@ -217,12 +239,12 @@ fn damaged_events_are_counted(rt: HostRuntime) -> Result<(), Fail> {
 #[rattlefmt::skip]
 const SHOP_LINES: [&str; 7] = [
     "       194        466  2026-11-21 03:00:00          16  `shop`.`orders` inserts 1\n",
-    "       466        670  2026-11-21 03:01:00              Statement at 539: alter table items add column price decimal(8,2)\n",
+    "       466        670  2026-11-21 03:01:00          16  Statement at 539: alter table items add column price decimal(8,2)\n",
     "       670        943  2026-11-21 03:02:00          16  `shop`.`items` inserts 1\n",
     "       943       1294  2026-11-21 03:03:00          16  `shop`.`orders` inserts 1\n",
-    "      1294       1474  2026-11-21 03:04:00              Statement at 1367: create table t2 (a int)\n",
+    "      1294       1474  2026-11-21 03:04:00          16  Statement at 1367: create table t2 (a int)\n",
     "      1474       1760  2026-11-21 03:05:00          16  `shop`.`items` deletes 2\n",
-    "      1760       1925  2026-11-21 03:06:00              Statement at 1833: truncate table t2\n",
+    "      1760       1925  2026-11-21 03:06:00          16  Statement at 1833: truncate table t2\n",
 ];
 
 /// Checks the list of `IN_USE_PLAIN`: the lines of these numbers, and the last one.
@@ -274,14 +296,14 @@ fn names_choose_units(rt: HostRuntime) -> Result<(), Fail> {
 
 #[test]
 fn threads_choose_units(rt: HostRuntime) -> Result<(), Fail> {
-    let last = "units 4, not undoable 0, rows 5\n";
+    let last = "units 7, not undoable 3, rows 5\n";
     check_shop(
         &rt,
         &Wanted {
             threads: &[3, 16],
             ..ALL
         },
-        &[0, 2, 3, 5],
+        ALL_LINES,
         last,
     )?;
     let last = "units 0, not undoable 0, rows 0\n";
@@ -326,12 +348,29 @@ fn small_logs_have_their_lists(rt: HostRuntime) -> Result<(), Fail> {
     let lines = "       120        186  1970-01-01 00:00:00           0  no rows
        186        289  1970-01-01 00:00:00           0  no rows
        289        443  1970-01-01 00:00:00           0  RolledBack at 401: ROLLBACK
-       443        533  1970-01-01 00:00:00              Statement at 487: DROP TABLE t
+       443        533  1970-01-01 00:00:00           0  Statement at 487: DROP TABLE t
        533        561  1970-01-01 00:00:00              UnknownEvent at 533: a compressed transaction
        561        728  1970-01-01 00:00:00           0  UnknownEvent at 600: a compressed transaction
 units 6, not undoable 4, rows 0
 ";
     check_parts(&rt, SMALL_UNITS, lines, None)
+}
+
+/// Query events, `BEGIN` among them, have a thread. An event of another type has none.
+#[test]
+fn a_unit_without_a_query_is_of_no_thread(rt: HostRuntime) -> Result<(), Fail> {
+    let lines = "       120        186  1970-01-01 00:00:00           0  no rows
+       186        289  1970-01-01 00:00:00           0  no rows
+       289        443  1970-01-01 00:00:00           0  RolledBack at 401: ROLLBACK
+       443        533  1970-01-01 00:00:00           0  Statement at 487: DROP TABLE t
+       561        728  1970-01-01 00:00:00           0  UnknownEvent at 600: a compressed transaction
+units 5, not undoable 3, rows 0
+";
+    let wanted = Wanted {
+        threads: &[0],
+        ..ALL
+    };
+    check(&rt, &build(&rt, SMALL_UNITS)?, &wanted, lines, None)
 }
 
 #[test]
@@ -341,10 +380,43 @@ fn the_beginning_of_a_statement_is_shown(rt: HostRuntime) -> Result<(), Fail> {
         text: b"INSERT\tINTO t\nVALUES ('\xe4\xb8\x96\xe7\x95\x8c\xe4\xb8\x96\xe7\x95\x8c\xff', 'and so on up to sixty columns')",
     };
     let lines =
-        "       120        225  1970-01-01 00:00:00              Statement at 120: INSERT\\tINTO t\\nVALUES ('\u{4E16}\u{754C}\u{4E16}\u{754C}\\xff', 'and so on up to six..
+        "       120        225  1970-01-01 00:00:00           0  Statement at 120: INSERT\\tINTO t\\nVALUES ('\u{4E16}\u{754C}\u{4E16}\u{754C}\\xff', 'and so on up to six..
 units 1, not undoable 1, rows 0
 ";
     check_parts(&rt, &[query], lines, None)
+}
+
+#[test]
+fn a_statement_of_characters_without_width_is_cut(rt: HostRuntime) -> Result<(), Fail> {
+    let mut text = String::from_str(rt.alloc(), "DROP")?;
+    let mut shown = String::from_str(rt.alloc(), "DROP")?;
+    for n in 0..300 {
+        text.push('\u{300}')?;
+        if n < 236 {
+            shown.push('\u{300}')?;
+        }
+    }
+    let query = Part::Query {
+        status: &[],
+        text: text.as_bytes(),
+    };
+    let lines = format!(in rt.alloc();
+        "       120        758  1970-01-01 00:00:00           0  Statement at 120: {shown}..
+units 1, not undoable 1, rows 0
+"
+    )?;
+    check_parts(&rt, &[query], lines.as_str(), None)
+}
+
+#[test]
+fn characters_that_change_a_line_are_escaped(rt: HostRuntime) -> Result<(), Fail> {
+    let name = "a\u{202E}b\u{200B}c\u{61C}\u{FEFF}";
+    let bytes = build(&rt, &[BEGIN, map_of(1, name.as_bytes()), ONE, XID])?;
+    let lines =
+        "       120        272  1970-01-01 00:00:00           0  `d`.`a\\u{202e}b\\u{200b}c\\u{061c}\\u{feff}` inserts 1
+units 1, not undoable 0, rows 1
+";
+    check_all(&rt, &bytes, lines)
 }
 
 #[test]

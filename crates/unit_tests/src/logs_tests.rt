@@ -58,12 +58,12 @@ fn the_lines_of_each_log_are_below_its_name(rt: HostRuntime) -> Result<(), Fail>
     let lines = "     start       stop  time (UTC)               thread  rows
 binlog.000041:
        512        811  2026-11-21 02:01:00          13  `shop`.`items` inserts 2
-       811       1215  2026-11-21 02:02:00          13  `shop`.`items` deletes 1
+       811       1215  2026-11-21 02:02:00          13  Damaged at 1026: rows
 a\\n\\xff\\\\:
-       466        670  2026-11-21 03:01:00              Statement at 539: alter table items add column price decimal(8,2)
+       466        670  2026-11-21 03:01:00          16  Statement at 539: alter table items add column price decimal(8,2)
        670        943  2026-11-21 03:02:00          16  `shop`.`items` inserts 1
       1474       1760  2026-11-21 03:05:00          16  `shop`.`items` deletes 2
-units 5, not undoable 1, rows 6
+units 5, not undoable 2, rows 5
 statements passed over 2
 damaged events passed over 1
 ";
@@ -77,8 +77,8 @@ damaged events passed over 1
     )?;
     let counted = Totals {
         units: 5,
-        refused: 1,
-        rows: 6,
+        refused: 2,
+        rows: 5,
         passed_over: 2,
         damaged: 1,
     };
@@ -105,8 +105,8 @@ fn each_object_has_the_name_of_its_log(rt: HostRuntime) -> Result<(), Fail> {
     let bytes = build(&rt, &[DROP_TABLE])?;
     let second = source_of(&rt, &bytes)?;
     let lines =
-        "{\"log\":\"a\\\"b\",\"start\":120,\"stop\":166,\"time\":\"1970-01-01T00:00:00+00:00\",\"timestamp\":0,\"thread\":null,\"gtid\":null,\"fault\":\"Statement\",\"position\":120,\"statement\":\"DROP TABLE t\"}
-{\"log\":\"\u{FFFD}\",\"log_hex\":\"FF\",\"start\":120,\"stop\":166,\"time\":\"1970-01-01T00:00:00+00:00\",\"timestamp\":0,\"thread\":null,\"gtid\":null,\"fault\":\"Statement\",\"position\":120,\"statement\":\"DROP TABLE t\"}
+        "{\"log\":\"a\\\"b\",\"start\":120,\"stop\":166,\"time\":\"1970-01-01T00:00:00+00:00\",\"timestamp\":0,\"thread\":0,\"gtid\":null,\"fault\":\"Statement\",\"position\":120,\"statement\":\"DROP TABLE t\"}
+{\"log\":\"\u{FFFD}\",\"log_hex\":\"FF\",\"start\":120,\"stop\":166,\"time\":\"1970-01-01T00:00:00+00:00\",\"timestamp\":0,\"thread\":0,\"gtid\":null,\"fault\":\"Statement\",\"position\":120,\"statement\":\"DROP TABLE t\"}
 {\"units\":2,\"not_undoable\":2,\"rows\":0,\"passed_over\":0}
 ";
     let totals = check_two(
@@ -123,7 +123,10 @@ fn each_object_has_the_name_of_its_log(rt: HostRuntime) -> Result<(), Fail> {
     let wanted = of_tables(&elsewhere, &[]);
     let first = damaged(&rt)?;
     let lines =
-        "{\"units\":0,\"not_undoable\":0,\"rows\":0,\"passed_over\":1}\n{\"damaged_events\":1}\n";
+        "{\"start\":811,\"stop\":1215,\"time\":\"2026-11-21T02:02:00+00:00\",\"timestamp\":1795226520,\"thread\":13,\"gtid\":\"283c105d-e730-11f1-97ff-02fc00000001:6\",\"fault\":\"Damaged\",\"position\":1026,\"event\":\"rows\"}
+{\"units\":1,\"not_undoable\":1,\"rows\":0,\"passed_over\":1}
+{\"damaged_events\":1}
+";
     let totals = check_two(&rt, &JSON, &wanted, (&first, None), (&second, None), lines)?;
     assert_eq!(rt; totals.damaged, 1);
     Ok(())

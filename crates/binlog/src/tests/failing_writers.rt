@@ -126,6 +126,32 @@ fn a_long_line_is_cut(rt: HostRuntime) -> Result<(), Fail> {
 }
 
 #[test]
+fn a_long_line_is_cut_between_characters(rt: HostRuntime) -> Result<(), Fail> {
+    let mut name = String::new(rt.alloc());
+    for _ in 0..3000 {
+        name.push('\u{E9}')?;
+    }
+    let outcome = run_arguments(&rt, &["plain", name.as_str()])?;
+    let mut line = String::from_str(rt.alloc(), "binlog: cannot open the log ")?;
+    for _ in 0..2289 {
+        line.push('\u{E9}')?;
+    }
+    line.push('\n')?;
+    assert_eq!(rt; outcome.errors(), line.as_bytes());
+    Ok(())
+}
+
+#[test]
+fn a_line_has_no_control_characters(rt: HostRuntime) -> Result<(), Fail> {
+    let name = "not/there\nbinlog: done\r\x1b[2J\x7f\u{9B}\t\\";
+    let outcome = run_arguments(&rt, &["plain", name])?;
+    let line =
+        "binlog: cannot open the log not/there\\nbinlog: done\\r\\x1b[2J\\x7f\\xc2\\x9b\\t\\\\: No such file or directory (os error 2): see its name and its folder\n";
+    assert_eq!(rt; str::from_utf8(outcome.errors()).ok(), Some(line));
+    Ok(())
+}
+
+#[test]
 fn a_failed_write_of_sql_is_told(rt: HostRuntime) -> Result<(), Fail> {
     let log = path_of(&rt, "unwritten-sql")?;
     fs::write(&rt, log.as_path(), PLAIN.as_slice())?;

@@ -13,7 +13,7 @@ const HEADER: &str = "     start       stop  time (UTC)               thread  ro
 const INSERT: &str = "       120        259  1970-01-01 00:00:00           0  `d`.`t` inserts 1\n";
 
 const DROP: &str =
-    "       259        305  1970-01-01 00:00:00              Statement at 259: DROP TABLE t\n";
+    "       259        305  1970-01-01 00:00:00           0  Statement at 259: DROP TABLE t\n";
 
 /// Whether the run listed these lines and the last one below the header, and printed nothing.
 fn lists(rt: &HostRuntime, arguments: &[&str], lines: &[&str]) -> Result<(), Fail> {
@@ -64,17 +64,16 @@ fn units_are_listed(rt: HostRuntime) -> Result<(), Fail> {
 #[test]
 fn tables_and_threads_choose_units(rt: HostRuntime) -> Result<(), Fail> {
     let all = [INSERT, DROP, "units 2, not undoable 1, rows 1\n"];
-    let insert = [INSERT, "units 1, not undoable 0, rows 1\n"];
     let drop = [DROP, "units 1, not undoable 1, rows 0\n"];
     let none = ["units 0, not undoable 0, rows 0\n"];
     lists(&rt, &["list", "--utc", "-T", "u", "-T", "d.t"], &all)?;
     lists(&rt, &["list", "--utc", "-T", "other.t"], &drop)?;
     lists(&rt, &["list", "--utc", "--exclude-table", "d.t"], &drop)?;
-    lists(&rt, &["list", "--utc", "--thread", "0"], &insert)?;
+    lists(&rt, &["list", "--utc", "--thread", "0"], &all)?;
     lists(
         &rt,
         &["list", "--utc", "--thread", "7", "--thread", "0"],
-        &insert,
+        &all,
     )?;
     lists(&rt, &["list", "--utc", "--thread", "7"], &none)
 }
@@ -92,9 +91,9 @@ units 4, not undoable 0, rows 9
 const WITHOUT_DAMAGED: &str = "     start       stop  time (UTC)               thread  rows
        198        512  2026-11-21 02:00:00          13  `shop`.`orders` inserts 3
        512        811  2026-11-21 02:01:00          13  `shop`.`items` inserts 2
-       811       1215  2026-11-21 02:02:00          13  `shop`.`items` deletes 1
+       811       1215  2026-11-21 02:02:00          13  Damaged at 1026: rows
       1215       1528  2026-11-21 02:03:00          13  `shop`.`orders` updates 1
-units 4, not undoable 0, rows 7
+units 4, not undoable 1, rows 6
 damaged events passed over 1
 ";
 
@@ -134,7 +133,7 @@ fn a_time_zone_is_asked_for(rt: HostRuntime) -> Result<(), Fail> {
 #[test]
 fn units_are_listed_as_json(rt: HostRuntime) -> Result<(), Fail> {
     let text =
-        b"{\"start\":259,\"stop\":305,\"time\":\"1970-01-01T00:00:00+00:00\",\"timestamp\":0,\"thread\":null,\"gtid\":null,\"fault\":\"Statement\",\"position\":259,\"statement\":\"DROP TABLE t\"}
+        b"{\"start\":259,\"stop\":305,\"time\":\"1970-01-01T00:00:00+00:00\",\"timestamp\":0,\"thread\":0,\"gtid\":null,\"fault\":\"Statement\",\"position\":259,\"statement\":\"DROP TABLE t\"}
 {\"units\":1,\"not_undoable\":1,\"rows\":0,\"passed_over\":0}
 ";
     let arguments = ["list", "--utc", "--json", "-j", "121"];

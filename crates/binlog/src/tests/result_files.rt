@@ -1,7 +1,10 @@
 //! Runs whose output goes to a file.
 
 use super::{STOP, path_of, run_arguments, run_log, with_byte};
+use crate::commands::Failure;
+use result_file::FileFault;
 use sample_logs::small::{INSERT_ONE_ROW, PLAIN, SUMMED};
+use std::alloc::Global;
 use std::os::unix::fs::{MetadataExt, symlink};
 use std::test::Fail;
 use std::{env, fs};
@@ -47,6 +50,29 @@ const FULL: (&str, &str) = (
     "cannot write the result file ",
     ": No space left on device (os error 28): see whether its disk is full",
 );
+
+#[test]
+fn standard_output_needs_no_result_file(rt: HostRuntime) -> Result<(), Fail> {
+    for (path, line) in [
+        (
+            "/dev/stdout",
+            "the result file is standard output: /dev/stdout: leave -r out",
+        ),
+        (
+            "/dev/fd/1",
+            "the result file is standard output: /dev/fd/1: leave -r out",
+        ),
+        (
+            "/dev/stdin",
+            "the result file is a symbolic link: /dev/stdin: give the name of the file itself",
+        ),
+    ] {
+        let failure: Failure<'_, Global> = Failure::ResultFile(FileFault::IsLink(path));
+        let shown = format!(in rt.alloc(); "{failure}")?;
+        assert_eq!(rt; shown.as_str(), line);
+    }
+    Ok(())
+}
 
 /// Whether the option names the file that is created.
 fn creates(rt: &HostRuntime, option: &str) -> Result<bool, Fail> {

@@ -40,6 +40,11 @@ fn zones_are_read_from_their_files(rt: HostRuntime) -> Result<(), Fail> {
     fs::write(&rt, file.as_str(), FILE)?;
     let found = zone_in(&rt, folder.as_str(), "Here/Our_Town")?;
     check_zone(&rt, found.as_ref().ok_or("no zone")?, "Here/Our_Town");
+    for name in ["localtime", "posixrules", "Factory"] {
+        let alias = format!(in rt.alloc(); "{}/{name}", folder.as_str())?;
+        fs::write(&rt, alias.as_str(), FILE)?;
+        assert!(rt; zone_in(&rt, folder.as_str(), name)?.is_none(), "{name}");
+    }
     for name in [
         "Here",
         "Here/Other",

@@ -1,5 +1,5 @@
 -- Texts as strings of JSON, and parts of its lines.
-use Rattle.std.specs.Prelude.{◌≡◌, ℕ, ◌==◌, ◌||◌, Bool, not, nat_lt, if◌then◌else◌, List, [], ◌∷◌, ◌++◌, Option, Some, None, codes, encode_utf8}
+use Rattle.std.specs.Prelude.{◌≡◌, ℕ, ◌==◌, ◌&&◌, ◌||◌, Bool, not, nat_le, nat_lt, if◌then◌else◌, List, [], ◌∷◌, ◌++◌, Option, Some, None, codes, encode_utf8}
 use Rattle.std.specs.List.{flat_map}
 use Rattle.std.specs.Str.{is_utf8}
 use Rattle.jiff.specs.Types.{TimeZone}
@@ -15,6 +15,10 @@ use Rattle.blog_list.specs.Times.{IsRfc3339Text}
 abbrev pub json_control : ℕ → List ℕ
 json_control byte = codes "\\u00" ++ encode_lower (byte ∷ [])
 
+-- a control character that JSON allows in a string: U+007F to U+009F
+abbrev pub is_high_control : ℕ → Bool
+is_high_control c = nat_le 0x7F c && nat_le c 0x9F
+
 -- a character of a string
 abbrev pub json_char : ℕ → List ℕ
 json_char c =
@@ -25,14 +29,14 @@ json_char c =
     else if c == 0x0D then codes "\\r"
     else if c == 0x08 then codes "\\b"
     else if c == 0x0C then codes "\\f"
-    else if nat_lt c 0x20 then json_control c
+    else if nat_lt c 0x20 || is_high_control c then json_control c
     else encode_utf8 c
 
 -- bytes as a string, with U+FFFD for what is no character
 abbrev pub json_string : List ℕ → List ℕ
 json_string text = 34 ∷ (flat_map json_char (lossy_chars text) ++ 34 ∷ [])
 
--- a byte of UTF-8 that doesn't stand for itself in a string
+-- a byte of UTF-8 that doesn't stand for itself in a string, in a text without such characters
 abbrev pub is_escaped : ℕ → Bool
 is_escaped byte = (byte == 0x22) || (byte == 0x5C) || nat_lt byte 0x20
 

@@ -15,7 +15,7 @@ use Rattle.blog_source.specs.declared.form.Form.TheVariants.{Places, Plain}
 use Rattle.blog_source.specs.declared.reading.Reading.{Reading}
 use Rattle.blog_source.specs.declared.walk.Step.{Step}
 use Rattle.blog_source.specs.declared.walk.Step.TheVariants.{Keep, PassOver, Refuse}
-use Rattle.blog_source.specs.Found.{Found, check_of, found, found_with}
+use Rattle.blog_source.specs.Found.{Found, check_of, found, found_with, is_wrong_sum}
 use Rattle.blog_source.specs.Handed.{bare, handed, is_tagged}
 use Rattle.blog_source.specs.Plain.{untagged}
 
@@ -93,18 +93,25 @@ pub record IsKept (how : Reading) (sums : Bool) (bytes : List ℕ) (at : ℕ) (h
   pub found : found_left how sums (length bytes) at (drop at bytes)
       ≡ found_with None false (record { pos = at; event = event }) (found_left how sums (length bytes) (at + event_size event) (drop (at + event_size event) bytes))
 
--- an event at a position, of so many bytes, is passed over
-pub record IsPassed (how : Reading) (sums : Bool) (bytes : List ℕ) (at size : ℕ) : Type 0 where
-  pub event : Placed
+-- an event at a position is passed over, since its sum is wrong; this is its header
+pub record IsPassed (how : Reading) (sums : Bool) (bytes : List ℕ) (at : ℕ) (h : Header) : Type 0 where
+  pub event : Event
   pub fault : SumFault
-  pub size_is : size ≡ event_size event.event
-  pub within : at + size ≤ length bytes
+  pub stands : event_at (drop at bytes) ≡ Some event
+  pub header : IsHeaderOf event h
+  pub within : at + h.size ≤ length bytes
+  pub fails : check_of sums (record { pos = at; event = event }) ≡ Some fault
+  pub wrong : is_wrong_sum (Some fault) ≡ true
   pub found : found_left how sums (length bytes) at (drop at bytes)
-      ≡ found_with (Some fault) true event (found_left how sums (length bytes) (at + size) (drop (at + size) bytes))
+      ≡ found_with (Some fault) true (record { pos = at; event = event }) (found_left how sums (length bytes) (at + h.size) (drop (at + h.size) bytes))
+
+-- the header of a damaged event
+abbrev pub damaged_header : Header → Header
+damaged_header h = record h { kind = 255; flags = h.kind }
 
 -- what is said of the event at a position: that it is kept, that it is passed over, or why the reading ends there
 abbrev pub IsStep : Reading → Bool → List ℕ → ℕ → Step → Type 0
 IsStep how sums bytes at (Keep header) = IsKept how sums bytes at header
-IsStep how sums bytes at (PassOver size) = IsPassed how sums bytes at size
+IsStep how sums bytes at (PassOver header) = IsPassed how sums bytes at header
 IsStep how sums bytes at (Refuse fault) =
     found_left how sums (length bytes) at (drop at bytes) ≡ record { kept = []; fault = Some fault; end = at; damaged = 0 }

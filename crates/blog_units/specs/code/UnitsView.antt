@@ -11,14 +11,14 @@ use Rattle.blog_event.specs.code.LogView.{log_bytes}
 use Rattle.blog_trans.specs.Acceptance.{fault, IsAccepted, IsRefusal}
 use Rattle.blog_trans.specs.declared.groups.Index.{Index}
 use Rattle.blog_trans.specs.code.IndexView.{index_bytes, index_selection}
-use Rattle.blog_trans.specs.Places.{is_begin, kind_at, placed}
+use Rattle.blog_trans.specs.Places.{kind_at, placed}
 use Rattle.blog_units.specs.declared.part.Part.{Part}
 use Rattle.blog_units.specs.declared.unit.GlobalId as told
 use Rattle.blog_units.specs.declared.unit.Seen.{Seen}
 use Rattle.blog_units.specs.declared.unit.Unit as given
 use Rattle.blog_units.specs.declared.units.Units.{Units}
 use Rattle.blog_units.specs.code.Boundaries.{IsBoundary, events_behind}
-use Rattle.blog_units.specs.Units.{Facts, Id, between, end_behind, facts_of, is_query_or_rows, opened_by, part_behind, rest_of, thread_of, units_in}
+use Rattle.blog_units.specs.Units.{Facts, Id, between, end_behind, facts_of, is_query, is_query_or_rows, opened_by, part_behind, rest_of, thread_of, units_in}
 
 -- an id of the program, without where its bytes lie
 abbrev pub id_told : told.GlobalId → Id
@@ -70,11 +70,11 @@ timestamp_of p = p.event.timestamp
 
 -- the time and the thread that are known, or those of these events
 abbrev pub seen_of : Seen → List Placed → Seen
-seen_of seen ps = record { time = or_first is_query_or_rows timestamp_of seen.time ps; thread = or_first is_begin thread_of seen.thread ps }
+seen_of seen ps = record { time = or_first is_query_or_rows timestamp_of seen.time ps; thread = or_first is_query thread_of seen.thread ps }
 
 -- the same with one more event
 abbrev pub seen_with : Seen → Placed → Seen
-seen_with seen p = record { time = or_this is_query_or_rows timestamp_of seen.time p; thread = or_this is_begin thread_of seen.thread p }
+seen_with seen p = record { time = or_this is_query_or_rows timestamp_of seen.time p; thread = or_this is_query thread_of seen.thread p }
 
 -- nothing is known
 abbrev pub none_seen : Seen

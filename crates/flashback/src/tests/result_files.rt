@@ -5,6 +5,9 @@ use super::file_names::check_bytes;
 use super::logs::with_byte;
 use super::{ROWS_TYPE, check_done, check_log_refused, check_refusal, path_of};
 use sample_logs::small::INSERT_ONE_ROW;
+use std::fs::Permissions;
+use std::os::unix::fs::{MetadataExt, PermissionsExt};
+use std::path::Path;
 use std::test::Fail;
 use std::{env, fs};
 
@@ -13,6 +16,25 @@ fn an_accepted_log_fills_the_file(rt: HostRuntime) -> Result<(), Fail> {
     let wanted = with_byte(rt.alloc(), ROWS_TYPE, 0x20)?;
     let log = INSERT_ONE_ROW.as_slice();
     check_both_outputs(&rt, "fills", log, &["-B"], wanted.as_slice())
+}
+
+/// Undoes the log of this path in a file. Returns the permissions of the file.
+fn mode_of_result(rt: &HostRuntime, log: &str, file: &Path) -> Result<u32, Fail> {
+    check_done(rt, &["-B", "-r", file.as_str(), log], b"")?;
+    Ok(fs::metadata(rt, file)?.mode() & 0o777)
+}
+
+#[test]
+fn a_new_file_is_for_its_owner_alone(rt: HostRuntime) -> Result<(), Fail> {
+    let log = path_of(&rt, "mode-log")?;
+    fs::write(&rt, log.as_path(), INSERT_ONE_ROW.as_slice())?;
+    let file = path_of(&rt, "mode")?;
+    assert_eq!(rt; mode_of_result(&rt, log.as_str(), &file.as_path())?, 0o600);
+    fs::set_permissions(&rt, file.as_path(), Permissions::from_mode(0o640))?;
+    assert_eq!(rt; mode_of_result(&rt, log.as_str(), &file.as_path())?, 0o640);
+    fs::remove_file(&rt, file.as_path())?;
+    fs::remove_file(&rt, log.as_path())?;
+    Ok(())
 }
 
 /// The log of this path is undone in its own file.

@@ -26,6 +26,9 @@ fn put_char<A: Allocator>(out: &mut Vec<u8, A>, c: char) -> Result<(), AllocErro
         '\t' => put_text(out, b"\\t"),
         '\r' => put_text(out, b"\\r"),
         _ if c.is_control() => put_escapes(out, c.encode_utf8(&mut [0; 4]).as_bytes()),
+        '\u{2028}' => put_text(out, b"\\u{2028}"),
+        '\u{2029}' => put_text(out, b"\\u{2029}"),
+        '\u{FEFF}' => put_text(out, b"\\u{feff}"),
         _ => put_text(out, c.encode_utf8(&mut [0; 4]).as_bytes()),
     }
 }

@@ -2,6 +2,7 @@
 
 use blog_event::constants::{FORMAT_DESCRIPTION_EVENT, QUERY_EVENT};
 use blog_event::{Event, Fault, Log};
+use blog_source::DAMAGED_EVENT;
 use blog_trans::query_text;
 
 /// The types of events that say by themselves why a log is refused (MySQL Internals manual, "Event Classes and Types"; MariaDB
@@ -47,9 +48,32 @@ fn event_words(kind: u8) -> Option<&'static str> {
     }
 }
 
+/// Returns what a damaged event was.
+fn damaged_words(kind: u16) -> Option<&'static str> {
+    match kind {
+        2 => Some("a query"),
+        16 => Some("the end of a transaction"),
+        19 => Some("a table map"),
+        33 | 34 | 42 => Some("a GTID"),
+        23..=25 | 30..=32 | 39 => Some("rows"),
+        _ => None,
+    }
+}
+
+/// Returns the name of a fault, `Damaged` if the event there is damaged.
+pub(crate) fn name_in(log: &Log<'_>, fault: &Fault, below: u32) -> &'static str {
+    match event_of_fault(log, fault, below) {
+        Some(event) if event.header.kind == DAMAGED_EVENT => "Damaged",
+        _ => fault.name(),
+    }
+}
+
 /// Returns what the event of a fault is, where that explains the fault and it lies below a position.
 pub(crate) fn words_of(log: &Log<'_>, fault: &Fault, below: u32) -> Option<&'static str> {
     let event = event_of_fault(log, fault, below)?;
+    if event.header.kind == DAMAGED_EVENT {
+        return damaged_words(event.header.flags);
+    }
     match fault {
         Fault::UnknownEvent { .. } => event_words(event.header.kind),
         Fault::OutOfPlace { .. } => {

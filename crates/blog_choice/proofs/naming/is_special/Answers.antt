@@ -12,4 +12,4 @@ pub returns-else-is_empty : goal.returns-else-is_empty
 unfolding is_special
 returns-else-is_empty c =
     rw (nil-by-length c.args.name.now c.is_empty.result c.is_empty.ensures c.if-is_empty.false)
-    (any_from_yields_List (λ byte. byte == 96 || nat_le 128 byte) _ _ _ c.any.ensures.ran (YieldsList-from_slice c.args.name.now cc) (λ x b q k. search (rules, tests)))
+    (any_from_yields_List (λ byte. byte == 34 || (byte == 96 || nat_le 128 byte)) _ _ _ c.any.ensures.ran (YieldsList-from_slice c.args.name.now cc) (λ x b q k. search (rules, tests)))

@@ -1,8 +1,11 @@
 -- Each event that is kept is handed out; the reading ends where none is left.
-use Rattle.std.proofs.Common.{◌+◌, ◌∙◌, sym, ap, arith, inl, inr}
+use Rattle.std.proofs.Common.{◌≡◌, ◌+◌, ◌≤◌, ◌++◌, ◌∙◌, take, drop, sym, subst, ap, arith, inl, inr}
+use Rattle.blog_event.specs.declared.event.Header.{Header}
+use Rattle.blog_event.specs.Event.{event_size, event_text}
 use Rattle.blog_source.specs.Found.{Found}
+use Rattle.blog_source.specs.code.Walk.{moved}
 use Rattle.blog_source.proofs.Left.{found-whole}
-use Rattle.blog_source.proofs.Handing.{ended-text, kept-found, kept-put}
+use Rattle.blog_source.proofs.Handing.{ended-text, kept-found, kept-put, passed-found, passed-put}
 use Rattle.blog_source.proofs.walk.hand_out.Goals as goal
 
 pub events-preserved-in-Keep : goal.events-preserved-in-Keep
@@ -20,6 +23,35 @@ events-preserved-in-Keep c =
       end = ap (λ (f : Found). f.end) (sym same) ∙ old.end;
       damaged = ap (λ (f : Found). c.events.damaged + f.damaged) (sym same) ∙ old.damaged;
       few = omega (arith, old.few);
+    }
+
+-- one that is passed over is handed out as a damaged one
+pub events-preserved : goal.events-preserved
+events-preserved c =
+    let passed = c.in-PassOver.ensures in
+    let put = c.put_kept-to-in-PassOver.ensures in
+    let old = c.events.invariant in
+    let header : Header = c.in-PassOver.header in
+    let bytes = c.events.bytes in
+    let new = c.put_kept-to-in-PassOver.new.bytes in
+    let at = c.events.at in
+    let to = c.events.to in
+    let next = c.put_kept-to-in-PassOver.result in
+    let is = c.damaged_header.ensures in
+    let behind : drop (at + header.size) new ≡ drop (at + header.size) bytes = subst (λ (h : Header). drop (at + h.size) new ≡ drop (at + h.size) bytes) is put.behind in
+    let front = subst (λ (h : Header). take next new ≡ take to bytes ++ event_text (moved c.args.form c.args.sums to at h bytes)) is put.front in
+    let end = subst (λ (h : Header). next ≡ to + event_size (moved c.args.form c.args.sums to at h bytes)) is put.end in
+    let before : next ≤ at + header.size = subst (λ (h : Header). next ≤ at + h.size) is put.before in
+    let same = passed-found c.args.how c.args.sums bytes new at header passed put.len behind in
+    let counted = ap (λ (f : Found). f.damaged) same in record {
+      order = before;
+      within = omega (arith, put.len, passed.within);
+      len = put.len ∙ old.len;
+      text = passed-put c.args.how c.args.form c.args.sums bytes new at to next header passed put.len behind end front ∙ old.text;
+      fault = ap (λ (f : Found). f.fault) (sym same) ∙ old.fault;
+      end = ap (λ (f : Found). f.end) (sym same) ∙ old.end;
+      damaged = omega (arith, counted, old.damaged);
+      few = omega (arith, old.few, passed.header.size);
     }
 
 pub returns-else-at-bytes-clause-text : goal.returns-else-at-bytes-clause-text
