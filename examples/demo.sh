@@ -2,7 +2,7 @@
 # Undoes a log that a MySQL server wrote, shows its events before and after, and undoes the undoing.
 # Then tries to undo the log without its last byte, which is refused.
 # Then lists and undoes a log with checksums, by way of the same log without; without its last byte it is refused too.
-# At last cuts the statement of the log that undoes the first one.
+# At last cuts the log that undoes the first one to a size that its statement doesn't exceed, and prints it as SQL.
 # Arguments: the program, the log, the file for the new log, the program for logs with checksums, and such a log.
 set -eu
 program=$1 log=$2 undo=$3 binlog=$4 summed=$5
@@ -86,8 +86,8 @@ if ! cmp "$undo.twice" "$undo.normal"; then
     exit 1
 fi
 echo "Undone, and undone again: the same as its changes in normal form, byte for byte."
-echo "\$ $binlog split --size 50 $undo     (its statement of two rows events becomes two statements)"
-"$binlog" split --size 50 "$undo" > "$undo.split"
+echo "\$ $binlog split --size 1024 $undo     (its statement has fewer bytes, so it stays whole)"
+"$binlog" split --size 1024 "$undo" > "$undo.split"
 "$program" --summary "$undo"
 "$program" --summary "$undo.split"
 "$program" -B --sql "$undo" > "$undo.normal"

@@ -82,13 +82,15 @@ of_binlog() {
     refuse_each 0 plain crc32_closed.binlog
     refuse_each 0 plain --force -r result crc32_closed.binlog
     refuse_each 0 list --json -d d -T t -j 4 --start-datetime "2026-01-01 00:00:00" multi_table.binlog
-    refuse_each 0 split --size 40 multi_table.binlog
-    refuse_each 0 sql --keep-times --rewrite-db d:e --rewrite-db f:g multi_table.binlog
+    refuse_each 0 split --size 1024 multi_table.binlog
+    refuse_each 0 sql --keep-times --rewrite-db d:e --rewrite-db d:g multi_table.binlog
+    refuse_each 1 sql --rewrite-db f:g multi_table.binlog
     refuse_each 0 --help
     refuse_each 0 sql --help
     refuse_each 2
     refuse_each 2 other multi_table.binlog
     refuse_each 2 list -j x multi_table.binlog
+    refuse_each 2 plain multi_table.binlog "$(printf 'a\tb')"
 }
 
 "of_$program"

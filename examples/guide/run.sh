@@ -95,7 +95,7 @@ commands() {
 # a command as it is run here
 as_run_here() {
     printf '%s\n' "$1" | sed -e "s|/var/lib/mysql|$work/data|" -e 's/| less$/| cat/' -e 's/^less .*/cat around.txt/' \
-        -e 's/; echo \$?$//' -e 's/^binlog sql /binlog sql --size 1 /' -e "s/2026-11-22 02:50:00/$from/" -e "s/2026-11-22 03:10:00/$to/" \
+        -e 's/; echo \$?$//' -e 's/^binlog sql /binlog sql --size 1024 /' -e "s/2026-11-22 02:50:00/$from/" -e "s/2026-11-22 03:10:00/$to/" \
         -e "s/4021/$start/g" -e "s/9144/$stop/g"
 }
 

@@ -2,6 +2,7 @@
 
 use blog_device::RunFault;
 use blog_split::SplitRunFault;
+use blog_sql::SqlFault;
 use blog_sum::SumFault;
 use std::alloc::AllocError;
 use std::io;
@@ -22,9 +23,12 @@ pub enum Failure {
     /// A run ended early.
     #[error("a run ended early: {0:?}")]
     Run(RunFault),
-    /// A log was not cut, or not printed as SQL.
+    /// A log was not cut.
     #[error("a log was not cut: {0:?}")]
     Split(SplitRunFault),
+    /// A log was not printed as SQL.
+    #[error("a log was not printed as SQL: {0:?}")]
+    Sql(SqlFault),
     /// A log was not read.
     #[error("a log was not read: {0:?}")]
     Sum(SumFault),
@@ -42,6 +46,12 @@ impl From<RunFault> for Failure {
 impl From<SplitRunFault> for Failure {
     fn from(fault: SplitRunFault) -> Failure {
         Failure::Split(fault)
+    }
+}
+
+impl From<SqlFault> for Failure {
+    fn from(fault: SqlFault) -> Failure {
+        Failure::Sql(fault)
     }
 }
 

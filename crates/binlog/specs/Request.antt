@@ -46,10 +46,19 @@ pub record IsNewLogTask (found : Found) (task : NewLogTask) : Type 0 where
   pub result_file : option_map (λ path. path.now) task.result_file ≡ first_value found (codes "result-file")
   pub force : task.force ≡ is_given found (codes "force")
 
+-- how many bytes a statement may have: decimal digits and nothing else, at least 1,024 and below 2^32
+abbrev pub IsSize : List ℕ → Type 0
+IsSize value = IsPosition value × (1024 ≤ digits_value 10 value)
+
 -- the number of bytes that an option's value means, and 8,000,000 where it has no value
 abbrev pub IsSizeOf : Option (List ℕ) → ℕ → Type 0
 IsSizeOf None size = size ≡ 8000000
-IsSizeOf (Some value) size = IsPosition value × (size ≡ digits_value 10 value)
+IsSizeOf (Some value) size = IsSize value × (size ≡ digits_value 10 value)
+
+-- an option's value means no such number
+abbrev pub IsWrongSize : Option (List ℕ) → Type 0
+IsWrongSize None = ⊥
+IsWrongSize (Some value) = ¬ (IsSize value)
 
 -- of the values behind this command, which the parser found
 abbrev pub IsBehind : List ℕ → ArgMatches → (Found → Type 0) → Type 0
@@ -155,6 +164,12 @@ RefusesPosition value (Wrong text) = IsWrongPosition value
 RefusesPosition value NotText = ⊥
 RefusesPosition value OutOfMemory = ⊤
 
+-- why an option has no number of bytes: its value means none, or memory was refused
+abbrev pub RefusesSize : {A : Type 0} → Option (List ℕ) → ArgumentsFault A → Type 0
+RefusesSize value (Wrong text) = IsWrongSize value
+RefusesSize value NotText = ⊥
+RefusesSize value OutOfMemory = ⊤
+
 -- one of these values means no number
 abbrev pub HasWrongNumber : List (List ℕ) → Type 0
 HasWrongNumber values = (n : ℕ) × (value : List ℕ) × (slice_get values n ≡ Some value) × IsWrongPosition (Some value)
@@ -201,11 +216,11 @@ RefusesList found OutOfMemory = ⊤
 
 -- why no log with its statements cut is asked for: the number of bytes behind the command `split` is wrong, or memory was refused
 abbrev pub RefusesSplit : {A : Type 0} → ArgMatches → ArgumentsFault A → Type 0
-RefusesSplit matches fault = IsBehind (codes "split") matches (λ found. RefusesPosition (first_value found (codes "size")) fault)
+RefusesSplit matches fault = IsBehind (codes "split") matches (λ found. RefusesSize (first_value found (codes "size")) fault)
 
 -- why no SQL is asked for: the number of bytes or a pair of schemas is wrong, or memory was refused
 abbrev pub RefusesSql : {A : Type 0} → Found → ArgumentsFault A → Type 0
-RefusesSql found fault = RefusesPosition (first_value found (codes "size")) fault ⊎ RefusesSchemas (all_values found (codes "rewrite-db")) fault
+RefusesSql found fault = RefusesSize (first_value found (codes "size")) fault ⊎ RefusesSchemas (all_values found (codes "rewrite-db")) fault
 
 -- the parser found the command of this name
 abbrev pub names : ArgMatches → List ℕ → Bool

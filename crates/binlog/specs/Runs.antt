@@ -30,7 +30,7 @@ use Rattle.binlog.specs.declared.list_arguments.ListTask.{ListTask}
 use Rattle.binlog.specs.declared.commands.Failure.{Failure}
 use Rattle.binlog.specs.declared.commands.Failure.TheVariants.{NewLog as NoNewLog, List as NoList, EndsEarly, Unread}
 use Rattle.binlog.specs.declared.commands.NewLogFault.{NewLogFault}
-use Rattle.binlog.specs.declared.commands.NewLogFault.TheVariants.{Run, Sums, Split as Cut}
+use Rattle.binlog.specs.declared.commands.NewLogFault.TheVariants.{Run, Sums, Split as Cut, NoSchema}
 use Rattle.binlog.specs.declared.arguments.Making.{Making}
 use Rattle.binlog.specs.declared.arguments.Making.TheVariants.{Plain, Split, Sql}
 use Rattle.blog_split.specs.declared.fault.SplitFault.{SplitFault}
@@ -40,10 +40,13 @@ use Rattle.blog_split.specs.declared.fault.SplitRunFault.TheVariants as run
 use Rattle.blog_split.specs.Laws.{IsSplit, KeepsChanges}
 use Rattle.blog_split.specs.Splitting.{IsTooLong}
 use Rattle.blog_trans.specs.Selection.{all}
-use Rattle.blog_sql.specs.OfLog.{printed, printed_end}
+use Rattle.blog_sql.specs.Changed.{without_schema}
+use Rattle.blog_sql.specs.OfLog.{HasSchemas, printed, printed_end}
+use Rattle.blog_sql.specs.declared.fault.SqlFault.{SqlFault}
+use Rattle.blog_sql.specs.declared.fault.SqlFault.TheVariants as sql
 use Rattle.blog_sql.specs.declared.options.SqlOptions.{SqlOptions}
 use Rattle.blog_trans.specs.Acceptance.{IsAccepted, IsRefusal, fault}
-use Rattle.blog_trans.specs.Groups.{Transaction}
+use Rattle.blog_trans.specs.Groups.{Transaction, groups}
 
 -- this log was read, and it isn't whole: this is its first fault
 abbrev pub RefusesSums : Option (List ℕ) → Option (List ℕ) → SumFault → Type 0
@@ -61,15 +64,19 @@ RefusesCut limit handed end TooLongCut = IsTooLong limit handed
 -- the log that a source hands out can't be printed as SQL: memory was refused, or it has this fault, or what is printed is too long
 abbrev pub RefusesSql : ℕ → SqlOptions → List ℕ → ℕ → SplitFault → Type 0
 RefusesSql limit how handed end (OfLog cause) = (inner : Fault) × IsRefusal (fault handed all) inner × IsPlaced handed end inner cause
-RefusesSql limit how handed end TooLongCut = IsAccepted handed all × (4294967295 < printed_end how limit handed all)
+RefusesSql limit how handed end TooLongCut = HasSchemas how handed × (4294967295 < printed_end how limit handed all)
+
+-- the log that a source hands out changes no table of a schema that is to have another name, the one of this number
+abbrev pub LacksSchema : SqlOptions → List ℕ → ℕ → Type 0
+LacksSchema how handed n = IsAccepted handed all × (without_schema (groups handed all) how.schemas.now ≡ Some n)
 
 -- a log with the same changes as another in statements of at most so many bytes
 abbrev pub IsCutOf : ℕ → List ℕ → List ℕ → Type 0
 IsCutOf limit log text = (cut : List Transaction) × IsSplit limit log all cut text × KeepsChanges limit log all cut text
 
--- this text is the SQL of a log, with statements of at most so many bytes
+-- this text is the SQL of a log that has the schemas which are to have another name, with statements of at most so many bytes
 abbrev pub IsSqlOf : ℕ → SqlOptions → List ℕ → List ℕ → Type 0
-IsSqlOf limit how log text = IsAccepted log all × (text ≡ printed how limit log all)
+IsSqlOf limit how log text = HasSchemas how log × (text ≡ printed how limit log all)
 
 -- what is made of a log, each of whose sums is right: the same without checksums, or one with its statements cut, or its SQL
 abbrev pub IsMadeOf : Making → List ℕ → List ℕ → Type 0
@@ -83,15 +90,22 @@ RefusesNewLog Plain log fault = ⊥
 RefusesNewLog (Split limit) log fault = (sum_fault log ≡ None) × RefusesCut limit (handed_log whole_reading log) (found_of whole_reading log).end fault
 RefusesNewLog (Sql limit how) log fault = (sum_fault log ≡ None) × RefusesSql limit how (handed_log whole_reading log) (found_of whole_reading log).end fault
 
+-- a log, each of whose sums is right, changes no table of a schema that is to have another name in its SQL
+abbrev pub RefusesSchemas : Making → List ℕ → Type 0
+RefusesSchemas Plain log = ⊥
+RefusesSchemas (Split limit) log = ⊥
+RefusesSchemas (Sql limit how) log = (sum_fault log ≡ None) × ((n : ℕ) × LacksSchema how (handed_log whole_reading log) n)
+
 -- what comes of reading a log and opening it as a source: a source that is whole; or that it can't be held, that a read failed,
 -- or that it isn't whole
-abbrev pub OpensWhole : {A : Type 0} → Option (List ℕ) → Option (List ℕ) → Result (Source A) NewLogFault → Type 0
+abbrev pub OpensWhole : {A : Type 0} → Option (List ℕ) → Option (List ℕ) → Result (Source A) (NewLogFault A) → Type 0
 OpensWhole old new (Ok source) = (log : List ℕ) × ReadsLog old new log × (sum_fault log ≡ None) × (log_of source ≡ handed_log whole_reading log) × (end_of source ≡ (found_of whole_reading log).end)
 OpensWhole old new (Err (Run (Log fault))) = (fault ≡ NoMemory) ⊎ ((fault ≡ TooLong 0) × PassesLimit greatest_length old new)
 OpensWhole old new (Err (Run Read)) = ⊤
 OpensWhole old new (Err (Run Write)) = ⊥
 OpensWhole old new (Err (Sums fault)) = RefusesSums old new fault
 OpensWhole old new (Err (Cut fault)) = ⊥
+OpensWhole old new (Err (NoSchema text)) = ⊥
 
 -- what comes of cutting the statements of the log that a source hands out, and writing that
 abbrev pub SplitsSource : ℕ → List ℕ → ℕ → Option (List ℕ) → Option (List ℕ) → Result Unit SplitRunFault → Type 0
@@ -100,49 +114,53 @@ SplitsSource limit handed end had has (Err (run.Split fault)) = RefusesCut limit
 SplitsSource limit handed end had has (Err run.Write) = (text : List ℕ) × IsCutOf limit handed text × AppendsBeginning had has text
 
 -- what comes of printing the log that a source hands out as SQL
-abbrev pub PrintsSource : ℕ → SqlOptions → List ℕ → ℕ → Option (List ℕ) → Option (List ℕ) → Result Unit SplitRunFault → Type 0
+abbrev pub PrintsSource : ℕ → SqlOptions → List ℕ → ℕ → Option (List ℕ) → Option (List ℕ) → Result Unit SqlFault → Type 0
 PrintsSource limit how handed end had has (Ok done) = (text : List ℕ) × IsSqlOf limit how handed text × Appends had has text
-PrintsSource limit how handed end had has (Err (run.Split fault)) = RefusesSql limit how handed end fault
-PrintsSource limit how handed end had has (Err run.Write) = (text : List ℕ) × IsSqlOf limit how handed text × AppendsBeginning had has text
+PrintsSource limit how handed end had has (Err (sql.Run (run.Split fault))) = RefusesSql limit how handed end fault
+PrintsSource limit how handed end had has (Err (sql.Run run.Write)) = (text : List ℕ) × IsSqlOf limit how handed text × AppendsBeginning had has text
+PrintsSource limit how handed end had has (Err (sql.NoSchema n)) = LacksSchema how handed n
 
 -- what comes of making a new log of the log that is read, and writing it: the whole new log is written, or a beginning of it
 -- where a write failed, or nothing
-abbrev pub WritesNewLog : Making → Option (List ℕ) → Option (List ℕ) → Option (List ℕ) → Option (List ℕ) → Result Unit NewLogFault → Type 0
+abbrev pub WritesNewLog : {A : Type 0} → Making → Option (List ℕ) → Option (List ℕ) → Option (List ℕ) → Option (List ℕ) → Result Unit (NewLogFault A) → Type 0
 WritesNewLog making old new had has (Ok done) = (log text : List ℕ) × ReadsLog old new log × IsMadeOf making log text × Appends had has text
 WritesNewLog making old new had has (Err (Run (Log fault))) = ((fault ≡ NoMemory) ⊎ ((fault ≡ TooLong 0) × PassesLimit greatest_length old new)) × Keeps had has
 WritesNewLog making old new had has (Err (Run Read)) = Keeps had has
 WritesNewLog making old new had has (Err (Run Write)) = (log text : List ℕ) × ReadsLog old new log × IsMadeOf making log text × AppendsBeginning had has text
 WritesNewLog making old new had has (Err (Sums fault)) = RefusesSums old new fault × Keeps had has
 WritesNewLog making old new had has (Err (Cut fault)) = (log : List ℕ) × ReadsLog old new log × RefusesNewLog making log fault × Keeps had has
+WritesNewLog making old new had has (Err (NoSchema text)) = (log : List ℕ) × ReadsLog old new log × RefusesSchemas making log × Keeps had has
 
 -- why a new log can't be made or written, where its statements are cut while it is written
-abbrev pub new_log_fault : SplitRunFault → NewLogFault
+abbrev pub new_log_fault : {A : Type 0} → SplitRunFault → NewLogFault A
 new_log_fault (run.Split fault) = Cut fault
 new_log_fault run.Write = Run Write
 
 -- the outcome is that of making and writing a new log, of which this holds
-abbrev pub OfNewLog : {A : Type 0} → (Result Unit NewLogFault → Type 0) → Result Unit (Failure A) → Type 0
+abbrev pub OfNewLog : {A : Type 0} → (Result Unit (NewLogFault A) → Type 0) → Result Unit (Failure A) → Type 0
 OfNewLog P (Ok done) = P (Ok done)
 OfNewLog P (Err (NoNewLog fault)) = P (Err fault)
 OfNewLog P (Err failure) = ⊥
 
 -- the answer is that a read failed
-abbrev pub is_failed_read : {X : Type 0} → Result X NewLogFault → Bool
+abbrev pub is_failed_read : {A X : Type 0} → Result X (NewLogFault A) → Bool
 is_failed_read (Ok x) = false
 is_failed_read (Err (Run (Log fault))) = false
 is_failed_read (Err (Run Read)) = true
 is_failed_read (Err (Run Write)) = false
 is_failed_read (Err (Sums fault)) = false
 is_failed_read (Err (Cut fault)) = false
+is_failed_read (Err (NoSchema text)) = false
 
 -- the answer is that a write failed
-abbrev pub is_failed_write : {X : Type 0} → Result X NewLogFault → Bool
+abbrev pub is_failed_write : {A X : Type 0} → Result X (NewLogFault A) → Bool
 is_failed_write (Ok x) = false
 is_failed_write (Err (Run (Log fault))) = false
 is_failed_write (Err (Run Read)) = false
 is_failed_write (Err (Run Write)) = true
 is_failed_write (Err (Sums fault)) = false
 is_failed_write (Err (Cut fault)) = false
+is_failed_write (Err (NoSchema text)) = false
 
 -- ---- lists
 

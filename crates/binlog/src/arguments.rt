@@ -1,20 +1,20 @@
 //! Which arguments mean what.
 
-ghost use Rattle.std.specs.Prelude.{◌≡◌, IfErr, IfOk, Ok, codes, true};
+ghost use Rattle.std.specs.Prelude.{◌≡◌, IfErr, IfOk, Ok, codes, false, true};
 ghost use Rattle.clap.specs.Words.{first_value, found_of};
 ghost use Rattle.console.specs.Positions.{IsPositionOf};
-ghost use Rattle.binlog.specs.Request.{HasShortSchemas, IsNewLogTask, IsSizeOf, IsRead, RefusesPosition, asks_for_list, is_given, is_list};
+ghost use Rattle.binlog.specs.Request.{HasShortSchemas, IsNewLogTask, IsSizeOf, IsRead, RefusesPosition, RefusesSize, asks_for_list, is_given, is_list};
 ghost use Rattle.binlog.specs.declared.arguments.ArgumentsFault.TheVariants.{OutOfMemory};
 
 use crate::list_arguments::{ListTask, read_list};
 use crate::options::{
-    DEFAULT_SIZE, FORCE, LIST, LOG, PLAIN, RESULT_FILE, SIZE, SPLIT, SQL, all_arguments,
+    DEFAULT_SIZE, FORCE, LEAST_SIZE, LIST, LOG, PLAIN, RESULT_FILE, SIZE, SPLIT, SQL, all_arguments,
 };
 use crate::sql_arguments::{SqlTask, read_sql};
 use blog_sql::SqlOptions;
 use clap::error::ErrorKind;
 use clap::{ArgMatches, Command, Error};
-use console::{Told, position_of, read_error, wrong_value};
+use console::{Told, are_harmless, escaped_arguments, position_of, read_error, wrong_value};
 use std::alloc::{AllocError, Allocator};
 use std::rt::{Env, Files};
 
@@ -36,7 +36,7 @@ pub enum Asked<'a, A: Allocator> {
 pub enum Making<'m> {
     /// The same log without checksums.
     Plain,
-    /// The same changes, in statements whose rows events have at most so many bytes.
+    /// The same changes, in statements of at most so many bytes.
     Split(u32),
     /// SQL that makes the same changes, in such statements.
     Sql(u32, SqlOptions<'m>),
@@ -87,7 +87,30 @@ pub fn read_arguments<'a, R: Files + Env + AllocGlobal, A: Allocator + Copy>(
     let lists = asks_for_list(arguments);
     let mut command = all_arguments(rt.alloc())?;
     let parsed = command.try_get_matches_from_mut(arguments);
+    if parsed.is_err() && !are_harmless(arguments) {
+        return read_escaped(rt, alloc, arguments);
+    }
     read_parsed(rt, alloc, &mut command, parsed, lists)
+}
+
+/// Answers what the parser tells of wrong arguments once they are escaped, so that its text has no control character of theirs.
+fn read_escaped<'a, R: AllocGlobal, A: Allocator + Copy>(
+    rt: &R,
+    alloc: A,
+    arguments: &[String],
+) -> Result<Asked<'a, A>, ArgumentsFault<A>>
+    ensures list { IfOk result (λ asked. is_list asked ≡ false) }
+    ensures names { IfOk result HasShortSchemas }
+{
+    let escaped = escaped_arguments(rt.alloc(), arguments)?;
+    let mut command = all_arguments(rt.alloc())?;
+    match command.try_get_matches_from_mut(escaped.as_slice()) {
+        Ok(_) => Err(ArgumentsFault::Wrong(wrong_command(alloc, &mut command)?)),
+        Err(error) => match read_error(alloc, &error)? {
+            Told::Asked(text) => Ok(Asked::Text(text)),
+            Told::Wrong(text) => Err(ArgumentsFault::Wrong(text)),
+        },
+    }
 }
 
 /// Whether the argument behind the program's name is `list`.
@@ -160,17 +183,25 @@ fn wrong_command<A: Allocator>(
     error.to_string(alloc)
 }
 
-/// How many bytes the rows events of a statement may have.
+/// How many bytes a statement may have.
 pub(crate) fn read_size<'a, A: Allocator + Copy>(
     alloc: A,
     command: &mut Command<'a>,
     found: &ArgMatches<'a>,
 ) -> Result<u32, ArgumentsFault<A>>
     ensures size { IfOk result (IsSizeOf (first_value (found_of found.now) (codes "size"))) }
-    ensures wrong { IfErr result (RefusesPosition (first_value (found_of found.now) (codes "size"))) }
+    ensures wrong { IfErr result (RefusesSize (first_value (found_of found.now) (codes "size"))) }
 {
-    let size = read_number(alloc, command, found, SIZE, "BYTES", BYTES)?;
-    Ok(size.unwrap_or(DEFAULT_SIZE))
+    let Some(text) = found.get_str(SIZE) else {
+        return Ok(DEFAULT_SIZE);
+    };
+    match position_of(text) {
+        Some(size) if size >= LEAST_SIZE => Ok(size),
+        _ => {
+            let told = wrong_number(alloc, command, SIZE, "BYTES", text, BYTES)?;
+            Err(ArgumentsFault::Wrong(told))
+        }
+    }
 }
 
 fn read_task<'a>(found: &ArgMatches<'a>, making: Making<'a>) -> NewLogTask<'a, 'a>
@@ -194,9 +225,9 @@ pub(crate) fn is_given(found: &ArgMatches<'_>, name: &str) -> bool
 }
 
 /// What a number of bytes is, as it is told of a value that is none.
-const BYTES: &str = "a number of bytes: decimal digits, 0 to 4294967295";
+const BYTES: &str = "a number of bytes: decimal digits, 1024 to 4294967295";
 
-/// The number that this option has, where it is there: a position, or so many bytes.
+/// The number that this option has, where it is there: a position.
 pub(crate) fn read_number<'a, A: Allocator + Copy>(
     alloc: A,
     command: &mut Command<'a>,
@@ -214,7 +245,19 @@ pub(crate) fn read_number<'a, A: Allocator + Copy>(
     if let Some(number) = position_of(text) {
         return Ok(Some(number));
     }
-    let option = format!(in alloc; "{name} <{value}>")?;
-    let told = wrong_value(alloc, command, option.as_str(), text, has_to_be)?;
+    let told = wrong_number(alloc, command, name, value, text, has_to_be)?;
     Err(ArgumentsFault::Wrong(told))
+}
+
+/// What is told of a text that is no number that the option can have.
+fn wrong_number<A: Allocator + Copy>(
+    alloc: A,
+    command: &mut Command<'_>,
+    name: &str,
+    value: &str,
+    text: &str,
+    has_to_be: &str,
+) -> Result<String<A>, AllocError> {
+    let option = format!(in alloc; "{name} <{value}>")?;
+    wrong_value(alloc, command, option.as_str(), text, has_to_be)
 }

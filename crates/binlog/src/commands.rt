@@ -5,6 +5,7 @@ ghost use Rattle.std.specs.Process.{exit_status};
 ghost use Rattle.blog_device.specs.Watched.{device_of, has_failed};
 ghost use Rattle.binlog.specs.Request.{HasShortMaking, HasSqlOptions, asks_for_list};
 ghost use Rattle.blog_sql.specs.Changed.{HasShortNames, HaveShortNames};
+ghost use Rattle.blog_sql.specs.OfLog.{is_before_writing, is_failed_writing};
 ghost use Rattle.blog_sql.specs.declared.options.SqlOptions.{SqlOptions};
 ghost use Rattle.binlog.specs.Status.{status_of};
 ghost use Rattle.blog_split.specs.SplittingTo.{ends_before_writing, is_writing_fault};
@@ -18,12 +19,13 @@ ghost use Rattle.binlog.specs.declared.arguments.Making.TheVariants as made;
 use crate::arguments::{ArgumentsFault, Asked, Making, NewLogTask, read_arguments};
 use crate::list_runs::run_list;
 use crate::log_file::{LogFault, open_log};
+use crate::schemas::no_schema;
 use crate::sql_arguments::SqlTask;
 use blog_device::{RunFault, Watched, put, read_log};
 use blog_event::Fault;
 use blog_source::{Source, plain};
 use blog_split::{SplitFault, SplitRunFault, split_to};
-use blog_sql::{SqlOptions, sql_of_log};
+use blog_sql::{SqlFault, SqlOptions, sql_of_log};
 use blog_sum::SumFault;
 use result_file::{FileFault, ResultFile, Wanted};
 use std::alloc::Allocator;
@@ -55,7 +57,7 @@ pub enum Failure<'a, A: Allocator> {
     /// The result file can't be written.
     ResultFile(FileFault<'a, A>),
     /// The new log can't be made, or not be written.
-    NewLog(NewLogFault),
+    NewLog(NewLogFault<A>),
     /// The list can't be made, or not be written.
     List(RunFault),
     /// Nothing can be read of the log.
@@ -65,14 +67,16 @@ pub enum Failure<'a, A: Allocator> {
 }
 
 /// Why a new log can't be made or written.
-#[derive(Clone, Copy, Debug)]
-pub enum NewLogFault {
+#[derive(Drop)]
+pub enum NewLogFault<A: Allocator> {
     /// A device failed, or the log can't be held.
     Run(RunFault),
     /// The log has no plain copy.
     Sums(SumFault),
     /// The statements of the log can't be cut.
     Split(SplitFault),
+    /// The log changes no table in a database that is to have another name, as this text tells.
+    NoSchema(String<A>),
 }
 
 impl<A: Allocator> Failure<'_, A> {
@@ -107,10 +111,10 @@ impl<'a, A: Allocator> From<io::Error> for Failure<'a, A> {
     }
 }
 
-impl<'a, A: Allocator> From<NewLogFault> for Failure<'a, A> {
+impl<'a, A: Allocator> From<NewLogFault<A>> for Failure<'a, A> {
     ghost from_gives = { λ fault failure. failure ≡ NewLog fault };
 
-    fn from(fault: NewLogFault) -> Failure<'a, A> {
+    fn from(fault: NewLogFault<A>) -> Failure<'a, A> {
         Failure::NewLog(fault)
     }
 }
@@ -123,26 +127,26 @@ impl<'a, A: Allocator> From<FileFault<'a, A>> for Failure<'a, A> {
     }
 }
 
-impl From<RunFault> for NewLogFault {
+impl<A: Allocator> From<RunFault> for NewLogFault<A> {
     ghost from_gives = { λ run fault. fault ≡ Run run };
 
-    fn from(fault: RunFault) -> NewLogFault {
+    fn from(fault: RunFault) -> NewLogFault<A> {
         NewLogFault::Run(fault)
     }
 }
 
-impl From<SumFault> for NewLogFault {
+impl<A: Allocator> From<SumFault> for NewLogFault<A> {
     ghost from_gives = { λ sums fault. fault ≡ Sums sums };
 
-    fn from(fault: SumFault) -> NewLogFault {
+    fn from(fault: SumFault) -> NewLogFault<A> {
         NewLogFault::Sums(fault)
     }
 }
 
-impl From<SplitRunFault> for NewLogFault {
+impl<A: Allocator> From<SplitRunFault> for NewLogFault<A> {
     ghost from_gives = { λ run fault. fault ≡ new_log_fault run };
 
-    fn from(fault: SplitRunFault) -> NewLogFault {
+    fn from(fault: SplitRunFault) -> NewLogFault<A> {
         match fault {
             SplitRunFault::Split(fault) => NewLogFault::Split(fault),
             SplitRunFault::Write => NewLogFault::Run(RunFault::Write),
@@ -150,10 +154,10 @@ impl From<SplitRunFault> for NewLogFault {
     }
 }
 
-impl From<SplitFault> for NewLogFault {
+impl<A: Allocator> From<SplitFault> for NewLogFault<A> {
     ghost from_gives = { λ cut fault. fault ≡ Split cut };
 
-    fn from(fault: SplitFault) -> NewLogFault {
+    fn from(fault: SplitFault) -> NewLogFault<A> {
         NewLogFault::Split(fault)
     }
 }
@@ -223,7 +227,10 @@ fn carry_out<'a, R: Files + Env + AllocGlobal, A: Allocator + Copy, O: Write>(
     ensures begun { IfErr result (λ f. has_failed output.new ≡ false → (output.new ≡ output.old) ⊎ MayFollowList f) }
 {
     match read_arguments(rt, alloc, arguments)? {
-        Asked::Text(text) => put(output, text.as_bytes()).map_err(NewLogFault::Run)?,
+        Asked::Text(text) => match put(output, text.as_bytes()) {
+            Ok(()) => {}
+            Err(fault) => return Err(Failure::NewLog(NewLogFault::Run(fault))),
+        },
         Asked::NewLog(task) => {
             check_output(process, &task)?;
             let mut reader = open_log(rt, task.log)?;
@@ -318,7 +325,7 @@ fn run_new_log<'a, R: Files, A: Allocator + Copy, D: Read, O: Write>(
 fn open_source<A: Allocator, D: Read>(
     alloc: A,
     reader: &mut Watched<D>,
-) -> Result<Source<A>, NewLogFault>
+) -> Result<Source<A>, NewLogFault<A>>
     ensures opens { OpensWhole (D.remaining (device_of reader.old)) (D.remaining (device_of reader.new)) result }
     ensures mark { has_failed reader.new ≡ (has_failed reader.old || is_failed_read result) }
 {
@@ -332,7 +339,7 @@ fn new_log_to_output<A: Allocator + Copy, D: Read, O: Write>(
     reader: &mut Watched<D>,
     making: Making<'_>,
     output: &mut Watched<O>,
-) -> Result<(), NewLogFault>
+) -> Result<(), NewLogFault<A>>
     requires { HasShortMaking making }
     ensures writes { WritesNewLog making.entry (D.remaining (device_of reader.old)) (D.remaining (device_of reader.new))
         (O.contents (device_of output.old)) (O.contents (device_of output.new)) result }
@@ -352,7 +359,7 @@ fn plain_to_output<A: Allocator, D: Read, O: Write>(
     alloc: A,
     reader: &mut Watched<D>,
     output: &mut Watched<O>,
-) -> Result<(), NewLogFault>
+) -> Result<(), NewLogFault<A>>
     ensures writes { WritesNewLog made.Plain (D.remaining (device_of reader.old)) (D.remaining (device_of reader.new))
         (O.contents (device_of output.old)) (O.contents (device_of output.new)) result }
     ensures reader_mark { has_failed reader.new ≡ (has_failed reader.old || is_failed_read result) }
@@ -370,7 +377,7 @@ fn split_to_output<A: Allocator + Copy, D: Read, O: Write>(
     reader: &mut Watched<D>,
     size: u32,
     output: &mut Watched<O>,
-) -> Result<(), NewLogFault>
+) -> Result<(), NewLogFault<A>>
     ensures writes { WritesNewLog (made.Split size) (D.remaining (device_of reader.old)) (D.remaining (device_of reader.new))
         (O.contents (device_of output.old)) (O.contents (device_of output.new)) result }
     ensures reader_mark { has_failed reader.new ≡ (has_failed reader.old || is_failed_read result) }
@@ -408,7 +415,7 @@ fn sql_to_output<A: Allocator + Copy, D: Read, O: Write>(
     size: u32,
     how: &SqlOptions<'_>,
     output: &mut Watched<O>,
-) -> Result<(), NewLogFault>
+) -> Result<(), NewLogFault<A>>
     requires { HasShortNames how.now }
     ensures writes { WritesNewLog (made.Sql size how.now) (D.remaining (device_of reader.old)) (D.remaining (device_of reader.new))
         (O.contents (device_of output.old)) (O.contents (device_of output.new)) result }
@@ -417,7 +424,15 @@ fn sql_to_output<A: Allocator + Copy, D: Read, O: Write>(
     ensures refused { OnErr result (has_failed output.new ≡ false → output.new ≡ output.old) }
 {
     let source = open_source(alloc, reader)?;
-    Ok(sql_of_source(alloc, &source, size, how, output)?)
+    match sql_of_source(alloc, &source, size, how, output) {
+        Ok(()) => Ok(()),
+        Err(SqlFault::Run(SplitRunFault::Split(fault))) => Err(NewLogFault::Split(fault)),
+        Err(SqlFault::Run(SplitRunFault::Write)) => Err(NewLogFault::Run(RunFault::Write)),
+        Err(SqlFault::NoSchema(number)) => match no_schema(alloc, source.bytes(), how, number) {
+            Ok(text) => Err(NewLogFault::NoSchema(text)),
+            Err(_) => Err(NewLogFault::Run(RunFault::Log(Fault::OutOfMemory))),
+        },
+    }
 }
 
 /// Writes the log of a source as SQL, while it is made. Faults are at their places.
@@ -427,16 +442,16 @@ fn sql_of_source<A: Allocator + Copy, O: Write>(
     size: u32,
     how: &SqlOptions<'_>,
     output: &mut Watched<O>,
-) -> Result<(), SplitRunFault>
+) -> Result<(), SqlFault>
     requires { HasShortNames how.now }
     ensures prints { PrintsSource size how.now (log_of source.now) (end_of source.now) (O.contents (device_of output.old)) (O.contents (device_of output.new)) result }
-    ensures untouched { ends_before_writing result ≡ true → output.new ≡ output.old }
-    ensures mark { has_failed output.new ≡ (has_failed output.old || is_writing_fault result) }
+    ensures untouched { is_before_writing result ≡ true → output.new ≡ output.old }
+    ensures mark { has_failed output.new ≡ (has_failed output.old || is_failed_writing result) }
 {
     match sql_of_log(alloc, output, source.bytes(), size as usize, how) {
-        Err(SplitRunFault::Split(SplitFault::Log(fault))) => {
+        Err(SqlFault::Run(SplitRunFault::Split(SplitFault::Log(fault)))) => {
             let placed = source.at_place(&fault);
-            Err(SplitRunFault::Split(SplitFault::Log(placed)))
+            Err(SqlFault::Run(SplitRunFault::Split(SplitFault::Log(placed))))
         }
         done => done,
     }

@@ -50,6 +50,7 @@ impl<A: Allocator> fmt::Display for Failure<'_, A> {
                 advice::of_whole_log(fault)
             ),
             Failure::NewLog(NewLogFault::Split(SplitFault::TooLong)) => f.write_str(CUT_TOO_LONG),
+            Failure::NewLog(NewLogFault::NoSchema(text)) => f.write_str(text.as_str()),
         }
     }
 }

@@ -8,6 +8,7 @@ mod list_arguments;
 mod list_runs;
 mod log_file;
 mod options;
+mod schemas;
 mod sql_arguments;
 #[cfg(test)]
 mod tests;

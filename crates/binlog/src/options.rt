@@ -1,5 +1,6 @@
 //! Every option that the program knows, and the help.
 
+use clap::builder::ValueParser;
 use clap::{Arg, ArgAction, Command};
 use console::{VERSION, flag, option};
 use std::alloc::{AllocError, Global};
@@ -53,8 +54,11 @@ pub const FORCE: &str = "force";
 /// The name of the argument without an option.
 pub const LOG: &str = "LOG";
 
-/// How many bytes the rows events of a statement have at most, where `--size` isn't given.
+/// How many bytes a statement has at most, where `--size` isn't given.
 pub const DEFAULT_SIZE: u32 = 8_000_000;
+
+/// The least number of bytes that `--size` can give.
+pub const LEAST_SIZE: u32 = 1024;
 
 const ABOUT: &str = "\
 Prepares MySQL binary logs for flashback, lists what can be undone of them, cuts large statements,
@@ -162,10 +166,10 @@ Examples:
 Exit status: 0 done, 1 the log is refused, ends too early, or something failed, 2 the arguments are wrong.";
 
 const SPLIT_ABOUT: &str = "\
-Cuts each statement of LOG into statements whose rows events have at most BYTES bytes together,
-or are a single one, each with the table maps that its rows use. A server takes all rows of a
-statement as one packet, which max_allowed_packet limits: mysqlbinlog prints them as base64,
-4 bytes for 3. The changes stay the same and in their order, and transactions stay whole.
+Cuts each statement of LOG into statements of at most BYTES bytes: their rows events, and the table
+maps that these use. A single rows event isn't cut: it and its map can have more. A server takes a
+statement as one packet, which max_allowed_packet limits: mysqlbinlog prints it as base64, 4 bytes
+for 3. The changes stay the same and in their order, and transactions stay whole.
 LOG is a log that flashback accepts as a whole, such as one that it wrote. If it has checksums,
 each is checked, and the new log has none.
 Nothing is written unless the whole log can be cut.";
@@ -180,7 +184,7 @@ Examples:
   binlog split undo.binlog -r parts.binlog
       write to a file that isn't there yet; -r is the same as --result-file
   binlog split --size 1000000 undo.binlog -r parts.binlog
-      statements of at most 1,000,000 bytes of rows events
+      statements of at most 1,000,000 bytes
   binlog split undo.binlog > parts.binlog
       the same as the first by the shell, which overwrites a file that is there
   binlog split undo.binlog -r parts.binlog --force
@@ -202,7 +206,8 @@ binlog sql [--each-transaction] [--keep-times] [--size BYTES]
 
 const SQL_AFTER_HELP: &str = "\
 The server gets the changes as base64, each statement as one packet, which max_allowed_packet limits.
-Statements are cut for it as by binlog split, so that their rows events have at most BYTES bytes.
+Statements are cut for it as by binlog split, to at most BYTES bytes of rows events and table maps.
+A packet has 77 bytes for 57 of these. A single rows event isn't cut: it and its map can have more.
 Events get the time at which the SQL is made, since the server writes their times to its own log.
 The SQL has the rows of LOG in it: FILE appears once it is whole, and only its owner may read it.
 
@@ -214,13 +219,13 @@ Examples:
   binlog sql undo.binlog -r undo.sql --force
       replace a file that is there
   binlog sql --rewrite-db shop:scratch undo.binlog | mysql
-      try it first in a copy of the tables in another database
+      try it first in a copy of the tables in another database; other databases stay as they are
   binlog sql --each-transaction undo.binlog | mysql
       commit each transaction by itself; after an error neither it nor a later one is committed
   binlog sql --keep-times undo.binlog | mysql
       leave the times of the events as they are
   binlog sql --size 1000000 undo.binlog | mysql
-      statements of at most 1,000,000 bytes of rows events
+      statements of at most 1,000,000 bytes
 
 Exit status: 0 done, 1 the log is refused or something failed, 2 the arguments are wrong.";
 
@@ -267,7 +272,7 @@ fn split_arguments<'a>(alloc: Global) -> Result<Command<'a>, AllocError> {
 /// The option `--size`.
 fn size_argument<'a>(alloc: Global) -> Arg<'a> {
     option(alloc, SIZE, "BYTES").help(
-        "The most bytes of rows events of a statement, headers included; 8000000 if it isn't given",
+        "The most bytes of a statement, headers included, from 1024 on; 8000000 if it isn't given",
     )
 }
 
@@ -300,7 +305,9 @@ fn new_log_arguments<'a>(
     command: Command<'a>,
     creating: &'a str,
 ) -> Result<Command<'a>, AllocError> {
-    let file = option(alloc, RESULT_FILE, "FILE").help(creating);
+    let file = option(alloc, RESULT_FILE, "FILE")
+        .value_parser(ValueParser::NonEmptyString)
+        .help(creating);
     let force = flag(alloc, FORCE).help("With -r: replace FILE if it is there");
     let log = Arg::new(alloc, LOG).help("The binary log, a file");
     command

@@ -22,7 +22,7 @@ pub struct SqlTask<'a, A: Allocator> {
     pub result_file: Option<&'a str>,
     /// Whether that file may be there.
     pub force: bool,
-    /// How many bytes the rows events of a statement may have.
+    /// How many bytes a statement may have.
     pub size: u32,
     /// Whether each transaction of the log is one of its own.
     pub each_transaction: bool,

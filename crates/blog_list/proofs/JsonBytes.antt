@@ -5,13 +5,14 @@ use Rattle.std.specs.Str.{IsUtf8}
 use Rattle.std.specs.Char.{encode_utf8}
 use Rattle.std.specs.Str.{encode_utf8_all}
 use Rattle.std.proofs.Common.{◌≡◌, ◌≢◌, ℕ, suc, ◌+◌, ◌/◌, ◌%◌, ◌<◌, ◌≤◌, true, false, not, List, [], ◌∷◌, ◌++◌, take, drop, refl, sym, ap, ap₂, ◌∙◌, arith, ⊎_elim, append-nil}
-use Rattle.std.proofs.lemmas.Bool.{cases_Bool, cases_lt, or_parts, cond-true, cond-false, ne_eqb, le-ltb, lt-ltb}
+use Rattle.std.proofs.lemmas.Bool.{cases_Bool, cases_lt, or_from, or_parts, cond-true, cond-false, ne_eqb, le-ltb, lt-ltb}
 use Rattle.std.proofs.lemmas.Bool.Decides.{nat_tests}
 use Rattle.std.proofs.lemmas.List.Concat.{flat_map-append}
+use Rattle.std.proofs.lemmas.List.Folds.{list_any-append}
 use Rattle.std.proofs.lemmas.Str.{encode_ascii}
 use Rattle.bstr.specs.Utf8.{lossy_chars}
 use Rattle.bstr.proofs.lemmas.EncodeLemmas.{lossy_chars-utf8}
-use Rattle.blog_list.specs.code.Json.{is_escaped, is_high_control, is_literal, json_byte, json_char}
+use Rattle.blog_list.specs.code.Json.{is_escaped, is_high_control, is_literal, json_byte, json_char, may_begin}
 use Rattle.blog_list.proofs.Growing.{next-part}
 
 -- which numbers of characters stand for themselves
@@ -91,10 +92,35 @@ chars-bytes (c ∷ cs) none =
     flat_map-append json_byte (encode_utf8 c) (encode_utf8_all cs)
     ∙ ap₂ (λ (first later : List ℕ). first ++ later) (char-bytes c parts.0) (chars-bytes cs parts.1)
 
+-- a character without such a byte is none of these
+none-begins : (c : ℕ) → list_any may_begin (encode_utf8 c) ≡ false → is_high_control c ≡ false
+unfolding encode_utf8
+none-begins c none = ⊎_elim
+    (λ (low : c < 128).
+    let own : list_any may_begin (c ∷ []) ≡ false = ap (list_any may_begin) (sym (encode_ascii c low)) ∙ none in
+    let first = (or_parts (may_begin c) false own).0 in
+    grind (arith, nat_tests))
+    (λ (high : 128 ≤ c). ⊎_elim
+    (λ (two : c < 2048).
+    let bytes : encode_utf8 c ≡ (192 + c / 64) ∷ ((128 + c % 64) ∷ []) = rw (le-ltb c 128 high, lt-ltb c 2048 two) refl in
+    let own : list_any may_begin ((192 + c / 64) ∷ ((128 + c % 64) ∷ [])) ≡ false = ap (list_any may_begin) (sym bytes) ∙ none in
+    let first = (or_parts (may_begin (192 + c / 64)) (list_any may_begin ((128 + c % 64) ∷ [])) own).0 in
+    grind (arith, nat_tests))
+    (λ (more : 2048 ≤ c). grind (arith, nat_tests))
+    (cases_lt c 2048))
+    (cases_lt c 128)
+
+none-high : (cs : List ℕ) → list_any may_begin (encode_utf8_all cs) ≡ false → list_any is_high_control cs ≡ false
+none-high [] none = refl
+none-high (c ∷ cs) none =
+    let parts = or_parts _ _ (sym (list_any-append may_begin (encode_utf8 c) (encode_utf8_all cs)) ∙ none) in
+    or_from _ _ (none-begins c parts.0) (none-high cs parts.1)
+
 -- the bytes of a text are those of its characters
-pub text-bytes : (text : List ℕ) → IsUtf8 text → list_any is_high_control (lossy_chars text) ≡ false → flat_map json_byte text ≡ flat_map json_char (lossy_chars text)
+pub text-bytes : (text : List ℕ) → IsUtf8 text → list_any may_begin text ≡ false → flat_map json_byte text ≡ flat_map json_char (lossy_chars text)
 text-bytes text is none =
-    ap (flat_map json_byte) (sym (lossy_chars-utf8 text is)) ∙ chars-bytes (lossy_chars text) none
+    let same = lossy_chars-utf8 text is in
+    ap (flat_map json_byte) (sym same) ∙ chars-bytes (lossy_chars text) (none-high (lossy_chars text) (ap (list_any may_begin) same ∙ none))
 
 -- the first bytes, up to one that needs an escape, stand for themselves
 one-literal : (n m byte : ℕ) (rest : List ℕ) → n ≡ suc m → is_escaped byte ≡ false

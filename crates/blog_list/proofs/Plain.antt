@@ -11,7 +11,7 @@ use Rattle.bstr.specs.Utf8.{Decoded}
 use Rattle.bstr.proofs.lemmas.PieceLemmas.{value-1}
 use Rattle.blog_list.specs.declared.marks.Mark.{Mark}
 use Rattle.blog_list.specs.declared.marks.Mark.TheVariants.{Character}
-use Rattle.blog_list.specs.Escapes.{mark_of, marks_behind, marks, more_of, quoted_mark, shown}
+use Rattle.blog_list.specs.Escapes.{is_layout, mark_of, marks_behind, marks, more_of, quoted_mark, shown}
 use Rattle.blog_list.specs.code.Plain.{is_plain, plain_len}
 
 -- which bytes these are
@@ -33,11 +33,13 @@ shown-plain : (byte : ℕ) → is_plain byte ≡ true → shown (Character byte)
 shown-plain byte plain =
     let is = IsPlain-from byte plain in
     let seen : is_control byte ≡ false = grind (arith, nat_tests) in
+    let alone : is_layout byte ≡ false = grind (arith, nat_tests) in
     cond-false _ _ _ (ne_eqb byte 0x5C is.no_backslash)
     ∙ cond-false _ _ _ (ne_eqb byte 0x0A (λ e. omega arith))
     ∙ cond-false _ _ _ (ne_eqb byte 0x09 (λ e. omega arith))
     ∙ cond-false _ _ _ (ne_eqb byte 0x0D (λ e. omega arith))
     ∙ cond-false _ _ _ seen
+    ∙ cond-false _ _ _ alone
     ∙ encode_ascii byte (omega arith)
 
 quoted-plain : (byte : ℕ) → is_plain byte ≡ true → quoted_mark (Character byte) ≡ byte ∷ []

@@ -4,7 +4,7 @@ ghost use Rattle.std.specs.Prelude.{◌≡◌, ◌≤◌, ◌++◌, OnOk, false,
 ghost use Rattle.std.specs.List.{flat_map, list_any, prefix_len};
 ghost use Rattle.bstr.specs.Utf8.{lossy_chars};
 ghost use Rattle.std.specs.Simd.Lanes.{mask_l};
-ghost use Rattle.blog_list.specs.code.Json.{is_escaped, is_high_control, is_literal, json_byte, json_char, json_control, json_string};
+ghost use Rattle.blog_list.specs.code.Json.{is_escaped, is_high_control, is_literal, json_byte, json_char, json_control, json_string, may_begin};
 
 use crate::texts::{put_byte, put_text};
 use bstr::ByteSlice;
@@ -92,11 +92,22 @@ fn is_high_control(c: char) -> bool
     c >= '\u{7F}' && c <= '\u{9F}'
 }
 
-/// Returns whether a text has one of these.
-fn has_high_control(text: &[u8]) -> bool
-    ensures { result ≡ list_any is_high_control (lossy_chars text.now) }
+/// Returns whether a byte may begin one of these in UTF-8: it is U+007F, or begins U+0080 to U+00BF.
+fn may_begin(byte: u8) -> bool
+    ensures { result ≡ may_begin byte }
 {
-    text.chars().any(|c| is_high_control(c))
+    byte == 0x7F || byte == 0xC2
+}
+
+/// Returns whether a text has such a byte. No byte ends the loop, so vectors do it.
+fn may_have_high_control(text: &[u8]) -> bool
+    ensures { result ≡ list_any may_begin text.now }
+{
+    let mut is_there = false;
+    'bytes: for byte in text {
+        is_there |= may_begin(*byte);
+    }
+    is_there
 }
 
 /// Appends a character of a string.
@@ -135,9 +146,9 @@ fn put_escaped<A: Allocator>(out: &mut Vec<u8, A>, text: &[u8]) -> Result<(), Al
     Ok(())
 }
 
-/// Appends a text as a string, in which no control character is from U+007F on.
+/// Appends a text as a string, in which no byte begins a control character from U+007F on.
 pub(crate) fn put_visible<A: Allocator>(out: &mut Vec<u8, A>, text: &str) -> Result<(), AllocError>
-    ensures { list_any is_high_control (lossy_chars text.now) ≡ false → OnOk result (out.new.items ≡ out.old.items ++ json_string text.now) }
+    ensures { list_any may_begin text.now ≡ false → OnOk result (out.new.items ≡ out.old.items ++ json_string text.now) }
 {
     put_text(out, b"\"")?;
     put_escaped(out, text.as_bytes())?;
@@ -148,7 +159,7 @@ pub(crate) fn put_visible<A: Allocator>(out: &mut Vec<u8, A>, text: &str) -> Res
 pub(crate) fn put_str<A: Allocator>(out: &mut Vec<u8, A>, text: &str) -> Result<(), AllocError>
     ensures { OnOk result (out.new.items ≡ out.old.items ++ json_string text.now) }
 {
-    if has_high_control(text.as_bytes()) {
+    if may_have_high_control(text.as_bytes()) {
         put_lossy(out, text.as_bytes())
     } else {
         put_visible(out, text)

@@ -7,24 +7,22 @@ use Rattle.std.proofs.lemmas.Bool.{lt-leb}
 use Rattle.std.proofs.lemmas.List.{map-append}
 use Rattle.std.proofs.lemmas.List.Concat.{flat_map-append}
 use Rattle.std.proofs.lemmas.List.Folds.{flat_map-map}
-use Rattle.blog_event.specs.Event.{Event, event_size}
+use Rattle.blog_event.specs.Event.{Event}
 use Rattle.blog_row.specs.RowsEvent.{table_id}
 use Rattle.blog_row.proofs.NameLemmas.{names_found}
 use Rattle.blog_trans.specs.Groups.{RowsEvent, Statement, Transaction}
-use Rattle.blog_flash.specs.Texts.{rows_event}
 use Rattle.blog_flash.specs.Written.{Written, Same, Maps, Changes, rows_written, statement_written, transaction_written, groups_written}
 use Rattle.blog_flash.proofs.Formed.{IsMapEvent, IsRowsEvent, IsStatement, IsTransaction, AreGroups}
-use Rattle.blog_split.specs.Cuts.{is_used_by, rows_bytes}
+use Rattle.blog_split.specs.Cuts.{is_used_by, piece_bytes}
 use Rattle.blog_split.specs.declared.most.Most.{Most}
 use Rattle.blog_split.specs.code.Greedy.{pieces_on, pieces_of, cut_statement, cut_transaction, cut_groups}
 use Rattle.blog_split.specs.code.CutWritten.{piece_written, has_room, cut_written, rows_among, AreApart, CanBeCut}
 use Rattle.blog_split.proofs.Pieces.{all-parts}
-use Rattle.blog_split.proofs.Small.{rows_bytes-append}
 
 -- ---- a piece ends or goes on
 
 -- without rows events no map is used
-none-used : (maps : List Event) → filter (is_used_by []) maps ≡ []
+pub none-used : (maps : List Event) → filter (is_used_by []) maps ≡ []
 none-used [] = refl
 none-used (m ∷ maps) = none-used maps
 
@@ -46,35 +44,30 @@ module _ (limit : ℕ) (maps : List Event) (piece : List RowsEvent) where
   stops-maps m ws = sym (ap (λ (es : List Written). piece_written maps piece ++ (es ++ cut_written limit (maps ++ m ∷ []) [] ws)) (nothing-written maps))
 
   -- before a rows event that it has no room for
-  pub stops-full : (r : RowsEvent) (last : Bool) (ws : List Written) → has_room limit piece r ≡ false
+  pub stops-full : (r : RowsEvent) (last : Bool) (ws : List Written) → has_room limit maps piece r ≡ false
       → cut_written limit maps piece (Changes r last ∷ ws) ≡ piece_written maps piece ++ cut_written limit maps [] (Changes r last ∷ ws)
   stops-full r true ws full = rw full refl
   stops-full r false ws full = rw full refl
 
   -- it goes on with a rows event that isn't the last of its statement
-  pub joins-open : (r : RowsEvent) (ws : List Written) → has_room limit piece r ≡ true → cut_written limit maps piece (Changes r false ∷ ws) ≡ cut_written limit maps (piece ++ r ∷ []) ws
+  pub joins-open : (r : RowsEvent) (ws : List Written) → has_room limit maps piece r ≡ true → cut_written limit maps piece (Changes r false ∷ ws) ≡ cut_written limit maps (piece ++ r ∷ []) ws
   joins-open r ws room = rw room refl
 
   -- with the last one it goes on and ends
-  pub joins-last : (r : RowsEvent) (ws : List Written) → has_room limit piece r ≡ true
+  pub joins-last : (r : RowsEvent) (ws : List Written) → has_room limit maps piece r ≡ true
       → cut_written limit maps piece (Changes r true ∷ ws) ≡ piece_written maps (piece ++ r ∷ []) ++ cut_written limit [] [] ws
   joins-last r ws room = rw room refl
 
 -- ---- room
 
--- how many bytes a piece has with one more; `rows_event-size` says that the end flag changes none of it
-pub bytes-more : (piece : List RowsEvent) (r : RowsEvent) → rows_bytes (piece ++ r ∷ []) ≡ rows_bytes piece + event_size (rows_event true r)
-bytes-more piece r = omega (arith, rows_bytes-append piece (r ∷ []))
-
--- for one more, by what is left of the limit
-pub room-is : (limit left : ℕ) (piece : List RowsEvent) (r : RowsEvent) → 0 < length piece → left ≡ limit - rows_bytes piece
-    → (event_size (rows_event true r) ≤ left → has_room limit piece r ≡ true) × (left < event_size (rows_event true r) → has_room limit piece r ≡ false)
-room-is limit left [] r some is = absurd (omega arith)
-room-is limit left (p ∷ piece) r some is =
-    let bytes = bytes-more (p ∷ piece) r in (
-      (λ (fits : event_size (rows_event true r) ≤ left). le-leb (rows_bytes ((p ∷ piece) ++ r ∷ [])) limit (omega (arith, bytes, is, fits))),
-      (λ (over : left < event_size (rows_event true r)). lt-leb (rows_bytes ((p ∷ piece) ++ r ∷ [])) limit (omega (arith, bytes, is, over))),
-    )
+-- for one more, by what is left of the limit and what the piece gets
+pub room-is : (limit left more : ℕ) (maps : List Event) (piece : List RowsEvent) (r : RowsEvent) → 0 < length piece → 0 < more → left ≡ limit - piece_bytes maps piece
+    → piece_bytes maps (piece ++ r ∷ []) ≡ piece_bytes maps piece + more → (more ≤ left → has_room limit maps piece r ≡ true) × (left < more → has_room limit maps piece r ≡ false)
+room-is limit left more maps [] r some own is bytes = absurd (omega arith)
+room-is limit left more maps (p ∷ piece) r some own is bytes = (
+  (λ (fits : more ≤ left). le-leb (piece_bytes maps ((p ∷ piece) ++ r ∷ [])) limit (omega (arith, bytes, own, is, fits))),
+  (λ (over : left < more). lt-leb (piece_bytes maps ((p ∷ piece) ++ r ∷ [])) limit (omega (arith, bytes, is, over))),
+)
 
 -- ---- cut groups
 
@@ -92,17 +85,17 @@ module _ (limit : ℕ) (maps : List Event) (ws : List Written) where
   with_pieces pieces = flat_map (piece_written maps) pieces ++ cut_written limit [] [] ws
 
   abbrev GivesPieces : List RowsEvent → List RowsEvent → Type 0
-  GivesPieces piece rows = cut_written limit maps piece (rows_written rows ++ ws) ≡ with_pieces (pieces_on limit piece rows)
+  GivesPieces piece rows = cut_written limit maps piece (rows_written rows ++ ws) ≡ with_pieces (pieces_on limit maps piece rows)
 
   rows-passed : (p : RowsEvent) (piece : List RowsEvent) (r : RowsEvent) (rows : List RowsEvent) → GivesPieces (p ∷ piece) (r ∷ rows)
-  rows-passed p piece r [] = by_case (nat_le (rows_bytes ((p ∷ piece) ++ r ∷ [])) limit) refl
+  rows-passed p piece r [] = by_case (nat_le (piece_bytes maps ((p ∷ piece) ++ r ∷ [])) limit) refl
     where
-      by_case : (b : Bool) → nat_le (rows_bytes ((p ∷ piece) ++ r ∷ [])) limit ≡ b → GivesPieces (p ∷ piece) (r ∷ [])
+      by_case : (b : Bool) → nat_le (piece_bytes maps ((p ∷ piece) ++ r ∷ [])) limit ≡ b → GivesPieces (p ∷ piece) (r ∷ [])
       by_case true is = rw is (simp append_assoc)
       by_case false is = rw is (simp append_assoc)
-  rows-passed p piece r (s ∷ rows) = by_case (nat_le (rows_bytes ((p ∷ piece) ++ r ∷ [])) limit) refl (rows-passed p (piece ++ r ∷ []) s rows) (rows-passed r [] s rows)
+  rows-passed p piece r (s ∷ rows) = by_case (nat_le (piece_bytes maps ((p ∷ piece) ++ r ∷ [])) limit) refl (rows-passed p (piece ++ r ∷ []) s rows) (rows-passed r [] s rows)
     where
-      by_case : (b : Bool) → nat_le (rows_bytes ((p ∷ piece) ++ r ∷ [])) limit ≡ b → GivesPieces ((p ∷ piece) ++ r ∷ []) (s ∷ rows) → GivesPieces (r ∷ []) (s ∷ rows)
+      by_case : (b : Bool) → nat_le (piece_bytes maps ((p ∷ piece) ++ r ∷ [])) limit ≡ b → GivesPieces ((p ∷ piece) ++ r ∷ []) (s ∷ rows) → GivesPieces (r ∷ []) (s ∷ rows)
           → GivesPieces (p ∷ piece) (r ∷ s ∷ rows)
       by_case true is more anew = rw is more
       by_case false is more anew =
@@ -110,7 +103,7 @@ module _ (limit : ℕ) (maps : List Event) (ws : List Written) where
           rw is (ap (λ (es : List Written). own ++ es) anew ∙ sym (append_assoc own _ (cut_written limit [] [] ws)))
 
   -- all rows events of a statement
-  all-passed : (r : RowsEvent) (rows : List RowsEvent) → cut_written limit maps [] (rows_written (r ∷ rows) ++ ws) ≡ with_pieces (pieces_of limit (r ∷ rows))
+  all-passed : (r : RowsEvent) (rows : List RowsEvent) → cut_written limit maps [] (rows_written (r ∷ rows) ++ ws) ≡ with_pieces (pieces_of limit maps (r ∷ rows))
   all-passed r [] = simp append_assoc
   all-passed r (s ∷ rows) = rows-passed r [] s rows
 

@@ -1,5 +1,5 @@
 -- A log whose statements are cut keeps the changes.
-use Rattle.std.proofs.Common.{◌≡◌, ℕ, suc, ◌≤◌, List, [], ◌∷◌, ◌++◌, length, map, refl, sym, ap, ap₂, subst, ◌∙◌, arith}
+use Rattle.std.proofs.Common.{◌≡◌, ℕ, suc, ◌≤◌, Bool, true, false, if◌then◌else◌, List, [], ◌∷◌, ◌++◌, length, map, filter, refl, sym, ap, ap₂, subst, ◌∙◌, arith}
 use Rattle.std.specs.List.{AllByRecursion, flat_map}
 use Rattle.std.proofs.lemmas.List.Concat.{flat_map-append}
 use Rattle.blog_event.specs.Event.{Event}
@@ -20,14 +20,14 @@ use Rattle.blog_flash.proofs.Lengths.{laid-out-length}
 use Rattle.blog_flash.proofs.Undoing.{undo_all}
 use Rattle.blog_flash.proofs.Written.{IsWritable, written-read, written-accepted, written-groups}
 use Rattle.blog_split.proofs.Turned.{groups-turned}
-use Rattle.blog_split.specs.Cuts.{IsPiece, IsCut, piece_statement, AreCut, IsCutTransaction, IsCutInto}
+use Rattle.blog_split.specs.Cuts.{maps_bytes, is_used_by, IsPiece, IsCut, piece_statement, AreCut, IsCutTransaction, IsCutInto}
 use Rattle.blog_split.specs.Laws.{IsSplit, AreBounded, KeepsChanges}
 use Rattle.blog_split.proofs.Pieces.{pieces-formed}
 
 -- ---- cut statements are well-formed
 
 -- those of one statement
-statement-cut : (Known : Event → Type 0) (limit : ℕ) (s : Statement) (pieces : List (List RowsEvent)) → IsCut limit s.rows pieces → IsStatement Known s
+statement-cut : (Known : Event → Type 0) (limit : ℕ) (s : Statement) (pieces : List (List RowsEvent)) → IsCut limit s.maps s.rows pieces → IsStatement Known s
     → AllByRecursion (IsStatement Known) (map (piece_statement s) pieces)
 statement-cut Known limit s pieces cut h = pieces-formed Known limit s pieces h cut.bounded (subst (AllByRecursion (IsRowsEvent s.maps)) (sym cut.joined) h.rows_formed)
 
@@ -39,7 +39,7 @@ statements-cut Known limit (s ∷ ss) cut are h =
     (all-append (IsStatement Known) (map (piece_statement s) are.0) are.1 (statement-cut Known limit s are.0 are.2 h.0) (statements-cut Known limit ss are.1 are.4 h.1))
 
 -- a statement with a rows event has a piece
-some-piece : (limit : ℕ) (s : Statement) (pieces : List (List RowsEvent)) (rest : List Statement) (r : RowsEvent) (rows : List RowsEvent) → IsCut limit s.rows pieces → s.rows ≡ r ∷ rows
+some-piece : (limit : ℕ) (s : Statement) (pieces : List (List RowsEvent)) (rest : List Statement) (r : RowsEvent) (rows : List RowsEvent) → IsCut limit s.maps s.rows pieces → s.rows ≡ r ∷ rows
     → (u : Statement) × (us : List Statement) × (map (piece_statement s) pieces ++ rest ≡ u ∷ us)
 some-piece limit s [] rest r rows cut some = absurd (cc (cut.joined, some))
 some-piece limit s (piece ∷ pieces) rest r rows cut some = (piece_statement s piece, map (piece_statement s) pieces ++ rest, refl)
@@ -75,15 +75,32 @@ groups-cut Known limit (t ∷ ts) (u ∷ us) cut h = (transaction-cut Known limi
 
 -- ---- bounded statements
 
-pieces-bounded : (limit : ℕ) (s : Statement) (pieces : List (List RowsEvent)) → AllByRecursion (IsPiece limit) pieces
-    → AllByRecursion (λ (u : Statement). IsPiece limit u.rows) (map (piece_statement s) pieces)
-pieces-bounded limit s pieces are = all-map (IsPiece limit) (λ (u : Statement). IsPiece limit u.rows) (piece_statement s) (λ piece is. is) pieces are
+-- of the maps that rows events use they use all
+used-again : (rows : List RowsEvent) (maps : List Event) → filter (is_used_by rows) (filter (is_used_by rows) maps) ≡ filter (is_used_by rows) maps
+used-again rows [] = refl
+used-again rows (m ∷ maps) = by_case (is_used_by rows m) refl (used-again rows maps)
+  where
+    by_case : (b : Bool) → is_used_by rows m ≡ b → filter (is_used_by rows) (filter (is_used_by rows) maps) ≡ filter (is_used_by rows) maps
+        → filter (is_used_by rows) (if b then m ∷ filter (is_used_by rows) maps else filter (is_used_by rows) maps) ≡ (if b then m ∷ filter (is_used_by rows) maps else filter (is_used_by rows) maps)
+    by_case true is others = rw is (ap (λ (ms : List Event). m ∷ ms) others)
+    by_case false is others = others
 
-statements-bounded : (limit : ℕ) (ss cut : List Statement) → AreCut limit ss cut → AllByRecursion (λ (u : Statement). IsPiece limit u.rows) cut
-statements-bounded limit [] cut are = subst (AllByRecursion (λ (u : Statement). IsPiece limit u.rows)) (sym are) tt
+-- so a piece is one with its own maps
+piece-again : (limit : ℕ) (maps : List Event) (piece : List RowsEvent) → IsPiece limit maps piece → IsPiece limit (filter (is_used_by piece) maps) piece
+piece-again limit maps [] is = is
+piece-again limit maps (r ∷ []) is = tt
+piece-again limit maps (r ∷ s ∷ rows) is = omega (arith, is, ap maps_bytes (used-again (r ∷ s ∷ rows) maps))
+
+pieces-bounded : (limit : ℕ) (s : Statement) (pieces : List (List RowsEvent)) → AllByRecursion (IsPiece limit s.maps) pieces
+    → AllByRecursion (λ (u : Statement). IsPiece limit u.maps u.rows) (map (piece_statement s) pieces)
+pieces-bounded limit s pieces are =
+    all-map (IsPiece limit s.maps) (λ (u : Statement). IsPiece limit u.maps u.rows) (piece_statement s) (piece-again limit s.maps) pieces are
+
+statements-bounded : (limit : ℕ) (ss cut : List Statement) → AreCut limit ss cut → AllByRecursion (λ (u : Statement). IsPiece limit u.maps u.rows) cut
+statements-bounded limit [] cut are = subst (AllByRecursion (λ (u : Statement). IsPiece limit u.maps u.rows)) (sym are) tt
 statements-bounded limit (s ∷ ss) cut are =
-    subst (AllByRecursion (λ (u : Statement). IsPiece limit u.rows)) (sym are.3)
-    (all-append (λ (u : Statement). IsPiece limit u.rows) (map (piece_statement s) are.0) are.1 (pieces-bounded limit s are.0 are.2.bounded) (statements-bounded limit ss are.1 are.4))
+    subst (AllByRecursion (λ (u : Statement). IsPiece limit u.maps u.rows)) (sym are.3)
+    (all-append (λ (u : Statement). IsPiece limit u.maps u.rows) (map (piece_statement s) are.0) are.1 (pieces-bounded limit s are.0 are.2.bounded) (statements-bounded limit ss are.1 are.4))
 
 groups-bounded : (limit : ℕ) (ts us : List Transaction) → IsCutInto limit ts us → AreBounded limit us
 groups-bounded limit [] [] cut = tt

@@ -18,14 +18,15 @@ use Rattle.blog_flash.specs.Written.{Written, Same, Maps, Changes, rows_written}
 use Rattle.blog_flash.specs.code.Skipping.{IsSkippedRows, Skips}
 use Rattle.blog_flash.specs.code.WrittenView.{written_told}
 use Rattle.blog_flash.specs.declared.written_event.WrittenEvent.{WrittenEvent}
-use Rattle.blog_split.specs.Cuts.{rows_bytes}
+use Rattle.blog_split.specs.Cuts.{maps_bytes, piece_bytes}
 use Rattle.blog_split.specs.declared.most.Most.{Most}
 use Rattle.blog_split.specs.code.CutView.{IsAhead}
-use Rattle.blog_split.specs.code.CutWritten.{AreApart, CanBeCut, cut_written, ending, has_room, piece_written, rows_among}
-use Rattle.blog_split.specs.code.Marks.{AreMarks, IsFound, IsTable, id_number}
+use Rattle.blog_split.specs.code.CutWritten.{AreApart, CanBeCut, HasId, cut_written, ending, has_room, piece_written, rows_among}
+use Rattle.blog_split.specs.code.Marks.{AreFlags, AreMarks, IsFound, IsTable, IsUnmarked, id_number, numbered}
 use Rattle.blog_split.specs.declared.used_maps.MapId.{MapId}
 use Rattle.blog_split.proofs.MapIds.{differs, number-found}
-use Rattle.blog_split.proofs.Marks.{marks-more}
+use Rattle.blog_split.proofs.Adding.{piece-more}
+use Rattle.blog_split.proofs.Marks.{IsAdded, added-unmarked}
 use Rattle.blog_split.proofs.CutWritten.{joins-last, joins-open, nothing-written, room-is, rows-first, stops-full, stops-maps, stops-none, stops-same, written-first}
 use Rattle.blog_split.proofs.Turned.{rows_event-size}
 
@@ -172,20 +173,32 @@ abbrev pub rows_open : Bool → ℕ → ℕ
 rows_open true rows = 0
 rows_open false rows = rows
 
+-- how many bytes a piece gets by a rows event and the map of this number
+abbrev pub gets : List Event → SkippedRows → Option ℕ → ℕ
+gets maps skipped number = (19 + skipped.len) + maps_bytes (numbered maps (option_to_list number))
+
+-- the size of a rows event doesn't hang on its end flag
+pub size-known : (r : RowsEvent) (rows : SkippedRows) → IsSkippedRows r rows → event_size (rows_event true r) ≡ 19 + rows.len
+size-known r rows known = rows_event-size true r ∙ sym (rows_event-size rows.last r) ∙ known.len
+
+-- so the piece has so many more with it
+pub gets-more : (maps : List Event) (piece : List RowsEvent) (r : RowsEvent) (skipped : SkippedRows) (number : Option ℕ) → IsSkippedRows r skipped → IsAdded maps piece r number
+    → piece_bytes maps (piece ++ r ∷ []) ≡ piece_bytes maps piece + gets maps skipped number
+gets-more maps piece r skipped number known is = omega (arith, piece-more maps piece r number is, size-known r skipped known)
+
 -- the piece has room, as it is asked by the bytes that are left
-pub room-as-asked : (limit left rows len : ℕ) (piece : List RowsEvent) (r : RowsEvent) → length piece ≡ rows → left ≡ limit - rows_bytes piece → event_size (rows_event true r) ≡ 19 + len
-    → has_room limit piece r ≡ (nat_eq rows 0 || nat_le (19 + len) left)
-room-as-asked limit left rows len [] r counted is size = ap (λ (n : ℕ). nat_eq n 0 || nat_le (19 + len) left) counted
-room-as-asked limit left rows len (p ∷ piece) r counted is size = by_case (nat_le (19 + len) left) refl (room-is limit left (p ∷ piece) r (omega arith) is)
+pub room-as-asked : (limit left rows more : ℕ) (maps : List Event) (piece : List RowsEvent) (r : RowsEvent) → length piece ≡ rows → 0 < more → left ≡ limit - piece_bytes maps piece
+    → piece_bytes maps (piece ++ r ∷ []) ≡ piece_bytes maps piece + more → has_room limit maps piece r ≡ (nat_eq rows 0 || nat_le more left)
+room-as-asked limit left rows more maps [] r counted own is bytes = ap (λ (n : ℕ). nat_eq n 0 || nat_le more left) counted
+room-as-asked limit left rows more maps (p ∷ piece) r counted own is bytes = by_case (nat_le more left) refl (room-is limit left more maps (p ∷ piece) r (omega arith) own is bytes)
   where
-    by_case : (b : Bool) → nat_le (19 + len) left ≡ b
-        → (event_size (rows_event true r) ≤ left → has_room limit (p ∷ piece) r ≡ true) × (left < event_size (rows_event true r) → has_room limit (p ∷ piece) r ≡ false)
-        → has_room limit (p ∷ piece) r ≡ (nat_eq rows 0 || b)
-    by_case true fits asked = asked.0 (omega (arith, size, leb-true (19 + len) left fits)) ∙ sym (ap (λ (t : Bool). t || true) (differs rows 0 (λ none. omega (arith, counted, none))))
-    by_case false over asked = asked.1 (omega (arith, size, leb-false (19 + len) left over)) ∙ sym (ap (λ (t : Bool). t || false) (differs rows 0 (λ none. omega (arith, counted, none))))
+    by_case : (b : Bool) → nat_le more left ≡ b → (more ≤ left → has_room limit maps (p ∷ piece) r ≡ true) × (left < more → has_room limit maps (p ∷ piece) r ≡ false)
+        → has_room limit maps (p ∷ piece) r ≡ (nat_eq rows 0 || b)
+    by_case true fits asked = asked.0 (leb-true more left fits) ∙ sym (ap (λ (t : Bool). t || true) (differs rows 0 (λ none. omega (arith, counted, none))))
+    by_case false over asked = asked.1 (leb-false more left over) ∙ sym (ap (λ (t : Bool). t || false) (differs rows 0 (λ none. omega (arith, counted, none))))
 
 -- by one more rows event
-pub goes-on : (limit : ℕ) (maps : List Event) (piece : List RowsEvent) (r : RowsEvent) (last : Bool) (ws : List Written) → has_room limit piece r ≡ true
+pub goes-on : (limit : ℕ) (maps : List Event) (piece : List RowsEvent) (r : RowsEvent) (last : Bool) (ws : List Written) → has_room limit maps piece r ≡ true
     → cut_written limit maps piece (Changes r last ∷ ws) ≡ going limit last maps (piece ++ r ∷ []) ws
 goes-on limit maps piece r true ws room = joins-last limit maps piece r ws room
 goes-on limit maps piece r false ws room = joins-open limit maps piece r ws room
@@ -196,38 +209,56 @@ pub can-go-on : (most : Most) (maps : List Event) (rows : ℕ) (r : RowsEvent) (
 can-go-on most maps rows r true ws can = can
 can-go-on most maps rows r false ws can = can
 
--- the size of a rows event doesn't hang on its end flag
-pub size-known : (r : RowsEvent) (rows : SkippedRows) → IsSkippedRows r rows → event_size (rows_event true r) ≡ 19 + rows.len
-size-known r rows known = rows_event-size true r ∙ sym (rows_event-size rows.last r) ∙ known.len
+-- its map comes with it, unless the piece uses it already
+pub added-one : (maps : List Event) (ids : List MapId) (piece : List RowsEvent) (used : List ℕ) (flags : List Bool) (r : RowsEvent) (skipped : SkippedRows) (found number : Option ℕ)
+    → AreMarks maps piece used → AreFlags used flags → AreApart maps → IsTable maps ids → length r.content.id ≡ 6 → IsSkippedRows r skipped → AreBytes (table_id skipped.event.body.now)
+    → IsFound ids (id_number (table_id skipped.event.body.now)) found → IsUnmarked flags found number → IsAdded maps piece r number
+added-one maps ids piece used flags r skipped found number marks are apart table long known bytes is_found unmarked =
+    added-unmarked maps piece used flags marks are r found number
+    (number-found maps ids r (id_number (table_id skipped.event.body.now)) found apart table (record { len = long; bytes = subst AreBytes known.id bytes }) (ap id_number known.id) is_found) unmarked
 
--- its map is marked
-pub marked-one : (maps : List Event) (ids : List MapId) (piece : List RowsEvent) (used : List ℕ) (r : RowsEvent) (skipped : SkippedRows) (id : ℕ) (number : Option ℕ) → AreMarks maps piece used
-    → AreApart maps → IsTable maps ids → length r.content.id ≡ 6 → IsSkippedRows r skipped → id ≡ id_number (table_id skipped.event.body.now) → AreBytes (table_id skipped.event.body.now)
-    → IsFound ids id number → AreMarks maps (piece ++ r ∷ []) (used ++ option_to_list number)
-marked-one maps ids piece used r skipped id number marks apart table long known id_is bytes found =
-    marks-more maps piece r used number marks
-    (number-found maps ids r id number apart table (record { len = long; bytes = subst AreBytes known.id bytes }) (id_is ∙ ap id_number known.id) found)
+-- or the piece ends: it has no room for the next rows event, as it is asked by what the piece would get
+abbrev pub IsFull : Bool → List Event → List RowsEvent → Option SkippedEvent → ℕ → ℕ → Type 0
+IsFull is_last maps piece next rows left = (skipped : SkippedRows) (r : RowsEvent) → is_last ≡ false → next ≡ Some (over.Rows skipped) → IsSkippedRows r skipped → length r.content.id ≡ 6
+    → (number : Option ℕ) × IsAdded maps piece r number × ((nat_eq rows 0 || nat_le (gets maps skipped number) left) ≡ false)
 
--- or the piece ends
+-- the next one has a table id
+abbrev pub NextHasId : List Written → Type 0
+NextHasId [] = ⊤
+NextHasId (w ∷ ws) = HasId w
+
+pub next-has-id : (most : Most) (maps : List Event) (n : ℕ) (ws : List Written) → CanBeCut most maps n ws → NextHasId ws
+next-has-id most maps n [] can = tt
+next-has-id most maps n (Same e ∷ ws) can = tt
+next-has-id most maps n (Maps m ∷ ws) can = can.0
+next-has-id most maps n (Changes r true ∷ ws) can = can.0
+next-has-id most maps n (Changes r false ∷ ws) can = can.0
+
 pub ends : (limit left rows : ℕ) (is_last : Bool) (maps : List Event) (piece : List RowsEvent) (next : Option SkippedEvent) (rest others : List Written) → IsAhead next rest others
-    → length piece ≡ rows → left ≡ limit - rows_bytes piece
-    → ((skipped : SkippedRows) → is_last ≡ false → next ≡ Some (over.Rows skipped) → (nat_eq rows 0 || nat_le (19 + skipped.len) left) ≡ false)
+    → length piece ≡ rows → left ≡ limit - piece_bytes maps piece → NextHasId rest → IsFull is_last maps piece next rows left
     → going limit is_last maps piece rest ≡ piece_written maps piece ++ cut_written limit (if is_last then [] else maps) [] rest
-ends limit left rows true maps piece next rest others ahead counted is stops = refl
-ends limit left rows false maps piece None rest others (none, also) counted is stops =
+ends limit left rows true maps piece next rest others ahead counted is long full = refl
+ends limit left rows false maps piece None rest others (none, also) counted is long full =
     subst (λ (ws : List Written). cut_written limit maps piece ws ≡ piece_written maps piece ++ cut_written limit maps [] ws) (sym none) (stops-none limit maps piece)
-ends limit left rows false maps piece (Some (over.Begin event)) rest others (w, first, same) counted is stops =
+ends limit left rows false maps piece (Some (over.Begin event)) rest others (w, first, same) counted is long full =
     subst (λ (ws : List Written). cut_written limit maps piece ws ≡ piece_written maps piece ++ cut_written limit maps [] ws) (sym (first ∙ ap (λ (v : Written). v ∷ others) same)) (stops-same limit maps piece _ others)
-ends limit left rows false maps piece (Some (over.Map event)) rest others (w, first, same) counted is stops =
+ends limit left rows false maps piece (Some (over.Map event)) rest others (w, first, same) counted is long full =
     subst (λ (ws : List Written). cut_written limit maps piece ws ≡ piece_written maps piece ++ cut_written limit maps [] ws) (sym (first ∙ ap (λ (v : Written). v ∷ others) same)) (stops-maps limit maps piece _ others)
-ends limit left rows false maps piece (Some (over.Rows skipped)) rest others (w, first, (r, same, known)) counted is stops =
-    subst (λ (ws : List Written). cut_written limit maps piece ws ≡ piece_written maps piece ++ cut_written limit maps [] ws) (sym (first ∙ ap (λ (v : Written). v ∷ others) same))
-    (stops-full limit maps piece r skipped.last others (room-as-asked limit left rows skipped.len piece r counted is (size-known r skipped known) ∙ stops skipped refl refl))
-ends limit left rows false maps piece (Some (over.End event)) rest others (w, first, same) counted is stops =
+ends limit left rows false maps piece (Some (over.Rows skipped)) rest others (w, first, (r, same, known)) counted is long full =
+    let here = first ∙ ap (λ (v : Written). v ∷ others) same in
+    let (number, added, over_full) = full skipped r refl refl known (subst NextHasId here long) in
+    subst (λ (ws : List Written). cut_written limit maps piece ws ≡ piece_written maps piece ++ cut_written limit maps [] ws) (sym here)
+    (stops-full limit maps piece r skipped.last others (room-as-asked limit left rows (gets maps skipped number) maps piece r counted (omega arith) is (gets-more maps piece r skipped number known added) ∙ over_full))
+ends limit left rows false maps piece (Some (over.End event)) rest others (w, first, same) counted is long full =
     subst (λ (ws : List Written). cut_written limit maps piece ws ≡ piece_written maps piece ++ cut_written limit maps [] ws) (sym (first ∙ ap (λ (v : Written). v ∷ others) same)) (stops-same limit maps piece _ others)
+
+-- neither of two is so
+pub neither-is : (a b : Bool) → (a || b) ≡ false → a ≡ false
+neither-is true b none = none
+neither-is false b none = refl
 
 -- it has some
-pub is-some : (rows left : ℕ) (is_last : Bool) (next : Option SkippedEvent) → (rows ≡ 0 → (skipped : SkippedRows) × (next ≡ Some (over.Rows skipped))) → (rows ≡ 0 → is_last ≡ false)
-    → ((skipped : SkippedRows) → is_last ≡ false → next ≡ Some (over.Rows skipped) → (nat_eq rows 0 || nat_le (19 + skipped.len) left) ≡ false) → 0 < rows
-is-some zero left is_last next some not_last stops = let (skipped, is) = some refl in absurd (false≢true (sym (stops skipped (not_last refl) is)))
-is-some (suc n) left is_last next some not_last stops = omega arith
+pub is-some : (rows : ℕ) (is_last : Bool) (next : Option SkippedEvent) → (rows ≡ 0 → (skipped : SkippedRows) × (next ≡ Some (over.Rows skipped))) → (rows ≡ 0 → is_last ≡ false)
+    → ((skipped : SkippedRows) → is_last ≡ false → next ≡ Some (over.Rows skipped) → nat_eq rows 0 ≡ false) → 0 < rows
+is-some zero is_last next some not_last stops = let (skipped, is) = some refl in absurd (false≢true (sym (stops skipped (not_last refl) is)))
+is-some (suc n) is_last next some not_last stops = omega arith

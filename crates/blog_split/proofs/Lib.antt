@@ -5,6 +5,8 @@ mod Small
 mod Greedy
 mod MapIds
 mod Marks
+mod Flags
+mod Adding
 mod Measuring
 mod Splitting
 mod CutWritten

@@ -1,15 +1,14 @@
 -- The maps that rows events of a statement use, marked by their numbers.
-use Rattle.std.proofs.Common.{◌≡◌, ℕ, zero, suc, ◌+◌, ◌<◌, ◌≤◌, Bool, true, false, ◌||◌, if◌then◌else◌, eqb, get_or, List, [], ◌∷◌, ◌++◌, length, filter, drop, Option, Some, None, IfSome, refl, sym, ap, ap₂, subst, ◌∙◌, arith, bytes_eq, slice_get}
+use Rattle.std.proofs.Common.{◌≡◌, ℕ, zero, suc, ◌+◌, ◌<◌, ◌≤◌, Bool, true, false, ◌||◌, get_or, List, [], ◌∷◌, ◌++◌, length, filter, drop, Option, Some, None, IfSome, refl, sym, ap, ap₂, subst, ◌∙◌, arith, bytes_eq, slice_get}
 use Rattle.std.specs.Prelude.{nat_eq, ⊤}
 use Rattle.std.specs.Option.{option_to_list}
-use Rattle.std.specs.List.{All, AllByRecursion, AllPairs, cons_option, dedup, list_any}
+use Rattle.std.specs.List.{All, AllByRecursion, AllPairs, cons_option, list_any}
 use Rattle.std.specs.List.Sorted.{IsPermutation, IsStrictlyIncreasing}
 use Rattle.std.proofs.lemmas.Bool.{cond-true, cond-false, eqb-true, eqb-false}
 use Rattle.std.proofs.Math.Bool.{or-false}
 use Rattle.std.proofs.lemmas.List.{drop_all}
-use Rattle.std.proofs.lemmas.Option.{slice_get-get_or}
+use Rattle.std.proofs.lemmas.Option.{same_Some, slice_get-get_or}
 use Rattle.std.proofs.lemmas.List.Elements.{All-nil, All-cons, All-append, recursion_from_All}
-use Rattle.std.proofs.lemmas.List.Filters.{All-dedup}
 use Rattle.std.proofs.lemmas.List.Folds.{list_any-append}
 use Rattle.std.proofs.lemmas.List.Kept.{AllPairs-from_increasing}
 use Rattle.std.proofs.lemmas.List.Sorted.{All-permutation, list_any-IsPermutation}
@@ -18,10 +17,14 @@ use Rattle.blog_row.specs.RowsEvent.{table_id}
 use Rattle.blog_trans.specs.Groups.{RowsEvent}
 use Rattle.blog_trans.proofs.Turns.{drop-at}
 use Rattle.blog_split.specs.Cuts.{is_used_by}
-use Rattle.blog_split.specs.code.Marks.{goes_by, is_number, IsMapNumber, AreMarks, AreUsed, numbered}
+use Rattle.blog_split.specs.code.Marks.{goes_by, is_number, AreFlags, AreMarks, AreUsed, IsMapNumber, IsUnmarked, numbered}
 use Rattle.blog_split.proofs.MapIds.{at-some, differs}
 
 -- ---- marking
+
+-- a map is used by rows events and one more
+used-joined : (piece : List RowsEvent) (r : RowsEvent) (m : Event) → is_used_by (piece ++ r ∷ []) m ≡ (is_used_by piece m || goes_by r m)
+used-joined piece r m = list_any-append (λ (x : RowsEvent). bytes_eq (table_id m.body) x.content.id) piece (r ∷ []) ∙ ap (λ (b : Bool). is_used_by piece m || b) (or-false (goes_by r m))
 
 pub marks-none : (maps : List Event) → AreMarks maps [] []
 marks-none maps = record { within = All-nil (λ n. n < length maps); marked = λ k m here. refl }
@@ -34,41 +37,61 @@ any-option : (o : Option ℕ) (k : ℕ) → list_any (λ n. nat_eq n k) (option_
 any-option None k = refl
 any-option (Some n) k = or-false (nat_eq n k)
 
--- one more rows event
-pub marks-more : (maps : List Event) (rows : List RowsEvent) (r : RowsEvent) (ns : List ℕ) (o : Option ℕ) → AreMarks maps rows ns → IsMapNumber maps r o → AreMarks maps (rows ++ r ∷ []) (ns ++ option_to_list o)
-marks-more maps rows r ns o marks number = record {
-  within = All-append (λ n. n < length maps) ns (option_to_list o) marks.within (number-within (length maps) o number.within);
+-- what a piece gets by one more rows event: the map of this number, which none of its own uses
+pub record IsAdded (maps : List Event) (piece : List RowsEvent) (r : RowsEvent) (number : Option ℕ) : Type 0 where
+  pub within : IfSome number (λ n. n < length maps)
+  pub goes : (k : ℕ) (m : Event) → slice_get maps k ≡ Some m → is_used_by (piece ++ r ∷ []) m ≡ (is_used_by piece m || is_number number k)
+  pub is_new : (n : ℕ) (m : Event) → number ≡ Some n → slice_get maps n ≡ Some m → is_used_by piece m ≡ false
+
+-- its marks
+pub marks-more : (maps : List Event) (piece : List RowsEvent) (r : RowsEvent) (ns : List ℕ) (number : Option ℕ) → AreMarks maps piece ns → IsAdded maps piece r number
+    → AreMarks maps (piece ++ r ∷ []) (ns ++ option_to_list number)
+marks-more maps piece r ns number marks added = record {
+  within = All-append (λ n. n < length maps) ns (option_to_list number) marks.within (number-within (length maps) number added.within);
   marked = λ k m at.
-      list_any-append (λ (x : RowsEvent). bytes_eq (table_id m.body) x.content.id) rows (r ∷ [])
-      ∙ ap₂ ◌||◌ (marks.marked k m at) (or-false (goes_by r m) ∙ number.goes k m at ∙ sym (any-option o k))
-      ∙ sym (list_any-append (λ n. nat_eq n k) ns (option_to_list o));
+      added.goes k m at ∙ ap₂ ◌||◌ (marks.marked k m at) (sym (any-option number k)) ∙ sym (list_any-append (λ n. nat_eq n k) ns (option_to_list number));
 }
 
--- ---- each once, in order
-
-or-twice : (a b : Bool) → (a || b) ≡ (a || (a || b))
-or-twice true b = refl
-or-twice false b = refl
-
-any-from : (p : ℕ → Bool) (k : ℕ) (xs : List ℕ) → list_any p (dedup eqb (k ∷ xs)) ≡ (p k || list_any p xs)
-any-from p k [] = refl
-any-from p k (x ∷ xs) = by_case (eqb x k) refl (any-from p k xs) (any-from p x xs)
-  where
-    by_case : (b : Bool) → eqb x k ≡ b → list_any p (dedup eqb (k ∷ xs)) ≡ (p k || list_any p xs) → list_any p (dedup eqb (x ∷ xs)) ≡ (p x || list_any p xs)
-        → list_any p (if b then dedup eqb (k ∷ xs) else k ∷ dedup eqb (x ∷ xs)) ≡ (p k || (p x || list_any p xs))
-    by_case true is same next = same ∙ or-twice (p k) (list_any p xs) ∙ ap (λ (n : ℕ). p k || (p n || list_any p xs)) (sym (eqb-true x k is))
-    by_case false is same next = ap (λ (b : Bool). p k || b) next
-
-any-dedup : (p : ℕ → Bool) (xs : List ℕ) → list_any p (dedup eqb xs) ≡ list_any p xs
-any-dedup p [] = refl
-any-dedup p (x ∷ xs) = any-from p x xs
-
--- sorted, and each kept once
-pub marks-kept : (maps : List Event) (rows : List RowsEvent) (ns ms : List ℕ) → AreMarks maps rows ns → IsPermutation ns ms → AreMarks maps rows (dedup eqb ms)
-marks-kept maps rows ns ms marks moved = record {
-  within = All-dedup eqb (λ n. n < length maps) ms (All-permutation (λ n. n < length maps) ns ms moved marks.within);
-  marked = λ k p at. marks.marked k p at ∙ list_any-IsPermutation (λ n. nat_eq n k) ns ms moved ∙ sym (any-dedup (λ n. nat_eq n k) ms);
+-- in another order
+pub marks-moved : (maps : List Event) (rows : List RowsEvent) (ns ms : List ℕ) → AreMarks maps rows ns → IsPermutation ns ms → AreMarks maps rows ms
+marks-moved maps rows ns ms marks moved = record {
+  within = All-permutation (λ n. n < length maps) ns ms moved marks.within;
+  marked = λ k p at. marks.marked k p at ∙ list_any-IsPermutation (λ n. nat_eq n k) ns ms moved;
 }
+
+-- ---- flags
+
+module _ (maps : List Event) (piece : List RowsEvent) (ns : List ℕ) (flags : List Bool) (marks : AreMarks maps piece ns) (are : AreFlags ns flags) where
+  -- a flag says whether the piece uses the map
+  flag-is : (k : ℕ) (b : Bool) (m : Event) → slice_get flags k ≡ Some b → slice_get maps k ≡ Some m → is_used_by piece m ≡ b
+  flag-is k b m set here = marks.marked k m here ∙ sym (are.each k b set)
+
+  -- one more rows event gets the map that it goes by, unless the flag of this is set
+  pub added-unmarked : (r : RowsEvent) (found number : Option ℕ) → IsMapNumber maps r found → IsUnmarked flags found number → IsAdded maps piece r number
+  added-unmarked r None None is unmarked = record {
+    within = tt;
+    goes = λ k m here. used-joined piece r m ∙ ap (λ (b : Bool). is_used_by piece m || b) (is.goes k m here);
+    is_new = λ n m none here. absurd (cc none);
+  }
+  added-unmarked r (Some f) None is unmarked = record {
+    within = tt;
+    goes = λ k m here. used-joined piece r m ∙ ap (λ (b : Bool). is_used_by piece m || b) (is.goes k m here) ∙ by_number k m here (nat_eq f k) refl;
+    is_new = λ n m none here. absurd (cc none);
+  }
+    where
+      by_number : (k : ℕ) (m : Event) → slice_get maps k ≡ Some m → (b : Bool) → nat_eq f k ≡ b → (is_used_by piece m || b) ≡ (is_used_by piece m || false)
+      by_number k m here true same =
+          let used : is_used_by piece m ≡ true = flag-is k true m (ap (slice_get flags) (sym (eqb-true f k same)) ∙ unmarked) here in
+          rw used refl
+      by_number k m here false same = refl
+  added-unmarked r None (Some n) is (same, unset) = absurd (cc same)
+  added-unmarked r (Some f) (Some n) is (same, unset) =
+      let number : f ≡ n = same_Some f n same in
+      record {
+        within = subst (λ (x : ℕ). x < length maps) number is.within;
+        goes = λ k m here. used-joined piece r m ∙ ap (λ (b : Bool). is_used_by piece m || b) (is.goes k m here ∙ ap (λ (x : ℕ). nat_eq x k) number);
+        is_new = λ x m at here. flag-is n false m unset (ap (slice_get maps) (same_Some n x at) ∙ here);
+      }
 
 -- ---- the maps of such numbers
 

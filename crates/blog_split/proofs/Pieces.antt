@@ -105,7 +105,7 @@ piece-formed Known s r rest h rows =
     }
 
 -- all pieces
-pub pieces-formed : (Known : Event → Type 0) (limit : ℕ) (s : Statement) (pieces : List (List RowsEvent)) → IsStatement Known s → AllByRecursion (IsPiece limit) pieces
+pub pieces-formed : (Known : Event → Type 0) (limit : ℕ) (s : Statement) (pieces : List (List RowsEvent)) → IsStatement Known s → AllByRecursion (IsPiece limit s.maps) pieces
     → AllByRecursion (IsRowsEvent s.maps) (flat_map (λ piece. piece) pieces) → AllByRecursion (IsStatement Known) (map (piece_statement s) pieces)
 pieces-formed Known limit s [] h are rows = tt
 pieces-formed Known limit s ([] ∷ pieces) h are rows = absurd are.0

@@ -8,7 +8,7 @@ use Rattle.blog_trans.specs.Groups.{Transaction, groups}
 use Rattle.blog_trans.specs.Changes.{changes}
 use Rattle.blog_flash.specs.Texts.{laid_out_after, flashback_text}
 use Rattle.blog_flash.specs.Theorems.{GivesBack}
-use Rattle.blog_split.specs.Cuts.{IsPiece, IsCutInto, rows_bytes}
+use Rattle.blog_split.specs.Cuts.{IsPiece, IsCutInto, piece_bytes}
 
 -- the selected groups of a log, cut into these, are laid out as a text that is no longer than a log may be
 pub record IsSplit (limit : ℕ) (bytes : List ℕ) (sel : Selection) (cut : List Transaction) (text : List ℕ) : Type 0 where
@@ -17,9 +17,9 @@ pub record IsSplit (limit : ℕ) (bytes : List ℕ) (sel : Selection) (cut : Lis
   pub laid : text ≡ laid_out_after (read bytes sel.stop) cut
   pub short : length text ≤ 4294967295
 
--- each statement is one rows event, or has at most `limit` bytes of rows events
+-- each statement has one rows event, or at most `limit` bytes
 abbrev pub AreBounded : ℕ → List Transaction → Type 0
-AreBounded limit ts = AllByRecursion (λ t. AllByRecursion (λ s. IsPiece limit s.rows) t.statements) ts
+AreBounded limit ts = AllByRecursion (λ t. AllByRecursion (λ s. IsPiece limit s.maps s.rows) t.statements) ts
 
 -- The text is a log of the cut groups, with the same changes in as many transactions; and what undoes it undoes the source.
 pub record KeepsChanges (limit : ℕ) (bytes : List ℕ) (sel : Selection) (cut : List Transaction) (text : List ℕ) : Type 0 where
@@ -30,6 +30,6 @@ pub record KeepsChanges (limit : ℕ) (bytes : List ℕ) (sel : Selection) (cut 
   pub transactions : length (groups text all) ≡ length (groups bytes sel)
   pub undone : GivesBack (changes bytes sel) (changes (flashback_text text all) all)
 
--- no statement has more bytes of rows events than the limit
+-- no statement has more bytes than the limit
 abbrev pub AreSmall : ℕ → List Transaction → Type 0
-AreSmall limit ts = AllByRecursion (λ t. AllByRecursion (λ s. rows_bytes s.rows ≤ limit) t.statements) ts
+AreSmall limit ts = AllByRecursion (λ t. AllByRecursion (λ s. piece_bytes s.maps s.rows ≤ limit) t.statements) ts

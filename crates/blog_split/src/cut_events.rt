@@ -1,28 +1,23 @@
 //! The statements of events to write, cut into smaller ones.
 
-ghost use Rattle.std.specs.Prelude.{◌≡◌, ◌+◌, ◌<◌, ◌≤◌, ◌||◌, nat_eq, nat_le, true, false, [], length, map, IfOk, IfErr, MatchOption, vec_len, vec_capacity};
+ghost use Rattle.std.specs.Prelude.{◌≡◌, ◌<◌, ◌^◌, ◌≤◌, true, false, [], length, map, Some, IfOk, IfErr, MatchOption, vec_len, vec_capacity};
 ghost use Rattle.std.specs.List.Sorted.{IsNonDecreasingBy};
 ghost use Rattle.std.proofs.Props.{props};
 ghost use Rattle.blog_flash.specs.Written.{Written};
 ghost use Rattle.blog_flash.specs.code.Skipping.{IsSkipped};
 ghost use Rattle.blog_flash.specs.code.WrittenView.{written_told};
 ghost use Rattle.blog_split.specs.code.CutWritten.{AreApart, CanBeCut, ending};
-ghost use Rattle.blog_split.specs.code.Marks.{AreListed, event_told};
+ghost use Rattle.blog_split.specs.code.Marks.{AreFlags, AreListed, event_told};
 
 use crate::fault::SplitFault;
 use crate::most::Most;
-use crate::used_maps::{MapId, id_of, mark, number_of, push_map, sort_ids};
-use blog_event::{Event, Fault, HEADER_LEN};
+use crate::piece_maps::{mark, push_flag, unmark, unmarked};
+use crate::room::left_with;
+use crate::used_maps::{MapId, id_of, number_of, push_map, sort_ids};
+use blog_event::{Event, Fault};
 use blog_flash::{WrittenEvent, WrittenEvents};
 use blog_trans::{SkippedEvent, SkippedRows};
 use std::alloc::Allocator;
-
-/// Whether a piece of `rows` rows events, with `left` bytes left to its limit, takes one more with a body of `body_len` bytes.
-fn has_room(rows: usize, left: usize, body_len: usize) -> bool
-    ensures { result ≡ (nat_eq rows 0 || nat_le (19 + body_len) left) }
-{
-    rows == 0 || (left >= HEADER_LEN && left - HEADER_LEN >= body_len)
-}
 
 /// Gives the event another end flag, if it is a rows event.
 #[inline(always)]
@@ -55,6 +50,16 @@ enum Coming {
     Other,
 }
 
+/// A rows event that the open piece takes.
+#[derive(Clone, Copy, Debug)]
+struct Joining<'a> {
+    rows: SkippedRows<'a>,
+    // The number of its map, if that comes with it.
+    map: Option<usize>,
+    // How many bytes the piece has left to its limit then.
+    left: usize,
+}
+
 /// The events of a source, their statements cut into pieces.
 #[derive(Drop)]
 pub struct CutEvents<'a, E: Drop, A: Allocator> {
@@ -71,15 +76,22 @@ pub struct CutEvents<'a, E: Drop, A: Allocator> {
     is_sorted: bool,
     // Whether the open statement ends with the open piece.
     is_last: bool,
-    // The numbers of the maps of the open piece, how many of them were given, and how many of its rows events are left.
+    // The numbers of the maps of the open piece, and of each map of the statement whether it is one of them.
     used: Vec<usize, A>,
+    flags: Vec<bool, A>,
+    // How many maps of the open piece were given, and how many of its rows events are left.
     given: usize,
     rows: usize,
+    ghost few_maps: { vec_len maps ≤ most.maps },
+    ghost few_rows: { most.rows < 2 ^ 64 },
     ghost room_maps: { most.maps ≤ vec_capacity maps },
     ghost room_ids: { most.maps ≤ vec_capacity ids },
-    ghost room_used: { most.rows ≤ vec_capacity used },
+    ghost room_used: { most.maps ≤ vec_capacity used },
+    ghost room_flags: { most.maps ≤ vec_capacity flags },
     ghost listed: { AreListed (map event_told maps.items) ids.items } by { Prim.hlevel props },
     ghost each_listed: { vec_len ids ≡ vec_len maps },
+    ghost each_flagged: { vec_len flags ≡ vec_len maps },
+    ghost flagged: { AreFlags used.items flags.items } by { Prim.hlevel props },
     ghost ordered: { is_sorted ≡ true → IsNonDecreasingBy (λ e. e.id) ids.items } by { Prim.hlevel props },
     ghost apart: { AreApart (map event_told maps.items) } by { Prim.hlevel props },
 }
@@ -90,11 +102,12 @@ impl<'a, E: WrittenEvents<'a> + Drop, A: Allocator> CutEvents<'a, E, A> {
     ghost use Rattle.blog_split.specs.declared.fault.SplitFault.TheVariants as SplitFault;
     ghost use Rattle.blog_split.specs.code.CutView.{GivesCut, GivesMap, GoesOn, HasMap, HasRows, IsReady, IsSound, MarksPiece, Stops, cut_to_come};
     ghost use Rattle.blog_split.specs.declared.cut_events.Coming.TheVariants as Coming;
+    ghost use Rattle.blog_trans.specs.declared.group_events.SkippedRows as skipped;
+    ghost use Rattle.blog_trans.specs.declared.group_events.SkippedEvent.TheVariants as over;
     ghost use Rattle.blog_split.specs.code.CutWritten.{cut_written};
 
-    /// Cuts the statements of `events`. `ahead` must give the same events. Each statement of them must have its maps apart, and
-    /// no more maps and rows events than `most`. Fails with `Log(OutOfMemory)` if there is no memory for the maps of a statement
-    /// and for a number for each of its rows events.
+    /// Cuts the statements of `events`. `ahead` must give the same events. Each statement of them must have its maps apart,
+    /// and no more maps and rows events than `most`. Fails with `Log(OutOfMemory)` if there is no memory for its maps.
     pub(crate) fn new(
         alloc: A,
         most: Most,
@@ -118,7 +131,10 @@ impl<'a, E: WrittenEvents<'a> + Drop, A: Allocator> CutEvents<'a, E, A> {
         let Ok(ids) = Vec::with_capacity(alloc, most.maps) else {
             return Err(SplitFault::Log(Fault::OutOfMemory));
         };
-        let Ok(used) = Vec::with_capacity(alloc, most.rows) else {
+        let Ok(used) = Vec::with_capacity(alloc, most.maps) else {
+            return Err(SplitFault::Log(Fault::OutOfMemory));
+        };
+        let Ok(flags) = Vec::with_capacity(alloc, most.maps) else {
             return Err(SplitFault::Log(Fault::OutOfMemory));
         };
         let next = ahead.skip_event();
@@ -133,6 +149,7 @@ impl<'a, E: WrittenEvents<'a> + Drop, A: Allocator> CutEvents<'a, E, A> {
             is_sorted: false,
             is_last: false,
             used,
+            flags,
             given: 0,
             rows: 0,
         })
@@ -180,6 +197,7 @@ impl<'a, E: WrittenEvents<'a> + Drop, A: Allocator> CutEvents<'a, E, A> {
             self.maps.clear();
             self.ids.clear();
             self.used.clear();
+            self.flags.clear();
             self.given = 0;
             self.is_sorted = false;
             self.is_last = false;
@@ -201,6 +219,7 @@ impl<'a, E: WrittenEvents<'a> + Drop, A: Allocator> CutEvents<'a, E, A> {
         ensures fewer { length (E.to_come self.new.events) < length (E.to_come self.old.events) }
     {
         push_map(&mut self.maps, &mut self.ids, event);
+        push_flag(&mut self.flags);
         self.is_sorted = false;
         self.events.skip_event();
         self.next = self.ahead.skip_event();
@@ -217,17 +236,18 @@ impl<'a, E: WrittenEvents<'a> + Drop, A: Allocator> CutEvents<'a, E, A> {
         ensures left { cut_to_come E.to_come self.new ≡ cut_to_come E.to_come self.old }
         ensures some { 0 < self.new.rows }
     {
-        self.used.clear();
+        unmark(&mut self.used, &mut self.flags);
         self.given = 0;
         sort_ids(&mut self.ids, self.is_sorted);
         self.is_sorted = true;
         self.mark_piece();
         self.used.sort_unstable();
-        self.used.dedup();
     }
 
     /// Returns the next event if it is a rows event of the open piece, which has `left` bytes left to its limit.
-    fn next_rows(&self, left: usize) -> Option<SkippedRows<'a>>
+    fn next_rows(&self, left: usize) -> Option<Joining<'a>>
+        requires sorted { self.now.is_sorted ≡ true }
+        requires id { (rows : skipped.SkippedRows) → self.now.next ≡ Some (over.Rows rows) → 6 ≤ length rows.event.body.now }
         ensures { MatchOption result (Stops self.now left) (GoesOn self.now left) }
     {
         if self.is_last {
@@ -236,10 +256,13 @@ impl<'a, E: WrittenEvents<'a> + Drop, A: Allocator> CutEvents<'a, E, A> {
         let Some(SkippedEvent::Rows(rows)) = self.next else {
             return None;
         };
-        if has_room(self.rows, left, rows.len) {
-            return Some(rows);
+        let number = number_of(&self.ids, id_of(rows.event.body));
+        let map = unmarked(&self.flags, number);
+        match left_with(&self.maps, left, rows.len, map) {
+            Some(left) => Some(Joining { rows, map, left }),
+            None if self.rows == 0 => Some(Joining { rows, map, left: 0 }),
+            None => None,
         }
-        None
     }
 
     /// Goes ahead of the rows events of the next piece, and marks the map of each of them.
@@ -254,12 +277,11 @@ impl<'a, E: WrittenEvents<'a> + Drop, A: Allocator> CutEvents<'a, E, A> {
         ensures first { MarksPiece E.to_come self.old self.new }
     {
         let mut left = self.limit;
-        'events: while let Some(rows) = self.next_rows(left) {
-            let number = number_of(&self.ids, id_of(rows.event.body));
-            mark(&mut self.used, number);
-            left = left.saturating_sub(HEADER_LEN).saturating_sub(rows.len);
+        'events: while let Some(joining) = self.next_rows(left) {
+            mark(&mut self.used, &mut self.flags, joining.map);
+            left = joining.left;
             self.rows += 1;
-            self.is_last = rows.last;
+            self.is_last = joining.rows.last;
             self.next = self.ahead.skip_event();
         }
     }

@@ -87,9 +87,9 @@ fn lay_out_cut<A: Allocator + Copy, B: Allocator>(
     }
 }
 
-/// The changes of a log in statements whose rows events have at most `limit` bytes together, headers included, or are a
-/// single one: each statement of the log is cut into such statements, as few as can be, each with the maps that its rows
-/// events use. Transactions stay whole.
+/// The changes of a log in statements that have at most `limit` bytes, or a single rows event with its map. Each statement
+/// of the log is cut into such statements, each with the maps that its rows events use, and nothing is cut that fits. The
+/// bytes are those of maps and rows events, headers included. Transactions stay whole.
 ///
 /// `Log` with the fault of a log that is refused, or with `OutOfMemory` where memory was. `TooLong` where the cut log would
 /// have more than 4,294,967,295 bytes.

@@ -15,8 +15,8 @@ pub fn split_keeps_changes()
         → KeepsChanges limit bytes sel cut text }
 {}
 
-/// Where no statement has more bytes of rows events than the limit, nothing is cut, and what is laid out is the normal form,
-/// byte for byte. The call does nothing.
+/// Where no statement has more bytes of maps and rows events than the limit, nothing is cut, and what is laid out is the
+/// normal form, byte for byte. The call does nothing.
 pub fn split_of_small_is_normal()
     ensures { (limit : ℕ) (bytes : List ℕ) (sel : Selection) (cut : List Transaction) (text : List ℕ) → AreBytes bytes → IsSplit limit bytes sel cut text
         → AreSmall limit (groups bytes sel) → text ≡ normal_text bytes sel }

@@ -6,6 +6,8 @@ mod cut_log;
 mod fault;
 mod laws;
 mod most;
+mod piece_maps;
+mod room;
 mod used_maps;
 mod written_cut;
 

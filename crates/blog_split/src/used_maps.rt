@@ -1,6 +1,6 @@
-//! The maps of a statement by their table ids, and the marks of those that its rows events use.
+//! The maps of a statement by their table ids.
 
-ghost use Rattle.std.specs.Prelude.{◌≡◌, ◌+◌, ◌<◌, ◌≤◌, true, List, [], ◌∷◌, ◌++◌, length, map, option_to_list, vec_len, vec_capacity};
+ghost use Rattle.std.specs.Prelude.{◌≡◌, ◌+◌, ◌<◌, ◌≤◌, true, List, [], ◌∷◌, ◌++◌, length, map, vec_len, vec_capacity};
 ghost use Rattle.std.specs.List.Sorted.{IsNonDecreasingBy};
 ghost use Rattle.blog_event.specs.Event as value;
 ghost use Rattle.blog_event.specs.File.{AreBytes};
@@ -76,16 +76,4 @@ pub(crate) fn number_of(ids: &[MapId], id: u64) -> Option<usize>
         return None;
     }
     Some(map.number)
-}
-
-/// Marks the map of a number, if there is one.
-pub(crate) fn mark<A: Allocator>(used: &mut Vec<usize, A>, number: Option<usize>)
-    requires { vec_len used.old < vec_capacity used.old }
-    ensures items { used.new.items ≡ used.old.items ++ option_to_list number }
-    ensures len { vec_len used.new ≤ vec_len used.old + 1 }
-    ensures capacity { vec_capacity used.old ≤ vec_capacity used.new }
-{
-    if let Some(number) = number {
-        used.push(number).unwrap();
-    }
 }

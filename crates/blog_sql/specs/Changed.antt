@@ -1,9 +1,10 @@
 -- Groups with other timestamps and other schemas.
-use Rattle.std.specs.Prelude.{ℕ, ◌+◌, ◌==◌, ◌≤◌, nat_lt, ◌&&◌, Bool, List, [], ◌∷◌, ◌++◌, length, map, take, drop, position, if◌then◌else◌, Option, Some, None, bytes_eq}
+use Rattle.std.specs.Prelude.{ℕ, ◌+◌, ◌==◌, ◌≤◌, nat_lt, ◌&&◌, not, Bool, List, [], ◌∷◌, ◌++◌, length, map, take, drop, position, if◌then◌else◌, Option, Some, None, bytes_eq}
 use Rattle.std.specs.Option.{option_map_or}
-use Rattle.std.specs.List.{AllByRecursion}
+use Rattle.std.specs.List.{AllByRecursion, list_any}
 use Rattle.blog_event.specs.Event.{Event}
 use Rattle.blog_row.specs.TableMap.{Names, name_text, names_of}
+use Rattle.blog_trans.specs.Changes.{counts_of}
 use Rattle.blog_trans.specs.Groups.{RowsEvent, Statement, Transaction}
 use Rattle.blog_flash.specs.Written.{Written, Same, Maps, Changes}
 use Rattle.blog_sql.specs.declared.options.Renamed.{Renamed}
@@ -36,6 +37,14 @@ retimed (Some time) timestamp = time
 abbrev pub renamed_schema : List Renamed → List ℕ → List ℕ
 renamed_schema [] name = name
 renamed_schema (pair ∷ pairs) name = if bytes_eq pair.from.now name then pair.to.now else renamed_schema pairs name
+
+-- groups have a table of this schema
+abbrev pub has_schema : List Transaction → List ℕ → Bool
+has_schema ts name = list_any (λ count. bytes_eq count.table.schema name) (counts_of ts)
+
+-- the first pair of whose schema they have none, by its number from 0
+abbrev pub without_schema : List Transaction → List Renamed → Option ℕ
+without_schema ts pairs = position (λ pair. not (has_schema ts pair.from.now)) pairs
 
 -- a new name is as long as a name can be
 abbrev pub HaveShortNames : List Renamed → Type 0

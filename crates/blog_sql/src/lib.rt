@@ -4,16 +4,19 @@
 mod base64_lines;
 mod changed;
 mod chunk;
+mod fault;
 mod full_line;
 mod laws;
 mod of_log;
 mod options;
 mod output;
+mod schemas;
 mod sizes;
 #[cfg(test)]
 mod tests;
 mod written_sql;
 
+pub use fault::SqlFault;
 pub use laws::{binlogs_are_read_back, texts_are_read_back};
 pub use of_log::sql_of_log;
 pub use options::{Renamed, SqlOptions};

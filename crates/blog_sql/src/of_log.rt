@@ -5,9 +5,11 @@ ghost use Rattle.blog_device.specs.Watched.{device_of, has_failed};
 ghost use Rattle.blog_trans.specs.code.IndexView.{index_bytes, index_selection};
 ghost use Rattle.blog_split.specs.SplittingTo.{ends_before_writing, is_writing_fault};
 ghost use Rattle.blog_sql.specs.Changed.{HasShortNames};
-ghost use Rattle.blog_sql.specs.OfLog.{AreSqlSizes, IsPrinted, PrintsLog, cut_of};
+ghost use Rattle.blog_sql.specs.OfLog.{AreSqlSizes, IsPrinted, IsPrintedOrLacks, PrintsLog, cut_of, is_before_writing, is_failed_writing};
 
+use crate::fault::SqlFault;
 use crate::options::SqlOptions;
+use crate::schemas::without_schema;
 use crate::sizes::sql_sizes;
 use crate::written_sql::write_sql;
 use blog_device::{RunFault, Watched};
@@ -67,26 +69,49 @@ fn write_index<A: Allocator + Copy, B: Allocator, W: Write>(
     }
 }
 
-/// Writes a log as SQL that the `mysql` client runs, all or nothing. Each statement is cut as `blog_split::split` does: its rows
-/// events have at most `limit` bytes together, headers included, or are a single one. Each new name of a schema must have at most
-/// 255 bytes. All memory is taken before the first write.
+/// Writes the groups of an index as SQL if they have a table of each schema that is to have another name.
+fn write_with_schemas<A: Allocator + Copy, B: Allocator, W: Write>(
+    alloc: A,
+    writer: &mut Watched<W>,
+    index: &Index<'_, '_, B>,
+    limit: usize,
+    how: &SqlOptions<'_>,
+) -> Result<(), SqlFault>
+    requires { HasShortNames how.now }
+    ensures printed { IsPrintedOrLacks how.now limit (index_bytes index.now) (index_selection index.now) (W.contents (device_of writer.old)) (W.contents (device_of writer.new)) result }
+    ensures untouched { is_before_writing result ≡ true → writer.new ≡ writer.old }
+    ensures mark { has_failed writer.new ≡ (has_failed writer.old || is_failed_writing result) }
+{
+    if let Some(number) = without_schema(index, how.schemas) {
+        return Err(SqlFault::NoSchema(number));
+    }
+    match write_index(alloc, writer, index, limit, how) {
+        Ok(()) => Ok(()),
+        Err(fault) => Err(SqlFault::Run(fault)),
+    }
+}
+
+/// Writes a log as SQL that the `mysql` client runs, all or nothing. Each statement is cut as `blog_split::split` does: with the
+/// maps that they use its rows events have at most `limit` bytes together, headers included, or are a single one. Each new name
+/// of a schema must have at most 255 bytes. All memory is taken before the first write.
 ///
-/// Fails with `Split` before the writer was called: with the fault of a log that is rejected, with `OutOfMemory`, or with `TooLong`
-/// if an event would end after 4,294,967,295. Fails with `Write` if a write failed; the writer then has a beginning of the text.
+/// Fails with `Run(Split)` before the writer was called: with the fault of a log that is rejected, with `OutOfMemory`, or with
+/// `TooLong` if an event would end after 4,294,967,295. Fails with `NoSchema` before it was called, if the log changes no table of a
+/// schema that is to have another name. Fails with `Run(Write)` if a write failed; the writer then has a beginning of the text.
 pub fn sql_of_log<A: Allocator + Copy, W: Write>(
     alloc: A,
     writer: &mut Watched<W>,
     bytes: &[u8],
     limit: usize,
     how: &SqlOptions<'_>,
-) -> Result<(), SplitRunFault>
+) -> Result<(), SqlFault>
     requires { HasShortNames how.now }
     ensures prints { PrintsLog how.now limit bytes.now (W.contents (device_of writer.old)) (W.contents (device_of writer.new)) result }
-    ensures untouched { ends_before_writing result ≡ true → writer.new ≡ writer.old }
-    ensures mark { has_failed writer.new ≡ (has_failed writer.old || is_writing_fault result) }
+    ensures untouched { is_before_writing result ≡ true → writer.new ≡ writer.old }
+    ensures mark { has_failed writer.new ≡ (has_failed writer.old || is_failed_writing result) }
 {
     match selected(alloc, bytes, &Selection::all()) {
-        Ok(index) => write_index(alloc, writer, &index, limit, how),
-        Err(fault) => Err(SplitRunFault::Split(SplitFault::Log(fault))),
+        Ok(index) => write_with_schemas(alloc, writer, &index, limit, how),
+        Err(fault) => Err(SqlFault::Run(SplitRunFault::Split(SplitFault::Log(fault)))),
     }
 }

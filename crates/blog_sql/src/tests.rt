@@ -1,9 +1,9 @@
 //! Small logs as SQL. The texts that are expected were made from the bytes of the logs by another program.
 
-ghost use Rattle.blog_sql.specs.Changed.{HasShortNames};
+ghost use Rattle.blog_sql.specs.Changed.{HasShortNames, HaveShortNames};
 
 use crate::full_line::encoded_line;
-use crate::{NAME_AND_VERSION, Renamed, SqlOptions, sql_of_log};
+use crate::{NAME_AND_VERSION, Renamed, SqlFault, SqlOptions, sql_of_log};
 use base64::engine::general_purpose::STANDARD;
 use blog_device::Watched;
 use blog_event::Fault;
@@ -82,8 +82,8 @@ fn a_statement_over_the_limit_is_cut(rt: HostRuntime) -> Result<(), Fail> {
     // Two rows events of 36 bytes.
     let rows = [insert(1, &[1]).open(), delete(1, &[2])];
     let log = build(&rt, &[BEGIN, Part::Map(T), rows[0], rows[1], XID])?;
-    check(&rt, &log, 72, &UNCHANGED, ONE_STATEMENT);
-    check(&rt, &log, 71, &UNCHANGED, TWO_STATEMENTS);
+    check(&rt, &log, 109, &UNCHANGED, ONE_STATEMENT);
+    check(&rt, &log, 108, &UNCHANGED, TWO_STATEMENTS);
     Ok(())
 }
 
@@ -99,7 +99,46 @@ fn each_transaction_ends_by_itself(rt: HostRuntime) -> Result<(), Fail> {
         schemas: &schemas,
     };
     check(&rt, &two_transactions(&rt)?, LIMIT, &how, TWO_TRANSACTIONS);
+    let how = SqlOptions {
+        schemas: &[],
+        ..how
+    };
     check(&rt, &no_changes(&rt)?, LIMIT, &how, NO_TRANSACTION);
+    Ok(())
+}
+
+/// The schema of the pair of this number isn't in the log, and nothing is written.
+fn check_no_schema<R: AllocGlobal + Abort>(
+    rt: &R,
+    log: &[u8],
+    schemas: &[Renamed<'_>],
+    number: usize,
+)
+    requires { HaveShortNames schemas.now }
+{
+    let how = SqlOptions {
+        schemas,
+        ..UNCHANGED
+    };
+    let mut writer = Watched::new(SlowWriter::new(rt, ALL, Failure::Never));
+    let done = sql_of_log(rt.alloc(), &mut writer, log, LIMIT, &how);
+    assert_eq!(rt; done, Err(SqlFault::NoSchema(number)));
+    assert_eq!(rt; writer.device().calls, 0);
+}
+
+/// The table of the log is `t` of `d`. Names are compared byte by byte.
+#[test]
+fn each_schema_has_to_be_in_the_log(rt: HostRuntime) -> Result<(), Fail> {
+    let to = b"other".as_slice();
+    let there = Renamed { from: b"d", to };
+    let log = two_transactions(&rt)?;
+    let absent = ["", "D", "dd", "t", "other"];
+    for name in absent {
+        let from = name.as_bytes();
+        check_no_schema(&rt, &log, &[Renamed { from, to }], 0);
+        check_no_schema(&rt, &log, &[there, there, Renamed { from, to }], 2);
+    }
+    check_no_schema(&rt, &no_changes(&rt)?, &[there], 0);
     Ok(())
 }
 
@@ -214,7 +253,7 @@ fn a_refused_request_writes_nothing(rt: HostRuntime) -> Result<(), Fail> {
             return Ok(());
         }
         let refused = SplitFault::Log(Fault::OutOfMemory);
-        assert_eq!(rt; done, Err(SplitRunFault::Split(refused)));
+        assert_eq!(rt; done, Err(SqlFault::Run(SplitRunFault::Split(refused))));
         assert!(rt; alloc.has_refused());
         assert_eq!(rt; writer.device().calls, 0);
     }
@@ -233,7 +272,7 @@ fn check_failure<R: AllocGlobal + Abort>(
 ) {
     let mut writer = Watched::new(SlowWriter::new(rt, STEP, failure));
     let done = sql_of_log(rt.alloc(), &mut writer, log, LIMIT, &UNCHANGED);
-    assert_eq!(rt; done, Err(SplitRunFault::Write));
+    assert_eq!(rt; done, Err(SqlFault::Run(SplitRunFault::Write)));
     assert!(rt; Some(writer.device().taken.as_slice()) == text);
     assert_eq!(rt; writer.device().failed_calls, 1);
     assert!(rt; writer.failed());

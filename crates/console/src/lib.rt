@@ -3,10 +3,12 @@
 #![tactic(auto)]
 
 mod arguments;
+mod escapes;
 mod lines;
 mod positions;
 
 pub use arguments::{Told, flag, option, read_error};
+pub use escapes::{are_harmless, escaped_arguments};
 pub use lines::put_line;
 pub use positions::{POSITION, position_of, wrong_value};
 

@@ -1,5 +1,8 @@
 //! The lines on standard error.
 
+ghost use Rattle.std.specs.Prelude.{◌<◌};
+
+use crate::escapes::Shown;
 use blog_device::{RunFault, Watched, put};
 use std::fmt;
 use std::fmt::{Display, Write as _};
@@ -8,10 +11,8 @@ use std::io::Write;
 /// The most bytes that a line has, with its end: a path has at most 4,095.
 const LINE_ROOM: usize = 4608;
 
-/// The hexadecimal digits.
-const DIGITS: &[u8; 16] = b"0123456789abcdef";
-
 /// A line without its end.
+#[derive(Drop)]
 struct Line {
     room: [u8; LINE_ROOM],
     end: usize,
@@ -30,35 +31,17 @@ impl Line {
         Ok(())
     }
 
-    /// Appends a byte as `\x1b`.
-    fn put_escape(&mut self, byte: u8) -> fmt::Result {
-        let high = DIGITS[usize::from(byte >> 4)];
-        let low = DIGITS[usize::from(byte & 15)];
-        self.put(&[b'\\', b'x', high, low])
-    }
-
-    /// Appends a character, escaped as in lists: a backslash is doubled, and no control character is written as it is.
-    fn put_char(&mut self, c: char) -> fmt::Result {
-        match c {
-            '\\' => self.put(b"\\\\"),
-            '\n' => self.put(b"\\n"),
-            '\t' => self.put(b"\\t"),
-            '\r' => self.put(b"\\r"),
-            _ if c.is_control() => {
-                for byte in c.encode_utf8(&mut [0; 4]).as_bytes() {
-                    self.put_escape(*byte)?;
-                }
-                Ok(())
-            }
-            _ => self.put(c.encode_utf8(&mut [0; 4]).as_bytes()),
-        }
+    /// Ends the line, and returns its bytes.
+    fn ended(&mut self) -> &[u8] {
+        self.room[self.end] = b'\n';
+        &self.room[..self.end + 1]
     }
 }
 
 impl fmt::Write for Line {
     fn write_str(&mut self, text: &str) -> fmt::Result {
         for c in text.chars() {
-            self.put_char(c)?;
+            self.put(Shown::new(c).bytes())?;
         }
         Ok(())
     }
@@ -78,7 +61,5 @@ pub fn put_line<E: Write, M: Display>(
     };
     // what doesn't fit is left out
     let _ = write!(line, "{program}: {message}");
-    let Line { mut room, end } = line;
-    room[end] = b'\n';
-    put(errors, &room[..=end])
+    put(errors, line.ended())
 }

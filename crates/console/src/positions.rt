@@ -4,6 +4,7 @@ ghost use Rattle.std.specs.Prelude.{SomeIff};
 ghost use Rattle.std.specs.Str.Parse.{digits_value};
 ghost use Rattle.console.specs.Positions.{IsPosition};
 
+use crate::escapes::escaped;
 use clap::Command;
 use clap::error::ErrorKind;
 use std::alloc::{AllocError, Allocator};
@@ -22,7 +23,8 @@ pub fn position_of(value: &str) -> Option<u32>
     }
 }
 
-/// What the parser of arguments tells of a wrong value of an option, such as `name <POS>`; `has_to_be` says what a value is.
+/// What the parser of arguments tells of a wrong value of an option, such as `name <POS>`; `has_to_be` says what a value is. The
+/// value is escaped.
 pub fn wrong_value<A: Allocator + Copy>(
     alloc: A,
     command: &mut Command<'_>,
@@ -30,6 +32,7 @@ pub fn wrong_value<A: Allocator + Copy>(
     value: &str,
     has_to_be: &str,
 ) -> Result<String<A>, AllocError> {
+    let value = escaped(alloc, value)?;
     let text = format!(in alloc; "invalid value '{value}' for '--{option}': not {has_to_be}")?;
     let error = command.error(ErrorKind::ValueValidation, text.as_str())?;
     error.to_string(alloc)

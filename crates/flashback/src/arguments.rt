@@ -12,7 +12,7 @@ use crate::options::{
 use blog_flash::{Mode, Selection};
 use clap::error::ErrorKind;
 use clap::{ArgMatches, Command, Error};
-use console::{POSITION, Told, position_of, wrong_value};
+use console::{POSITION, Told, are_harmless, escaped_arguments, position_of, wrong_value};
 use std::alloc::{AllocError, Allocator, Global};
 
 /// What the arguments ask for.
@@ -86,7 +86,24 @@ pub fn read_arguments<'a, A: Allocator + Copy>(
 ) -> Result<Asked<'a, A>, ArgumentsFault<A>> {
     let mut command = all_arguments(global)?;
     let parsed = command.try_get_matches_from_mut(arguments);
+    if parsed.is_err() && !are_harmless(arguments) {
+        return read_escaped(global, alloc, arguments);
+    }
     read_parsed(alloc, &mut command, parsed)
+}
+
+/// Answers what the parser tells of wrong arguments once they are escaped, so that its text has no control character of theirs.
+fn read_escaped<'a, A: Allocator + Copy>(
+    global: Global,
+    alloc: A,
+    arguments: &[String],
+) -> Result<Asked<'a, A>, ArgumentsFault<A>> {
+    let escaped = escaped_arguments(global, arguments)?;
+    let mut command = all_arguments(global)?;
+    match command.try_get_matches_from_mut(escaped.as_slice()) {
+        Ok(_) => Err(ArgumentsFault::Mode(ModeFault::NotOneMode)),
+        Err(error) => read_error(alloc, &error),
+    }
 }
 
 /// What the parser's answer asks for.

@@ -131,7 +131,7 @@ fn check_passed<R: AllocGlobal + Abort>(rt: &R, bytes: &[usize]) {
     let found = Found {
         end: 275,
         fault: None,
-        damaged: bytes.len() as u32,
+        damaged: u32::try_from(bytes.len()).expect(rt, "few bytes"),
     };
     check_read(
         rt,

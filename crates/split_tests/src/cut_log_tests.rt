@@ -62,7 +62,7 @@ fn check_cut<R: AllocGlobal + Abort>(rt: &R, log: &[u8], limit: usize) {
 }
 
 fn check_bytes<R: AllocGlobal + Abort>(rt: &R, log: &[u8]) {
-    for limit in [1, 40, 100, 1_000_000_000] {
+    for limit in [1, 40, 100, 150, 1_000_000_000] {
         check_cut(rt, log, limit);
     }
     let whole = cut_at(rt, log, 1_000_000_000);

@@ -22,7 +22,7 @@ fn check_split<R: AllocGlobal + Abort>(
 
 #[test]
 fn each_rows_event_is_a_statement_with_its_map(rt: HostRuntime) -> Result<(), Fail> {
-    // A rows event of one row has 36 bytes.
+    // A rows event of one row has 36 bytes, a map of these tables 38.
     let parts = [
         BEGIN,
         map_of(1, b"t1"),
@@ -34,7 +34,7 @@ fn each_rows_event_is_a_statement_with_its_map(rt: HostRuntime) -> Result<(), Fa
         XID,
     ];
     let cut = build(&rt, &parts)?;
-    for limit in [0, 1, 36, 71] {
+    for limit in [0, 1, 36, 74, 147] {
         check_split(&rt, &two_tables(&rt)?, limit, &cut)?;
         check_split(&rt, &extra_bytes(&rt)?, limit, &cut)?;
     }
@@ -54,10 +54,11 @@ fn pieces_have_the_maps_they_use(rt: HostRuntime) -> Result<(), Fail> {
         XID,
     ];
     let cut = build(&rt, &parts)?;
-    for limit in [72, 107] {
+    // Two rows events with their maps have 148 bytes, the whole statement has 184.
+    for limit in [148, 183] {
         check_split(&rt, &two_tables(&rt)?, limit, &cut)?;
     }
-    check_split(&rt, &two_tables(&rt)?, 108, &two_tables(&rt)?)
+    check_split(&rt, &two_tables(&rt)?, 184, &two_tables(&rt)?)
 }
 
 #[test]
@@ -74,7 +75,7 @@ fn rows_events_of_three_tables_alternate(rt: HostRuntime) -> Result<(), Fail> {
         delete(2, &[5]).open(),
         insert(3, &[6]),
         Part::Map(T),
-        insert(1, &[7, 8, 9]).open(),
+        insert(1, &[7, 8, 9, 7, 8, 9, 7, 8, 9]).open(),
         insert(1, &[7]),
         XID,
     ];
@@ -93,12 +94,48 @@ fn rows_events_of_three_tables_alternate(rt: HostRuntime) -> Result<(), Fail> {
         map_of(3, b"c"),
         delete(2, &[5]).open(),
         insert(3, &[6]),
-        // The first of these has 46 bytes.
+        // The map has 37 bytes, the first of these rows events 76.
         Part::Map(T),
-        insert(1, &[7, 8, 9]),
+        insert(1, &[7, 8, 9, 7, 8, 9, 7, 8, 9]),
         Part::Map(T),
         insert(1, &[7]),
         XID,
     ];
-    check_split(&rt, &log, 75, &build(&rt, &cut_in_twos)?)
+    // Two rows events with their maps have 146 bytes.
+    for limit in [146, 148] {
+        check_split(&rt, &log, limit, &build(&rt, &cut_in_twos)?)?;
+    }
+    Ok(())
+}
+
+#[test]
+fn a_map_counts_once_in_each_piece(rt: HostRuntime) -> Result<(), Fail> {
+    let parts = [
+        BEGIN,
+        Part::Map(T),
+        insert(1, &[1]).open(),
+        insert(1, &[2]).open(),
+        insert(1, &[3]).open(),
+        insert(1, &[4]).open(),
+        insert(1, &[5]),
+        XID,
+    ];
+    let log = build(&rt, &parts)?;
+    let cut_in_twos = [
+        BEGIN,
+        Part::Map(T),
+        insert(1, &[1]).open(),
+        insert(1, &[2]),
+        Part::Map(T),
+        insert(1, &[3]).open(),
+        insert(1, &[4]),
+        Part::Map(T),
+        insert(1, &[5]),
+        XID,
+    ];
+    // The map and two rows events have 109 bytes, and the whole statement has 217.
+    for limit in [109, 144] {
+        check_split(&rt, &log, limit, &build(&rt, &cut_in_twos)?)?;
+    }
+    check_split(&rt, &log, 217, &log)
 }

@@ -99,3 +99,36 @@ fn a_statement_of_many_maps_is_split(rt: HostRuntime) -> Result<(), Fail> {
     assert_eq!(rt; whole, Some(normal));
     Ok(())
 }
+
+/// How many rows events of the statement fit with their maps into 100,000 bytes: each has 36, and each map 37.
+const FITTING: u32 = 1369;
+
+/// The statement in two.
+fn two_pieces<R: AllocGlobal>(rt: &R) -> Result<Vec<u8>, AllocError> {
+    let mut parts = Vec::new(rt.alloc());
+    parts.push(BEGIN)?;
+    for id in MANY - FITTING..MANY {
+        parts.push(map_of(id, b"t"))?;
+    }
+    for number in 1..FITTING {
+        parts.push(insert(MANY - number, &[1]).open())?;
+    }
+    parts.push(insert(MANY - FITTING, &[1]))?;
+    for id in 0..MANY - FITTING {
+        parts.push(map_of(id, b"t"))?;
+    }
+    for number in 1..MANY - FITTING {
+        parts.push(insert(MANY - FITTING - number, &[1]).open())?;
+    }
+    parts.push(insert(0, &[1]))?;
+    parts.push(XID)?;
+    build(rt, &parts)
+}
+
+#[test]
+fn maps_count_in_the_size_of_a_piece(rt: HostRuntime) -> Result<(), Fail> {
+    // The rows events alone have 72,000 bytes.
+    let cut = split(rt.alloc(), &many_maps(&rt)?, 100_000).ok();
+    assert_eq!(rt; cut, Some(two_pieces(&rt)?));
+    Ok(())
+}

@@ -2,6 +2,8 @@
 #![tactic(auto)]
 
 #[cfg(test)]
+mod changed_log_tests;
+#[cfg(test)]
 mod json_form_tests;
 #[cfg(test)]
 mod json_lines;

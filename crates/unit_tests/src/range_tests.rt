@@ -17,7 +17,7 @@ use std::process::Abort;
 use std::test::Fail;
 
 /// Undoes the range of each unit of a log. Answers how many can be undone and how many can't.
-fn undo_each(rt: &(impl AllocGlobal + Abort), bytes: &[u8]) -> Result<(usize, usize), Fail> {
+pub fn undo_each(rt: &(impl AllocGlobal + Abort), bytes: &[u8]) -> Result<(usize, usize), Fail> {
     let log = Log::open(bytes)?;
     let mut undone = 0_usize;
     let mut refused = 0_usize;

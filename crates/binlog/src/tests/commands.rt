@@ -29,14 +29,14 @@ static HELP_LINES: [&str; 11] = [
     "Commands:",
     "  plain  Checks every checksum of LOG and writes the same log without checksums.",
     "  list   Lists the units of LOG: its transactions, and what stands between them and can't be undone.",
-    "  split  Cuts each statement of LOG into statements whose rows events have at most BYTES bytes together,",
+    "  split  Cuts each statement of LOG into statements of at most BYTES bytes: their rows events, and the table",
     "  sql    Prints LOG as SQL that makes its changes on a server, in one transaction: all of them, or after any",
     "  help   Print this message or the help of the given subcommand(s)",
     "Exit status: 0 done, 1 the log is refused or something failed, 2 the arguments are wrong.",
 ];
 
 /// The arguments are wrong, as this line and the usage say.
-fn check_wrong(rt: &HostRuntime, arguments: &[&str], line: &str) -> Result<(), Fail> {
+pub(super) fn check_wrong(rt: &HostRuntime, arguments: &[&str], line: &str) -> Result<(), Fail> {
     let wanted = format!(in rt.alloc(); "{line}{USAGE}")?;
     if run_arguments(rt, arguments)?.is_refusal(2, wanted.as_str()) {
         Ok(())

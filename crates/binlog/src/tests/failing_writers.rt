@@ -151,6 +151,52 @@ fn a_line_has_no_control_characters(rt: HostRuntime) -> Result<(), Fail> {
     Ok(())
 }
 
+/// Checks that wrong arguments are told in a text that begins so, with no control character but line feeds.
+fn check_told(rt: &HostRuntime, arguments: &[&str], text: &str) -> Result<(), Fail> {
+    let outcome = run_arguments(rt, arguments)?;
+    let told = str::from_utf8(outcome.errors())?;
+    let is_clean = told.chars().all(|c| c == '\n' || !c.is_control());
+    if outcome.begins_refusal(2, text) && is_clean {
+        Ok(())
+    } else {
+        Err(Fail::new(format_args!("{arguments:?}: {told}")))
+    }
+}
+
+#[test]
+fn wrong_arguments_are_told_without_control_characters(rt: HostRuntime) -> Result<(), Fail> {
+    let cases: [(&[&str], &str); 6] = [
+        (
+            &["list", "-j", "4\nbinlog: done\x1b[2J", "a"],
+            "error: invalid value '4\\nbinlog: done\\x1b[2J' for '--start-position <POS>': not a position: ",
+        ),
+        (
+            &["sql", "--rewrite-db", "\u{202e}\u{9b}\r", "a"],
+            "error: invalid value '\\u{202e}\\xc2\\x9b\\r' for '--rewrite-db <FROM:TO>': not two names of databases ",
+        ),
+        (
+            &["plain", "a", "b\nc\x7f"],
+            "error: unexpected argument 'b\\nc\\x7f' found\n",
+        ),
+        (
+            &["plain", "--\x1b[31mred", "a"],
+            "error: unexpected argument '--\\x1b[31mred' found\n",
+        ),
+        (
+            &["li\tst", "a"],
+            "error: unrecognized subcommand 'li\\tst'\n",
+        ),
+        (
+            &["plain", "b\\c", "\u{feff}", "d"],
+            "error: unexpected argument '\\u{feff}' found\n",
+        ),
+    ];
+    for (arguments, text) in cases {
+        check_told(&rt, arguments, text)?;
+    }
+    Ok(())
+}
+
 #[test]
 fn a_failed_write_of_sql_is_told(rt: HostRuntime) -> Result<(), Fail> {
     let log = path_of(&rt, "unwritten-sql")?;

@@ -74,6 +74,23 @@ fn standard_output_needs_no_result_file(rt: HostRuntime) -> Result<(), Fail> {
     Ok(())
 }
 
+/// A result file has a name: LOG isn't even opened.
+#[test]
+fn an_empty_name_is_wrong(rt: HostRuntime) -> Result<(), Fail> {
+    for command in ["plain", "split", "sql"] {
+        for arguments in [
+            &[command, "-r", "", "not/there"] as &[&str],
+            &[command, "--result-file=", "--force", "not/there"],
+        ] {
+            let outcome = run_arguments(&rt, arguments)?;
+            let line =
+                "error: a value is required for '--result-file <FILE>' but none was supplied\n";
+            assert!(rt; outcome.begins_refusal(2, line), "{arguments:?}");
+        }
+    }
+    Ok(())
+}
+
 /// Whether the option names the file that is created.
 fn creates(rt: &HostRuntime, option: &str) -> Result<bool, Fail> {
     let result = path_of(rt, "created")?;

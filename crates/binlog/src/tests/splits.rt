@@ -1,7 +1,8 @@
 //! Runs of `split`.
 
+use super::commands::check_wrong;
 use super::{path_of, run_arguments, run_log};
-use sample_logs::builder::{BEGIN, Part, T, XID, build, insert};
+use sample_logs::builder::{BEGIN, XID, build, insert, map_of};
 use sample_logs::logs::insert_and_drop;
 use sample_logs::small::{INSERT_ONE_ROW, SUMMED};
 use sample_logs::summed::{CLOSED, IN_USE};
@@ -9,43 +10,58 @@ use std::alloc::AllocError;
 use std::fs;
 use std::test::Fail;
 
-const MAP: Part<'static> = Part::Map(T);
+/// The rows of the rows events of a statement, which have 531 and 456 bytes.
+const FIRST: [u8; 100] = [5; 100];
 
-/// A log of a statement of two rows events, of 36 bytes each.
-fn whole(rt: &impl AllocGlobal) -> Result<Vec<u8>, AllocError> {
-    let rows = insert(1, &[5]);
-    build(rt, &[BEGIN, MAP, rows.open(), rows, XID])
+const SECOND: [u8; 85] = [6; 85];
+
+/// A log of a statement of two rows events. Its map has 36 bytes and the table's name.
+pub(super) fn whole(rt: &impl AllocGlobal, name: &[u8]) -> Result<Vec<u8>, AllocError> {
+    let map = map_of(1, name);
+    build(
+        rt,
+        &[
+            BEGIN,
+            map,
+            insert(1, &FIRST).open(),
+            insert(1, &SECOND),
+            XID,
+        ],
+    )
 }
 
 /// The same, with a statement for each rows event.
-fn cut(rt: &impl AllocGlobal) -> Result<Vec<u8>, AllocError> {
-    let rows = insert(1, &[5]);
-    build(rt, &[BEGIN, MAP, rows, MAP, rows, XID])
+fn cut(rt: &impl AllocGlobal, name: &[u8]) -> Result<Vec<u8>, AllocError> {
+    let map = map_of(1, name);
+    build(
+        rt,
+        &[BEGIN, map, insert(1, &FIRST), map, insert(1, &SECOND), XID],
+    )
 }
 
-/// Whether a run with these arguments writes this log for the whole statement.
-fn writes(rt: &HostRuntime, arguments: &[&str], text: &[u8]) -> Result<bool, Fail> {
-    let log = whole(rt)?;
-    Ok(run_log(rt, "uncut", log.as_slice(), arguments)?.is_done(text))
+/// Whether a run with these arguments writes this log for another.
+fn writes(rt: &HostRuntime, log: &[u8], arguments: &[&str], text: &[u8]) -> Result<bool, Fail> {
+    Ok(run_log(rt, "uncut", log, arguments)?.is_done(text))
 }
 
 #[test]
 fn statements_are_cut(rt: HostRuntime) -> Result<(), Fail> {
-    let whole = whole(&rt)?;
-    let cut = cut(&rt)?;
-    assert!(rt; writes(&rt, &["split"], &whole)?);
-    assert!(rt; writes(&rt, &["split", "--size", "72"], &whole)?);
-    assert!(rt; writes(&rt, &["split", "--size", "71"], &cut)?);
-    assert!(rt; writes(&rt, &["split", "--size", "0"], &cut)?);
+    let least = whole(&rt, b"t")?;
+    let more = whole(&rt, b"t2")?;
+    let cut = cut(&rt, b"t2")?;
+    assert!(rt; writes(&rt, &more, &["split"], &more)?);
+    assert!(rt; writes(&rt, &least, &["split", "--size", "1024"], &least)?);
+    assert!(rt; writes(&rt, &more, &["split", "--size", "1025"], &more)?);
+    assert!(rt; writes(&rt, &more, &["split", "--size", "1024"], &cut)?);
     Ok(())
 }
 
 #[test]
 fn a_cut_log_is_written_to_a_file(rt: HostRuntime) -> Result<(), Fail> {
-    let log = whole(&rt)?;
-    let cut = cut(&rt)?;
+    let log = whole(&rt, b"t2")?;
+    let cut = cut(&rt, b"t2")?;
     let result = path_of(&rt, "cut-file")?;
-    let arguments = ["split", "--size", "40", "-r", result.as_str()];
+    let arguments = ["split", "--size", "1024", "-r", result.as_str()];
     let outcome = run_log(&rt, "to-file", log.as_slice(), arguments.as_slice())?;
     let kept = run_log(&rt, "to-file", log.as_slice(), arguments.as_slice())?;
     let written = fs::read(&rt, result.as_path())?;
@@ -83,7 +99,7 @@ fn logs_that_are_not_cut_are_told(rt: HostRuntime) -> Result<(), Fail> {
 #[test]
 fn logs_with_checksums_are_cut(rt: HostRuntime) -> Result<(), Fail> {
     let plain = run_log(&rt, "closed", CLOSED.as_slice(), &["plain"])?;
-    for size in ["8000000", "50", "0"] {
+    for size in ["8000000", "1024"] {
         let arguments = ["split", "--size", size];
         let of_plain = run_log(&rt, "closed-plain", plain.output(), arguments.as_slice())?;
         let of_source = run_log(&rt, "closed", CLOSED.as_slice(), arguments.as_slice())?;
@@ -123,6 +139,20 @@ fn wrong_sizes_end_in_two(rt: HostRuntime) -> Result<(), Fail> {
     for (arguments, line) in cases {
         let outcome = run_arguments(&rt, arguments.as_slice())?;
         assert!(rt; outcome.begins_refusal(2, line), "{arguments:?}");
+    }
+    Ok(())
+}
+
+/// How a size is reported that is none.
+pub(super) const NO_SIZE: &str = "not a number of bytes: decimal digits, 1024 to 4294967295";
+
+#[test]
+fn sizes_below_the_least_are_wrong(rt: HostRuntime) -> Result<(), Fail> {
+    for size in ["0", "1", "1023"] {
+        let line = format!(in rt.alloc();
+            "error: invalid value '{size}' for '--size <BYTES>': {NO_SIZE}"
+        )?;
+        check_wrong(&rt, &["split", "--size", size, "a"], line.as_str())?;
     }
     Ok(())
 }

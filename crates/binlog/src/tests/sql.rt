@@ -1,8 +1,10 @@
 //! Runs of `sql`. The lines that are expected were made from the bytes of the log by another program.
 
+use super::commands::check_wrong;
+use super::splits::{NO_SIZE, whole};
 use super::{path_of, run_arguments, run_log};
 use console::VERSION;
-use sample_logs::builder::{BEGIN, COMMIT, Part, T, XID, build, insert, map_of};
+use sample_logs::builder::{BEGIN, COMMIT, Part, XID, build, insert, map_of};
 use sample_logs::logs::{insert_and_drop, two_transactions};
 use sample_logs::small::{INSERT_ONE_ROW, SUMMED};
 use sample_logs::summed::{CLOSED, IN_USE};
@@ -46,6 +48,35 @@ const RENAMED: &str = "\
 BINLOG '
 BAMCARMBAAAAKQAAAMgAAAAAAAEAAAAAAAEABW90aGVyAAF0AAEDAAEEAwIBHgEAAAAkAAAA7AAA
 AAAAAQAAAAAAAQACAAH//gUAAAA=
+';
+SET @undo_errors = @undo_errors + @@error_count;
+";
+
+/// The statement of a log that is cut at 1,024 bytes: its map has 38, its rows events have 531 and 456.
+const CUT: &str = "\
+BINLOG '
+AAAAABMBAAAAJgAAAMUAAAAAAAEAAAAAAAEAAWQAAnQyAAEDAAEAAAAAHgEAAAATAgAA2AIAAAAA
+AQAAAAAAAQACAAH//gUAAAD+BQAAAP4FAAAA/gUAAAD+BQAAAP4FAAAA/gUAAAD+BQAAAP4FAAAA
+/gUAAAD+BQAAAP4FAAAA/gUAAAD+BQAAAP4FAAAA/gUAAAD+BQAAAP4FAAAA/gUAAAD+BQAAAP4F
+AAAA/gUAAAD+BQAAAP4FAAAA/gUAAAD+BQAAAP4FAAAA/gUAAAD+BQAAAP4FAAAA/gUAAAD+BQAA
+AP4FAAAA/gUAAAD+BQAAAP4FAAAA/gUAAAD+BQAAAP4FAAAA/gUAAAD+BQAAAP4FAAAA/gUAAAD+
+BQAAAP4FAAAA/gUAAAD+BQAAAP4FAAAA/gUAAAD+BQAAAP4FAAAA/gUAAAD+BQAAAP4FAAAA/gUA
+AAD+BQAAAP4FAAAA/gUAAAD+BQAAAP4FAAAA/gUAAAD+BQAAAP4FAAAA/gUAAAD+BQAAAP4FAAAA
+/gUAAAD+BQAAAP4FAAAA/gUAAAD+BQAAAP4FAAAA/gUAAAD+BQAAAP4FAAAA/gUAAAD+BQAAAP4F
+AAAA/gUAAAD+BQAAAP4FAAAA/gUAAAD+BQAAAP4FAAAA/gUAAAD+BQAAAP4FAAAA/gUAAAD+BQAA
+AP4FAAAA/gUAAAD+BQAAAP4FAAAA/gUAAAD+BQAAAP4FAAAA/gUAAAD+BQAAAP4FAAAA/gUAAAA=
+';
+SET @undo_errors = @undo_errors + @@error_count;
+BINLOG '
+AAAAABMBAAAAJgAAAP4CAAAAAAEAAAAAAAEAAWQAAnQyAAEDAAEAAAAAHgEAAADIAQAAxgQAAAAA
+AQAAAAAAAQACAAH//gYAAAD+BgAAAP4GAAAA/gYAAAD+BgAAAP4GAAAA/gYAAAD+BgAAAP4GAAAA
+/gYAAAD+BgAAAP4GAAAA/gYAAAD+BgAAAP4GAAAA/gYAAAD+BgAAAP4GAAAA/gYAAAD+BgAAAP4G
+AAAA/gYAAAD+BgAAAP4GAAAA/gYAAAD+BgAAAP4GAAAA/gYAAAD+BgAAAP4GAAAA/gYAAAD+BgAA
+AP4GAAAA/gYAAAD+BgAAAP4GAAAA/gYAAAD+BgAAAP4GAAAA/gYAAAD+BgAAAP4GAAAA/gYAAAD+
+BgAAAP4GAAAA/gYAAAD+BgAAAP4GAAAA/gYAAAD+BgAAAP4GAAAA/gYAAAD+BgAAAP4GAAAA/gYA
+AAD+BgAAAP4GAAAA/gYAAAD+BgAAAP4GAAAA/gYAAAD+BgAAAP4GAAAA/gYAAAD+BgAAAP4GAAAA
+/gYAAAD+BgAAAP4GAAAA/gYAAAD+BgAAAP4GAAAA/gYAAAD+BgAAAP4GAAAA/gYAAAD+BgAAAP4G
+AAAA/gYAAAD+BgAAAP4GAAAA/gYAAAD+BgAAAP4GAAAA/gYAAAA=
 ';
 SET @undo_errors = @undo_errors + @@error_count;
 ";
@@ -97,26 +128,105 @@ fn a_log_is_printed_as_sql(rt: HostRuntime) -> Result<(), Fail> {
             &["sql", "--rewrite-db", "d:other"],
             &[HEAD, "BEGIN;\n", RENAMED, END, LAST],
         ),
-        // the first of a schema counts; of a table's name none does
+        // the first of a schema counts
         (
-            &[
-                "sql",
-                "--rewrite-db",
-                "t:x",
-                "--rewrite-db",
-                "d:other",
-                "--rewrite-db",
-                "d:y",
-            ],
+            &["sql", "--rewrite-db", "d:other", "--rewrite-db", "d:y"],
             &[HEAD, "BEGIN;\n", RENAMED, END, LAST],
         ),
         (
-            &["sql", "--size", "0"],
+            &["sql", "--size", "1024"],
             &[HEAD, "BEGIN;\n", ROWS, END, LAST],
         ),
     ];
     for (arguments, parts) in cases {
         check_printed(&rt, log, arguments, parts)?;
+    }
+    Ok(())
+}
+
+/// Runs `sql` over a log, to standard output or to a file, with each pair of databases, and checks that it refuses the log with this
+/// line, and that it makes no file.
+fn check_no_schema(rt: &HostRuntime, log: &[u8], pairs: &[&str], line: &str) -> Result<(), Fail> {
+    let result = path_of(rt, "no-schema")?;
+    let mut arguments = Vec::new(rt.alloc());
+    arguments.push("sql")?;
+    for pair in pairs {
+        arguments.push("--rewrite-db")?;
+        arguments.push(*pair)?;
+    }
+    let printed = run_log(rt, "of-no-schema", log, arguments.as_slice())?;
+    arguments.push("-r")?;
+    arguments.push(result.as_str())?;
+    let kept = run_log(rt, "of-no-schema", log, arguments.as_slice())?;
+    let is_made = fs::metadata(rt, result.as_path()).is_ok();
+    if printed.is_refusal(1, line) && kept.is_refusal(1, line) && !is_made {
+        Ok(())
+    } else {
+        Err(Fail::new(format_args!("{pairs:?}")))
+    }
+}
+
+/// The body of a map of table `t` in the schema of this one byte.
+fn map_body(schema: u8) -> [u8; 18] {
+    [1, 0, 0, 0, 0, 0, 1, 0, 1, schema, 0, 1, b't', 0, 1, 3, 0, 1]
+}
+
+/// A log that inserts a row into table `t` of each of these schemas, which have names of one byte.
+fn log_of(rt: &HostRuntime, schemas: &[u8]) -> Result<Vec<u8>, Fail> {
+    let mut bodies = Vec::new(rt.alloc());
+    for schema in schemas {
+        bodies.push(map_body(*schema))?;
+    }
+    let mut parts = Vec::new(rt.alloc());
+    for body in &bodies {
+        let map = Part::Other {
+            kind: 19,
+            flags: 0,
+            body,
+        };
+        for part in [BEGIN, map, insert(1, &[5]), XID] {
+            parts.push(part)?;
+        }
+    }
+    Ok(build(rt, &parts)?)
+}
+
+#[test]
+fn databases_that_get_another_name_are_in_the_log(rt: HostRuntime) -> Result<(), Fail> {
+    let cases: [(&[u8], &[&str], &str); 6] = [
+        (
+            b"d",
+            &["t:x"],
+            "binlog: the log changes no table in database t: give --rewrite-db a database of the log: d\n",
+        ),
+        (
+            b"dd\x1b",
+            &["d:other", "d:third", "D:x"],
+            "binlog: the log changes no table in database D: give --rewrite-db a database of the log: d, \\x1b\n",
+        ),
+        (
+            b"abcde",
+            &["f\n:x"],
+            "binlog: the log changes no table in database f\\n: give --rewrite-db a database of the log: a, b, c, d, e\n",
+        ),
+        (
+            b"abacdef",
+            &["g:a"],
+            "binlog: the log changes no table in database g: give --rewrite-db a database of the log: a, b, c, d, e and more\n",
+        ),
+        (
+            b"\xff",
+            &["d:x"],
+            "binlog: the log changes no table in database d: give --rewrite-db a database of the log: \u{fffd}\n",
+        ),
+        (
+            b"",
+            &["d:x"],
+            "binlog: the log changes no table in database d, nor in any other: leave --rewrite-db out\n",
+        ),
+    ];
+    for (schemas, pairs, line) in cases {
+        check_no_schema(&rt, log_of(&rt, schemas)?.as_slice(), pairs, line)?;
     }
     Ok(())
 }
@@ -150,16 +260,33 @@ fn each_transaction_ends_by_itself(rt: HostRuntime) -> Result<(), Fail> {
     Ok(())
 }
 
-/// A statement of two rows events of 36 bytes each, which the limit has room for or not.
+/// A statement of 1,024 bytes, and one of 1,025, which the limit has room for or not.
 #[test]
 fn statements_are_cut(rt: HostRuntime) -> Result<(), Fail> {
-    let rows = insert(1, &[5]);
-    let log = build(&rt, &[BEGIN, Part::Map(T), rows.open(), rows, XID])?;
-    let cases = [("72", 2), ("71", 3), ("0", 3)];
-    for (size, binlogs) in cases {
+    let least = whole(&rt, b"t")?;
+    let more = whole(&rt, b"t2")?;
+    let cases = [
+        (least.as_slice(), "1024", 2),
+        (more.as_slice(), "1025", 2),
+        (more.as_slice(), "1024", 3),
+    ];
+    for (log, size, binlogs) in cases {
         let arguments = ["sql", "--size", size];
-        let outcome = run_log(&rt, "cut-sql", log.as_slice(), arguments.as_slice())?;
+        let outcome = run_log(&rt, "cut-sql", log, arguments.as_slice())?;
         assert_eq!(rt; count(&outcome, "BINLOG '\n")?, binlogs, "{size}");
+    }
+    let arguments = ["sql", "--keep-times", "--size", "1024"];
+    let parts = [HEAD, "BEGIN;\n", CUT, END, LAST];
+    check_printed(&rt, &more, arguments.as_slice(), parts.as_slice())
+}
+
+#[test]
+fn sizes_below_the_least_are_wrong(rt: HostRuntime) -> Result<(), Fail> {
+    for size in ["0", "1", "1023"] {
+        let line = format!(in rt.alloc();
+            "error: invalid value '{size}' for '--size <BYTES>': {NO_SIZE}"
+        )?;
+        check_wrong(&rt, &["sql", "--size", size, "a"], line.as_str())?;
     }
     Ok(())
 }
@@ -187,7 +314,7 @@ fn sql_is_written_to_a_file(rt: HostRuntime) -> Result<(), Fail> {
 #[test]
 fn logs_with_checksums_are_printed(rt: HostRuntime) -> Result<(), Fail> {
     let plain = run_log(&rt, "closed", CLOSED.as_slice(), &["plain"])?;
-    for size in ["8000000", "0"] {
+    for size in ["8000000", "1024"] {
         let arguments = ["sql", "--size", size];
         let of_plain = run_log(&rt, "closed-plain", plain.output(), arguments.as_slice())?;
         let of_source = run_log(&rt, "closed", CLOSED.as_slice(), arguments.as_slice())?;

@@ -19,6 +19,10 @@ json_control byte = codes "\\u00" ++ encode_lower (byte ∷ [])
 abbrev pub is_high_control : ℕ → Bool
 is_high_control c = nat_le 0x7F c && nat_le c 0x9F
 
+-- a byte that may begin one in UTF-8: U+007F, or U+0080 to U+00BF
+abbrev pub may_begin : ℕ → Bool
+may_begin byte = byte == 0x7F || byte == 0xC2
+
 -- a character of a string
 abbrev pub json_char : ℕ → List ℕ
 json_char c =

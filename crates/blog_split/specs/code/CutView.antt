@@ -1,9 +1,11 @@
 -- What a contract sees of events whose statements are cut.
-use Rattle.std.specs.Prelude.{◌≡◌, ℕ, ◌+◌, ◌<◌, ◌≤◌, ◌||◌, nat_eq, nat_le, Bool, true, false, vec_len, List, [], ◌∷◌, ◌++◌, length, map, drop, take, if◌then◌else◌, Option, Some, MatchOption}
+use Rattle.std.specs.Prelude.{◌≡◌, ℕ, ◌+◌, ◌-◌, ◌<◌, ◌≤◌, ◌||◌, nat_eq, nat_le, Bool, true, false, vec_len, List, [], ◌∷◌, ◌++◌, length, map, drop, take, if◌then◌else◌, Option, Some, MatchOption, option_to_list}
 use Rattle.std.specs.List.{All}
 use Rattle.std.specs.Iterator.{YieldsFirstBy}
 use Rattle.blog_event.specs.declared.event.Event as told
 use Rattle.blog_event.specs.Event.{Event}
+use Rattle.blog_event.specs.File.{AreBytes}
+use Rattle.blog_row.specs.RowsEvent.{table_id}
 use Rattle.blog_trans.specs.declared.group_events.SkippedEvent.{SkippedEvent}
 use Rattle.blog_trans.specs.declared.group_events.SkippedEvent.TheVariants as over
 use Rattle.blog_trans.specs.declared.group_events.SkippedRows.{SkippedRows}
@@ -11,11 +13,13 @@ use Rattle.blog_flash.specs.Written.{Written, Maps, rows_written}
 use Rattle.blog_flash.specs.code.Skipping.{IsSkipped}
 use Rattle.blog_flash.specs.code.WrittenView.{written_told}
 use Rattle.blog_flash.specs.declared.written_event.WrittenEvent.{WrittenEvent}
+use Rattle.blog_split.specs.Cuts.{maps_bytes}
 use Rattle.blog_split.specs.code.CutWritten.{CanBeCut, cut_written, piece_written, rows_among}
 use Rattle.blog_split.specs.declared.cut_events.Coming.{Coming}
 use Rattle.blog_split.specs.declared.cut_events.Coming.TheVariants as coming
 use Rattle.blog_split.specs.declared.cut_events.CutEvents.{CutEvents}
-use Rattle.blog_split.specs.code.Marks.{AreMarks, event_told, numbered}
+use Rattle.blog_split.specs.declared.cut_events.Joining.{Joining}
+use Rattle.blog_split.specs.code.Marks.{AreMarks, IsFound, IsUnmarked, event_told, id_number, numbered}
 
 -- the next event was skipped, and the others are left; or there is none
 abbrev pub IsAhead : Option SkippedEvent → List Written → List Written → Type 0
@@ -66,19 +70,33 @@ IsReady cut coming.Map = cut.given < vec_len cut.used
 IsReady cut coming.Rows = (vec_len cut.used ≤ cut.given) × (0 < cut.rows)
 IsReady cut coming.Other = IsThrough cut × ((event : told.Event) → HasMap cut event → ⊥) × (HasRows cut → ⊥)
 
--- the open piece takes a rows event, where so many bytes are left to its limit
-abbrev pub takes : {E A : Type 0} → CutEvents E A → ℕ → SkippedRows → Bool
-takes cut left rows = nat_eq cut.rows 0 || nat_le (19 + rows.len) left
+-- the map that comes with a rows event: it goes by the map, which the open piece doesn't use yet
+pub record ComesWith {E A : Type 0} (cut : CutEvents E A) (rows : SkippedRows) (number : Option ℕ) : Type 0 where
+  pub found : Option ℕ
+  pub bytes : AreBytes (table_id rows.event.body.now)
+  pub is_found : IsFound cut.ids.items (id_number (table_id rows.event.body.now)) found
+  pub is_new : IsUnmarked cut.flags.items found number
+
+-- how many bytes the open piece gets by a rows event and the map of this number
+abbrev pub added : {E A : Type 0} → CutEvents E A → SkippedRows → Option ℕ → ℕ
+added cut rows number = (19 + rows.len) + maps_bytes (numbered (map event_told cut.maps.items) (option_to_list number))
+
+-- it takes them, where so many bytes are left to its limit
+abbrev pub takes : {E A : Type 0} → CutEvents E A → ℕ → SkippedRows → Option ℕ → Bool
+takes cut left rows number = nat_eq cut.rows 0 || nat_le (added cut rows number) left
 
 -- it goes on with the next event
-pub record GoesOn {E A : Type 0} (cut : CutEvents E A) (left : ℕ) (rows : SkippedRows) : Type 0 where
+pub record GoesOn {E A : Type 0} (cut : CutEvents E A) (left : ℕ) (joining : Joining) : Type 0 where
   pub same_statement : cut.is_last ≡ false
-  pub next : cut.next ≡ Some (over.Rows rows)
-  pub room : takes cut left rows ≡ true
+  pub next : cut.next ≡ Some (over.Rows joining.rows)
+  pub comes : ComesWith cut joining.rows joining.map
+  pub room : takes cut left joining.rows joining.map ≡ true
+  pub rest : joining.left ≡ left - added cut joining.rows joining.map
 
 -- it doesn't
 abbrev pub Stops : {E A : Type 0} → CutEvents E A → ℕ → Type 0
-Stops cut left = (rows : SkippedRows) → cut.is_last ≡ false → cut.next ≡ Some (over.Rows rows) → takes cut left rows ≡ false
+Stops cut left = (rows : SkippedRows) → cut.is_last ≡ false → cut.next ≡ Some (over.Rows rows)
+    → (number : Option ℕ) × ComesWith cut rows number × (takes cut left rows number ≡ false)
 
 -- the rows events of the next piece are ahead, and their maps are marked
 pub record MarksPiece {E A : Type 0} (to_come : E → List Written) (before after : CutEvents E A) : Type 0 where

@@ -5,33 +5,33 @@ use Rattle.blog_event.specs.Event.{Event}
 use Rattle.blog_row.specs.RowsEvent.{table_id}
 use Rattle.blog_trans.specs.Groups.{RowsEvent}
 use Rattle.blog_flash.specs.Written.{Written, Same, Maps, Changes, rows_written}
-use Rattle.blog_split.specs.Cuts.{is_used_by, rows_bytes}
+use Rattle.blog_split.specs.Cuts.{is_used_by, piece_bytes}
 use Rattle.blog_split.specs.declared.most.Most.{Most}
 
 -- rows events of a statement with these maps, as a statement of their own; nothing where there are none
 abbrev pub piece_written : List Event → List RowsEvent → List Written
 piece_written maps piece = map Maps (filter (is_used_by piece) maps) ++ rows_written piece
 
--- a piece takes its first rows event whatever its size, and others as long as they have at most `limit` bytes together
-abbrev pub has_room : ℕ → List RowsEvent → RowsEvent → Bool
-has_room limit [] r = true
-has_room limit (p ∷ piece) r = nat_le (rows_bytes (p ∷ (piece ++ r ∷ []))) limit
+-- a piece takes its first rows event whatever its size, and others as long as they have at most `limit` bytes with their maps
+abbrev pub has_room : ℕ → List Event → List RowsEvent → RowsEvent → Bool
+has_room limit maps [] r = true
+has_room limit maps (p ∷ piece) r = nat_le (piece_bytes maps (p ∷ (piece ++ r ∷ []))) limit
 
 -- the piece that a rows event joins, or begins
-abbrev pub joined : ℕ → List RowsEvent → RowsEvent → List RowsEvent
-joined limit piece r = if has_room limit piece r then piece ++ r ∷ [] else r ∷ []
+abbrev pub joined : ℕ → List Event → List RowsEvent → RowsEvent → List RowsEvent
+joined limit maps piece r = if has_room limit maps piece r then piece ++ r ∷ [] else r ∷ []
 
 -- the piece that it ends, by beginning another
 abbrev pub ended : ℕ → List Event → List RowsEvent → RowsEvent → List Written
-ended limit maps piece r = if has_room limit piece r then [] else piece_written maps piece
+ended limit maps piece r = if has_room limit maps piece r then [] else piece_written maps piece
 
 -- events whose statements are cut, after these maps and these rows events of an open statement
 abbrev pub cut_written : ℕ → List Event → List RowsEvent → List Written → List Written
 cut_written limit maps piece [] = piece_written maps piece
 cut_written limit maps piece (Same e ∷ ws) = piece_written maps piece ++ Same e ∷ cut_written limit [] [] ws
 cut_written limit maps piece (Maps m ∷ ws) = piece_written maps piece ++ cut_written limit (maps ++ m ∷ []) [] ws
-cut_written limit maps piece (Changes r true ∷ ws) = ended limit maps piece r ++ (piece_written maps (joined limit piece r) ++ cut_written limit [] [] ws)
-cut_written limit maps piece (Changes r false ∷ ws) = ended limit maps piece r ++ cut_written limit maps (joined limit piece r) ws
+cut_written limit maps piece (Changes r true ∷ ws) = ended limit maps piece r ++ (piece_written maps (joined limit maps piece r) ++ cut_written limit [] [] ws)
+cut_written limit maps piece (Changes r false ∷ ws) = ended limit maps piece r ++ cut_written limit maps (joined limit maps piece r) ws
 
 -- the rows events among written events
 abbrev pub rows_among : List Written → List RowsEvent

@@ -1,6 +1,6 @@
 -- The maps that rows events of a statement use, by their numbers from 0.
 use Rattle.std.specs.Prelude.{◌≡◌, ℕ, ◌<◌, Bool, true, false, List, filter, length, Option, Some, None, IfSome, bytes_eq, nat_eq, slice_get}
-use Rattle.std.specs.List.{All, Contains, filter_map, list_any}
+use Rattle.std.specs.List.{All, Contains, IsDistinct, filter_map, list_any}
 use Rattle.std.specs.List.Sorted.{IsNonDecreasingBy}
 use Rattle.byteorder.specs.Endian.{little_number}
 use Rattle.blog_event.specs.Event.{Event, event_of, unplaced}
@@ -67,6 +67,21 @@ pub record IsMapNumber (maps : List Event) (r : RowsEvent) (number : Option ℕ)
 pub record AreMarks (maps : List Event) (rows : List RowsEvent) (ns : List ℕ) : Type 0 where
   pub within : All (λ n. n < length maps) ns
   pub marked : (k : ℕ) (m : Event) → slice_get maps k ≡ Some m → is_used_by rows m ≡ list_any (λ n. nat_eq n k) ns
+
+-- of each map whether its number is among these, each of which is there once
+pub record AreFlags (ns : List ℕ) (flags : List Bool) : Type 0 where
+  pub within : All (λ n. n < length flags) ns
+  pub once : IsDistinct nat_eq ns
+  pub each : (k : ℕ) (b : Bool) → slice_get flags k ≡ Some b → b ≡ list_any (λ n. nat_eq n k) ns
+
+-- a number whose flag isn't set, if there is one
+abbrev pub IsNew : List Bool → Option ℕ → Type 0
+IsNew flags number = IfSome number (λ n. slice_get flags n ≡ Some false)
+
+-- a number, or none where its flag is set
+abbrev pub IsUnmarked : List Bool → Option ℕ → Option ℕ → Type 0
+IsUnmarked flags number None = IfSome number (λ n. slice_get flags n ≡ Some true)
+IsUnmarked flags number (Some n) = (number ≡ Some n) × (slice_get flags n ≡ Some false)
 
 -- the maps of these numbers
 abbrev pub numbered : List Event → List ℕ → List Event

@@ -45,6 +45,37 @@ fn a_summary_is_no_sql(rt: HostRuntime) -> Result<(), Fail> {
     Ok(())
 }
 
+/// Arguments with control characters, and how the text begins that tells what is wrong.
+static WITH_CONTROLS: [(&[&str], &str); 4] = [
+    (
+        &["-B", "-j", "4\nflashback: done\x1b[2J", "a.binlog"],
+        "error: invalid value '4\\nflashback: done\\x1b[2J' for '--start-position <POS>': not a position: ",
+    ),
+    (
+        &["-B", "a.binlog", "b\nc\x7f\u{9b}\u{202e}"],
+        "error: unexpected argument 'b\\nc\\x7f\\xc2\\x9b\\u{202e}' found\n",
+    ),
+    (
+        &["-B", "--\x1b[31mred", "a.binlog"],
+        "error: unexpected argument '--\\x1b[31mred' found\n",
+    ),
+    (
+        &["-B", "-B", "a\n"],
+        "error: the argument '--flashback' cannot be used multiple times\n",
+    ),
+];
+
+#[test]
+fn wrong_arguments_are_told_without_control_characters(rt: HostRuntime) -> Result<(), Fail> {
+    for (arguments, text) in &WITH_CONTROLS {
+        let outcome = run_arguments(&rt, arguments)?;
+        let told = str::from_utf8(outcome.errors())?;
+        assert!(rt; outcome.begins_refusal(2, text), "{told}");
+        assert!(rt; told.chars().all(|c| c == '\n' || !c.is_control()));
+    }
+    Ok(())
+}
+
 /// Arguments that the parser refuses.
 static WRONG: [&[&str]; 10] = [
     &[],

@@ -4,6 +4,15 @@ use Rattle.blog_trans.specs.declared.group_events.SkippedEvent.TheVariants as ov
 use Rattle.blog_split.proofs.Going.{map-first, skips-steps, steps-ahead}
 use Rattle.blog_split.proofs.cut_events.CutEvents.add_map.Goals as goal
 
+pub invariant_of-self-clause-flagged : goal.invariant_of-self-clause-flagged
+invariant_of-self-clause-flagged g c = let before = c.args.self.now in c.push_flag.ensures.flags before.used.items before.flagged
+
+pub invariant_of-self-clause-apart : goal.invariant_of-self-clause-apart
+invariant_of-self-clause-apart g c =
+    let (w, first, is) = rw (c.requires.next, c.requires.no_rows) at c.requires.sound.next in
+    let can = rw (c.requires.open, c.requires.no_rows, first, is) at c.requires.sound.can_be_cut in
+    rw c.push_map.ensures.maps can.2
+
 pub returns-clause-left : goal.returns-clause-left
 returns-clause-left g c =
     let before = c.args.self.now in

@@ -1,5 +1,5 @@
-use Rattle.std.proofs.Common.{◌≡◌, ◌≤◌, ◌-◌, true, false, length, map, take, drop, vec_len, []}
-use Rattle.blog_split.specs.Cuts.{rows_bytes}
+use Rattle.std.proofs.Common.{◌≡◌, ◌-◌, true, false, length, map, take, drop, []}
+use Rattle.blog_split.specs.Cuts.{piece_bytes}
 use Rattle.blog_split.specs.code.CutView.{HasRows, IsAhead, maps_left}
 use Rattle.blog_split.specs.code.CutWritten.{CanBeCut, cut_written, rows_among}
 use Rattle.blog_split.specs.code.Marks.{AreMarks, event_told}
@@ -26,8 +26,7 @@ invariant-events g l =
       next : IsAhead l.self.next rest (to_come l.self.ahead);
       can_be_cut : CanBeCut l.fn.self.most (maps_left l.self.is_last l.fn.self.maps.items) (rows_open l.self.is_last l.self.rows) rest;
       marks : AreMarks own piece l.self.used.items;
-      few : vec_len l.self.used ≤ l.self.rows;
-      bytes : l.left ≡ l.fn.self.limit - rows_bytes piece;
+      bytes : l.left ≡ l.fn.self.limit - piece_bytes own piece;
       cut : cut_written l.fn.self.limit own [] ws ≡ going l.fn.self.limit l.self.is_last own piece rest;
       some : l.self.rows ≡ 0 → HasRows l.self;
       none_last : l.self.rows ≡ 0 → l.self.is_last ≡ false;
