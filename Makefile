@@ -7,6 +7,8 @@ DESTDIR =
 # the time of all files in an archive or a package: that of the commit
 SOURCE_DATE_EPOCH ?= $(shell git log -1 --format=%ct 2> /dev/null)
 export SOURCE_DATE_EPOCH
+# how many libraries are built at a time
+JOBS := $(shell nproc 2> /dev/null || echo 1)
 # where archives and packages are made
 DIST = dist
 PROGRAM = bin/flashback
@@ -28,9 +30,15 @@ SOURCES := $(shell find crates -path '*/out' -prune -o -type f \
 
 all: $(PROGRAM) $(BINLOG)
 
-# where there is no toolchain, programs that are there are taken as they are
+# Where there is no toolchain, programs that are there are taken as they are. Else the libraries of both are built first, as
+# many at a time as there are processors, each once those that it uses are there: package/libraries.awk has the rules
 ifneq ($(shell command -v $(RT) 2> /dev/null),)
-$(PROGRAM) $(BINLOG): $(SOURCES)
+$(PROGRAM) $(BINLOG): $(SOURCES) | libraries
+
+.PHONY: libraries
+libraries:
+	@mkdir -p bin/libraries && awk -v rt="$(RT)" -f package/libraries.awk crates.txt > bin/libraries/rules \
+		&& $(MAKE) --no-print-directory -s $(if $(findstring jobserver,$(MAKEFLAGS)),,-j $(JOBS)) -f bin/libraries/rules
 endif
 
 # rt proves a program before it builds it, and then runs it: here for its help

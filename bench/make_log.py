@@ -226,6 +226,13 @@ def small_tables(count, columns):
     return [Table(1000 + i, b"many", b"table_%06d" % i, columns) for i in range(count)]
 
 
+def colliding_tables(count, columns):
+    """Tables whose names have the same hash by the seed 0: with these eight bytes a factor of a product is all ones, so that it
+    folds to the same whatever the other factor is."""
+    all_ones = bytes.fromhex("1c4bef3d6b27b154")
+    return [Table(1000 + i, b"many", b"%08d" % i + all_ones + b"t", columns) for i in range(count)]
+
+
 def rows_for(size, count, source, columns):
     """Images for each of count rows events, which are to have size bytes together, but none more than a server's."""
     images, table = [], Table(0, b"", b"", columns)
@@ -255,9 +262,9 @@ def many_maps(source, part, size, count=40_000, columns=TWO, shuffled=True):
     part.xid(1)
 
 
-def many_tables(source, part, size, count=100_000, columns=TWO):
+def many_tables(source, part, size, count=100_000, columns=TWO, made=small_tables):
     """Transactions of one statement, each of the next of 100,000 tables."""
-    tables = small_tables(count, columns)
+    tables = made(count, columns)
     images = rows_for(size - count * 147, count, source, columns)
     while len(part.bytes) < max(size, 1):
         for number, table in enumerate(tables):
@@ -358,7 +365,8 @@ WHOLE = {"many_maps": many_maps, "many_tables": many_tables,
 COUNTED_REPEATED = {"transactions": one_row, "statements": many_statements}
 COUNTED_WHOLE = {"maps": partial(many_maps, columns=TEN, shuffled=False), "shuffled_maps": partial(many_maps, columns=TEN),
                  "tables": partial(many_tables, columns=TEN),
-                 "small_maps": partial(many_maps, shuffled=False), "small_tables": many_tables}
+                 "small_maps": partial(many_maps, shuffled=False), "small_tables": many_tables,
+                 "colliding_tables": partial(many_tables, made=colliding_tables)}
 SHAPES = REPEATED | WHOLE | COUNTED_REPEATED | COUNTED_WHOLE
 ONE_TRANSACTION = ("many_statements", "statements")  # of all copies
 

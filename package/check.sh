@@ -1,5 +1,6 @@
 #!/bin/sh
-# Checks what is installed and packed, each example of the helps and the man pages, and which ports are named:
+# Checks what is installed and packed, each example of the helps and the man pages, which ports are named, and, where there is
+# python3, that the names and paths on the pages are in the tree:
 #     package/check.sh PROGRAM BINLOG VERSION
 # Prints one line if all is well, else what differs from package/files.txt and package/examples.txt.
 set -eu
@@ -256,6 +257,9 @@ faults_are_told crates/blog_event/src/fault.rt flashback
 faults_are_told crates/blog_sum/src/fault.rt binlog
 ports_are_named
 pages_are_sound
+if command -v python3 > "$work/which"; then
+    python3 package/pages.py || differs "a page names what isn't there"
+fi
 for program in flashback binlog; do
     case $($program --version) in
         "$program $version (proved with "*) ;;

@@ -7,9 +7,10 @@ use blog_device::{RunFault, Watched, put, read_log};
 use blog_flash::{Mode, Selection, flashback, run};
 use blog_list::{Form, Style, list};
 use blog_request::Wanted;
+use blog_row::Order;
+use blog_run::{Writing, write_changes};
 use blog_source::{Reading, Source, plain};
-use blog_split::split_to;
-use blog_sql::{SqlOptions, sql_of_log};
+use blog_sql::SqlOptions;
 use jiff::tz::TimeZone;
 use std::alloc::Global;
 use std::fmt::Debug;
@@ -119,6 +120,7 @@ pub fn list_all(
         form,
         zone,
         gtids: true,
+        seed: 0,
     };
     let end = list(alloc, alloc, &source, &of_tables(&[]), &style, output)?;
     put_answer(alloc, &end, output)
@@ -142,6 +144,7 @@ pub fn list_table<'n>(
         form: Form::Text,
         zone: TimeZone::UTC,
         gtids: false,
+        seed: 0,
     };
     let end = list(alloc, alloc, &source, &wanted, &style, output)?;
     put_answer(alloc, &end, output)
@@ -158,7 +161,19 @@ pub fn make_plain(alloc: Global, log: &[u8], output: &mut Output) -> Result<(), 
 /// Runs `binlog split` on a log.
 pub fn cut(alloc: Global, log: &[u8], output: &mut Output) -> Result<(), Failure> {
     let source = open_whole(alloc, log, output)?;
-    let done = split_to(alloc, output, source.bytes(), LIMIT)?;
+    let writing = Writing {
+        order: Order::Forward,
+        limit: LIMIT,
+        sql: None,
+    };
+    let done = write_changes(
+        alloc,
+        output,
+        source.bytes(),
+        &Selection::all(),
+        0,
+        &writing,
+    )?;
     put_answer(alloc, &done, output)
 }
 
@@ -175,7 +190,19 @@ pub fn print(
         time: Some(1_780_000_000),
         schemas: &[],
     };
-    let done = sql_of_log(alloc, output, source.bytes(), LIMIT, &how)?;
+    let writing = Writing {
+        order: Order::Forward,
+        limit: LIMIT,
+        sql: Some(how),
+    };
+    let done = write_changes(
+        alloc,
+        output,
+        source.bytes(),
+        &Selection::all(),
+        0,
+        &writing,
+    )?;
     put_answer(alloc, &done, output)
 }
 

@@ -1,8 +1,7 @@
 //! Why a job ended early.
 
 use blog_device::RunFault;
-use blog_split::SplitRunFault;
-use blog_sql::SqlFault;
+use blog_run::WritingFault;
 use blog_sum::SumFault;
 use std::alloc::AllocError;
 use std::io;
@@ -23,12 +22,9 @@ pub enum Failure {
     /// A run ended early.
     #[error("a run ended early: {0:?}")]
     Run(RunFault),
-    /// A log was not cut.
-    #[error("a log was not cut: {0:?}")]
-    Split(SplitRunFault),
-    /// A log was not printed as SQL.
-    #[error("a log was not printed as SQL: {0:?}")]
-    Sql(SqlFault),
+    /// Changes were not written.
+    #[error("changes were not written: {0:?}")]
+    Writing(WritingFault),
     /// A log was not read.
     #[error("a log was not read: {0:?}")]
     Sum(SumFault),
@@ -43,15 +39,9 @@ impl From<RunFault> for Failure {
     }
 }
 
-impl From<SplitRunFault> for Failure {
-    fn from(fault: SplitRunFault) -> Failure {
-        Failure::Split(fault)
-    }
-}
-
-impl From<SqlFault> for Failure {
-    fn from(fault: SqlFault) -> Failure {
-        Failure::Sql(fault)
+impl From<WritingFault> for Failure {
+    fn from(fault: WritingFault) -> Failure {
+        Failure::Writing(fault)
     }
 }
 

@@ -1,21 +1,9 @@
 //! `binlog` prepares MySQL binary logs for `flashback`, lists what can be undone of them, and prints them as SQL.
 #![tactic(auto)]
 
-mod arguments;
-mod commands;
-mod lines;
-mod list_arguments;
-mod list_runs;
-mod log_file;
-mod options;
-mod schemas;
-mod sql_arguments;
-#[cfg(test)]
-mod tests;
-mod zones;
-
+use binlog_command::{Process, command};
 use blog_device::Watched;
-use commands::{Process, command};
+use console::seed_of_run;
 use std::io::IsTerminal;
 use std::process::ExitCode;
 use std::time::{SystemTime, UNIX_EPOCH};
@@ -38,6 +26,7 @@ fn main(rt: HostRuntime) -> ExitCode {
         id: process::id(rt.process()),
         began: seconds_since_1970(&rt),
         writes_to_terminal: rt.stdout().is_terminal(),
+        seed: seed_of_run(&rt),
     };
     let mut output = Watched::new(rt.stdout());
     let mut errors = Watched::new(rt.stderr());

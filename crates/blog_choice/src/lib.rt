@@ -6,8 +6,6 @@ mod chosen_names;
 mod laws;
 mod name_set;
 mod naming;
-#[cfg(test)]
-mod tests;
 mod words;
 
 pub use choice::{TableChoice, TableName};

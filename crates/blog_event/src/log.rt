@@ -21,6 +21,7 @@ const MAGIC: &[u8] = b"\xfebin";
 pub struct Log<'a> {
     bytes: &'a [u8],
     format: Event<'a>,
+    seed: u64,
     pub ghost short: { length bytes.now < 2 ^ 32 },
     pub ghost mark: { bytes_eq (take 4 bytes.now) magic ≡ true },
     pub ghost stands: { event_at (drop 4 bytes.now) ≡ Some (event_of format) },
@@ -82,7 +83,7 @@ impl<'a> Log<'a> {
     ghost use Rattle.std.specs.Result.{result_ok};
     ghost use Rattle.blog_event.specs.declared.fault.Fault.TheVariants.{CutEvent};
     ghost use Rattle.blog_event.specs.Opening.{opening_fault};
-    ghost use Rattle.blog_event.specs.code.LogView.{log_bytes};
+    ghost use Rattle.blog_event.specs.code.LogView.{log_bytes, log_seed};
 
     /// Opens the bytes of a file as a log. Fails at the first of these that holds: with `TooLong` at 0 if there are more
     /// than 4,294,967,295; with `NotABinlog` at 0 if they don't begin with the magic number; with `CutEvent` at 4 if no event
@@ -92,10 +93,35 @@ impl<'a> Log<'a> {
     pub fn open(bytes: &'a [u8]) -> Result<Log<'a>, Fault>
         ensures exact { result_err result ≡ opening_fault bytes.now }
         ensures bytes { IfOk result (λ log. log_bytes log ≡ bytes.now) }
+        ensures seed { IfOk result (λ log. log_seed log ≡ 0) }
     {
         let format = first_event(bytes)?;
         check_format(&format)?;
-        Ok(Log { bytes, format })
+        Ok(Log {
+            bytes,
+            format,
+            seed: 0,
+        })
+    }
+
+    /// Returns the same log with another seed for hashing the names and ids of its tables. Nobody who doesn't know the
+    /// seed can choose names or ids that collide. It changes how long calls take, but none of their results.
+    pub fn with_seed(self, seed: u64) -> Log<'a>
+        ensures bytes { log_bytes result ≡ log_bytes self.entry }
+        ensures seed { log_seed result ≡ seed }
+    {
+        Log {
+            bytes: self.bytes,
+            format: self.format,
+            seed,
+        }
+    }
+
+    /// Returns the seed for hashing, which is 0 after `open`.
+    pub fn seed(&self) -> u64
+        ensures { result ≡ log_seed self.now }
+    {
+        self.seed
     }
 
     /// The bytes of the file.

@@ -19,9 +19,9 @@ pub use blog_event::Fault;
 pub use blog_trans::Selection;
 pub use laid_out::{front, lay_out};
 pub use log_sizes::{LogSizes, sizes_of};
-pub use modes::{Mode, answer, flashback, forward, selected, sql, summary};
+pub use modes::{Mode, answer, answer_seeded, flashback, forward, selected, sql, summary};
 pub use printed::put_table;
-pub use runs::{prepare, run, run_by_chunks};
+pub use runs::{prepare, prepare_seeded, run, run_by_chunks, run_seeded};
 pub use theorems::{
     every_stop_stands, flashback_undoes, forward_is_normal, groups_show_each_event_once,
     maps_agree_on_layouts, written_changes_are_inverse, written_logs_are_no_longer,

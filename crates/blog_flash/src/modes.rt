@@ -1,7 +1,10 @@
 //! What is answered to a log.
 
 ghost use Rattle.std.specs.Prelude.{◌≡◌, ◌≤◌, IfOk, IfErr, IsTrue, IsFalse, length, map};
+ghost use Rattle.std.specs.Result.{result_err};
 ghost use Rattle.blog_event.specs.File.{end_of, read};
+ghost use Rattle.blog_event.specs.Opening.{opening_fault};
+ghost use Rattle.blog_event.specs.code.LogView.{log_bytes};
 ghost use Rattle.blog_trans.specs.Selection.{selection_of};
 ghost use Rattle.blog_trans.specs.Acceptance.{IsAccepted, fault, IsRefusal};
 ghost use Rattle.blog_trans.specs.Groups.{groups};
@@ -38,18 +41,31 @@ pub enum Mode {
     Summary,
 }
 
-/// The index of a log under a selection, with the errors of `answer`.
+/// Opens a log, with a seed by which its tables are looked up.
+fn opened(bytes: &[u8], seed: u64) -> Result<Log<'_>, Fault>
+    ensures exact { result_err result ≡ opening_fault bytes.now }
+    ensures bytes { IfOk result (λ log. log_bytes log ≡ bytes.now) }
+{
+    match Log::open(bytes) {
+        Ok(log) => Ok(log.with_seed(seed)),
+        Err(fault) => Err(fault),
+    }
+}
+
+/// The index of a log under a selection, with the errors of `answer`. Names and ids of tables are hashed by a seed
+/// (`Log::with_seed`); no result depends on it.
 pub fn selected<'a, 's, A: Allocator + Copy>(
     alloc: A,
     bytes: &'a [u8],
     sel: &Selection<'s>,
+    seed: u64,
 ) -> Result<Index<'a, 's, A>, Fault>
     ensures accepted { IfOk result (λ groups. IsAccepted bytes.now (selection_of sel.now)) }
     ensures bytes { IfOk result (λ groups. index_bytes groups ≡ bytes.now) }
     ensures selection { IfOk result (λ groups. index_selection groups ≡ selection_of sel.now) }
     ensures refused { IfErr result (IsRefusal (fault bytes.now (selection_of sel.now))) }
 {
-    let log = Log::open(bytes)?;
+    let log = opened(bytes, seed)?;
     index(alloc, &log, sel)
 }
 
@@ -71,12 +87,13 @@ fn laid_out<A: Allocator + Copy>(
     bytes: &[u8],
     sel: &Selection<'_>,
     order: Order,
+    seed: u64,
 ) -> Result<Vec<u8, A>, Fault>
     ensures accepted { IfOk result (λ text. IsAccepted bytes.now (selection_of sel.now)) }
     ensures text { IfOk result (λ text. text.items ≡ laid_out_after (read bytes.now (selection_of sel.now).stop) (groups_in order (groups bytes.now (selection_of sel.now)))) }
     ensures refused { IfErr result (IsRefusal (fault bytes.now (selection_of sel.now))) }
 {
-    let groups = selected(alloc, bytes, sel)?;
+    let groups = selected(alloc, bytes, sel, seed)?;
     let front = front(&groups);
     let sizes = group_sizes(&groups, front, order);
     Ok(lay_out(alloc, front, &mut WrittenGroups::new(&groups, order), sizes)?)
@@ -87,12 +104,13 @@ fn printed<A: Allocator + Copy>(
     alloc: A,
     bytes: &[u8],
     sel: &Selection<'_>,
+    seed: u64,
 ) -> Result<Vec<u8, A>, Fault>
     ensures accepted { IfOk result (λ text. IsAccepted bytes.now (selection_of sel.now)) }
     ensures text { IfOk result (λ text. text.items ≡ sql_text (groups bytes.now (selection_of sel.now))) }
     ensures refused { IfErr result (IsRefusal (fault bytes.now (selection_of sel.now))) }
 {
-    let groups = selected(alloc, bytes, sel)?;
+    let groups = selected(alloc, bytes, sel, seed)?;
     match put_sql(alloc, &groups) {
         Ok(text) => Ok(text),
         Err(_) => Err(Fault::OutOfMemory),
@@ -104,11 +122,12 @@ fn flashback_sql<A: Allocator + Copy>(
     alloc: A,
     bytes: &[u8],
     sel: &Selection<'_>,
+    seed: u64,
 ) -> Result<Vec<u8, A>, Fault>
     ensures { Answers bytes.now Mode.FlashbackSql (selection_of sel.now) result }
 {
-    let written = laid_out(alloc, bytes, sel, Order::Backward)?;
-    printed(alloc, &written, &Selection::all())
+    let written = laid_out(alloc, bytes, sel, Order::Backward, seed)?;
+    printed(alloc, &written, &Selection::all(), seed)
 }
 
 /// The selected changes as pseudo-SQL.
@@ -116,10 +135,11 @@ fn forward_sql<A: Allocator + Copy>(
     alloc: A,
     bytes: &[u8],
     sel: &Selection<'_>,
+    seed: u64,
 ) -> Result<Vec<u8, A>, Fault>
     ensures { Answers bytes.now Mode.ForwardSql (selection_of sel.now) result }
 {
-    printed(alloc, bytes, sel)
+    printed(alloc, bytes, sel, seed)
 }
 
 /// The selected groups of a log in numbers.
@@ -127,21 +147,78 @@ fn counted<A: Allocator + Copy>(
     alloc: A,
     bytes: &[u8],
     sel: &Selection<'_>,
+    seed: u64,
 ) -> Result<Vec<u8, A>, Fault>
     ensures accepted { IfOk result (λ text. IsAccepted bytes.now (selection_of sel.now)) }
     ensures text { IfOk result (λ text. text.items ≡ summary_text (groups bytes.now (selection_of sel.now))) }
     ensures refused { IfErr result (IsRefusal (fault bytes.now (selection_of sel.now))) }
 {
-    let groups = selected(alloc, bytes, sel)?;
+    let groups = selected(alloc, bytes, sel, seed)?;
     match put_summary(alloc, &groups) {
         Ok(text) => Ok(text),
         Err(_) => Err(Fault::OutOfMemory),
     }
 }
 
+/// The log that undoes the selected changes.
+fn flashback_log<A: Allocator + Copy>(
+    alloc: A,
+    bytes: &[u8],
+    sel: &Selection<'_>,
+    seed: u64,
+) -> Result<Vec<u8, A>, Fault>
+    ensures { Answers bytes.now Mode.Flashback (selection_of sel.now) result }
+{
+    laid_out(alloc, bytes, sel, Order::Backward, seed)
+}
+
+/// The selected changes in normal form.
+fn forward_log<A: Allocator + Copy>(
+    alloc: A,
+    bytes: &[u8],
+    sel: &Selection<'_>,
+    seed: u64,
+) -> Result<Vec<u8, A>, Fault>
+    ensures { Answers bytes.now Mode.Forward (selection_of sel.now) result }
+{
+    laid_out(alloc, bytes, sel, Order::Forward, seed)
+}
+
+/// The selected changes in numbers.
+fn summary_text<A: Allocator + Copy>(
+    alloc: A,
+    bytes: &[u8],
+    sel: &Selection<'_>,
+    seed: u64,
+) -> Result<Vec<u8, A>, Fault>
+    ensures { Answers bytes.now Mode.Summary (selection_of sel.now) result }
+{
+    counted(alloc, bytes, sel, seed)
+}
+
+/// `answer`, where names and ids of tables are hashed by a seed (`Log::with_seed`). The answer doesn't depend on it.
+pub fn answer_seeded<A: Allocator + Copy>(
+    alloc: A,
+    bytes: &[u8],
+    mode: Mode,
+    sel: &Selection<'_>,
+    seed: u64,
+) -> Result<Vec<u8, A>, Fault>
+    ensures { Answers bytes.now mode (selection_of sel.now) result }
+{
+    match mode {
+        Mode::Flashback => flashback_log(alloc, bytes, sel, seed),
+        Mode::Forward => forward_log(alloc, bytes, sel, seed),
+        Mode::FlashbackSql => flashback_sql(alloc, bytes, sel, seed),
+        Mode::ForwardSql => forward_sql(alloc, bytes, sel, seed),
+        Mode::Summary => summary_text(alloc, bytes, sel, seed),
+    }
+}
+
 /// What the mode makes of a log under a selection.
 ///
-/// A log that is refused is answered with its first fault, in every mode. `OutOfMemory` where memory was refused.
+/// A log that is refused is answered with its first fault, in every mode. `OutOfMemory` where memory was refused. Tables are
+/// looked up by the seed 0: for logs of others there is `answer_seeded`.
 pub fn answer<A: Allocator + Copy>(
     alloc: A,
     bytes: &[u8],
@@ -150,13 +227,7 @@ pub fn answer<A: Allocator + Copy>(
 ) -> Result<Vec<u8, A>, Fault>
     ensures { Answers bytes.now mode (selection_of sel.now) result }
 {
-    match mode {
-        Mode::Flashback => flashback(alloc, bytes, sel),
-        Mode::Forward => forward(alloc, bytes, sel),
-        Mode::FlashbackSql => flashback_sql(alloc, bytes, sel),
-        Mode::ForwardSql => forward_sql(alloc, bytes, sel),
-        Mode::Summary => summary(alloc, bytes, sel),
-    }
+    answer_seeded(alloc, bytes, mode, sel, 0)
 }
 
 /// The log that undoes the selected changes of a log (MariaDB Knowledge Base, "Flashback"): `answer` for
@@ -168,7 +239,7 @@ pub fn flashback<A: Allocator + Copy>(
 ) -> Result<Vec<u8, A>, Fault>
     ensures { Answers bytes.now Mode.Flashback (selection_of sel.now) result }
 {
-    laid_out(alloc, bytes, sel, Order::Backward)
+    flashback_log(alloc, bytes, sel, 0)
 }
 
 /// The selected changes of a log in normal form, as a log: `answer` for `Mode::Forward`, with its errors.
@@ -179,7 +250,7 @@ pub fn forward<A: Allocator + Copy>(
 ) -> Result<Vec<u8, A>, Fault>
     ensures { Answers bytes.now Mode.Forward (selection_of sel.now) result }
 {
-    laid_out(alloc, bytes, sel, Order::Forward)
+    forward_log(alloc, bytes, sel, 0)
 }
 
 /// The selected changes of a log as pseudo-SQL, or backwards those that undo them: `answer` for `Mode::ForwardSql` or
@@ -194,9 +265,9 @@ pub fn sql<A: Allocator + Copy>(
     ensures forward { IsFalse backwards → Answers bytes.now Mode.ForwardSql (selection_of sel.now) result }
 {
     if backwards {
-        flashback_sql(alloc, bytes, sel)
+        flashback_sql(alloc, bytes, sel, 0)
     } else {
-        forward_sql(alloc, bytes, sel)
+        forward_sql(alloc, bytes, sel, 0)
     }
 }
 
@@ -209,5 +280,5 @@ pub fn summary<A: Allocator + Copy>(
 ) -> Result<Vec<u8, A>, Fault>
     ensures { Answers bytes.now Mode.Summary (selection_of sel.now) result }
 {
-    counted(alloc, bytes, sel)
+    summary_text(alloc, bytes, sel, 0)
 }

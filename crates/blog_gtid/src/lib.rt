@@ -4,8 +4,6 @@
 mod integers;
 mod laws;
 mod tagged;
-#[cfg(test)]
-mod tests;
 
 pub use laws::{a_gtid_body_fits, reading_a_tagged_event_is_exact, reading_an_integer_is_exact};
 pub use tagged::{TaggedId, gtid_body, tagged_id};

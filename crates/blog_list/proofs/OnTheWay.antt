@@ -326,14 +326,14 @@ is-concern w log unit concern same is = ap (concern_of w log (facts_told unit)) 
 -- the line of a wanted unit was appended
 pub listing-wanted : {A B : Type 0} (before : List ℕ) (gtids : Bool) (column : TimeColumn B) (w : Wanted) (log : List ℕ) (place : ℕ → ℕ) (l : LogList) (left rest : List Facts)
     → (had has : Option (List ℕ)) (held more : List ℕ) (unit : Unit A) (concern : Concern)
-    → IsListing (record { zone = plain_zone column.zone; gtids = gtids; width = length (string_bytes column.heading); before = before }) l (listed_of w log place left) had has held
+    → IsListing (record { zone = plain_zone column.zone; gtids = gtids; width = length column.heading.items; before = before }) l (listed_of w log place left) had has held
     → left ≡ facts_told unit ∷ rest → changes_told unit.groups ≡ changes_of log (facts_told unit) → is_before unit.start w.stop ≡ true
     → concern ≡ concern_of w log (facts_told unit) (changes_told unit.groups) → is_wanted concern ≡ true → PutsLine column gtids (shown_told log place unit) held more
-    → IsListing (record { zone = plain_zone column.zone; gtids = gtids; width = length (string_bytes column.heading); before = before }) l (listed_of w log place rest) had has more
+    → IsListing (record { zone = plain_zone column.zone; gtids = gtids; width = length column.heading.items; before = before }) l (listed_of w log place rest) had has more
 listing-wanted before gtids column w log place l left rest had has held more unit concern list first same earlier is wanted (line, shows, grown) =
     let s : Shown = shown_told log place unit in
     let chosen = wanted-first w log place (facts_told unit) left rest s first (told-is-shown log place unit same) earlier (ap is_wanted (is-concern w log unit concern same is) ∙ wanted) in
-    listing-more (record { zone = plain_zone column.zone; gtids = gtids; width = length (string_bytes column.heading); before = before }) l (listed_of w log place left) (listed_of w log place rest) had has held more line s
+    listing-more (record { zone = plain_zone column.zone; gtids = gtids; width = length column.heading.items; before = before }) l (listed_of w log place left) (listed_of w log place rest) had has held more line s
     list chosen shows grown
 
 -- a unit isn't wanted

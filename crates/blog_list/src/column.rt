@@ -1,9 +1,11 @@
 //! The column of times in a list.
 
-ghost use Rattle.std.specs.Prelude.{◌≡◌, ◌++◌, IfOk, OnOk, replicate, string_bytes};
+ghost use Rattle.std.specs.Prelude.{◌≡◌, ◌++◌, IfOk, OnOk, replicate};
 ghost use Rattle.jiff.specs.Words.{plain_zone};
-ghost use Rattle.blog_list.specs.Columns.{IsHeading, IsPadded, IsSeasonsHeading, IsTimeColumn, PutsTime, heading_of_two};
+ghost use Rattle.blog_list.specs.Columns.{IsHeading, IsPadded, IsSeasonsHeading, IsTimeColumn, PutsTime, heading, heading_of_two};
 
+use crate::escapes::put_escaped;
+use crate::texts::put_text;
 use crate::times::{instant_of, time_text};
 use jiff::tz::TimeZone;
 use std::alloc::{AllocError, Allocator};
@@ -19,7 +21,7 @@ const SEASONS: (u32, u32) = (4_102_444_800, 4_118_083_200);
 #[derive(Drop)]
 pub(crate) struct TimeColumn<'z, A: Allocator> {
     zone: TimeZone<'z>,
-    heading: String<A>,
+    heading: Vec<u8, A>,
 }
 
 impl<'z, A: Allocator + Copy> TimeColumn<'z, A> {
@@ -40,9 +42,9 @@ impl<'z, A: Allocator + Copy> TimeColumn<'z, A> {
 
     /// Appends the heading, and blanks where it is narrower than the times.
     pub(crate) fn put_heading(&self, out: &mut Vec<u8, A>) -> Result<(), AllocError>
-        ensures { OnOk result (IsPadded 19 out.old.items (string_bytes self.now.heading) out.new.items) }
+        ensures { OnOk result (IsPadded 19 out.old.items self.now.heading.items out.new.items) }
     {
-        put_padded(out, self.heading.as_str(), TIME_COLUMNS)
+        put_padded(out, &self.heading, TIME_COLUMNS)
     }
 
     /// Appends what the clock shows at a number of seconds since 1970 in UTC, and blanks where that is narrower than the heading.
@@ -51,18 +53,21 @@ impl<'z, A: Allocator + Copy> TimeColumn<'z, A> {
     {
         put_padded(
             out,
-            time_text(self.zone, seconds).as_str(),
-            self.heading.as_str().len(),
+            time_text(self.zone, seconds).as_str().as_bytes(),
+            self.heading.len(),
         )
     }
 }
 
 /// Returns the heading of a zone.
-fn zone_heading<A: Allocator + Copy>(alloc: A, zone: &TimeZone<'_>) -> Result<String<A>, AllocError>
-    ensures { IfOk result (λ text. IsHeading (plain_zone zone.now) (string_bytes text)) }
+fn zone_heading<A: Allocator + Copy>(
+    alloc: A,
+    zone: &TimeZone<'_>,
+) -> Result<Vec<u8, A>, AllocError>
+    ensures { IfOk result (λ text. IsHeading (plain_zone zone.now) text.items) }
 {
     match zone.iana_name() {
-        Some(name) => format!(in alloc; "time ({name})"),
+        Some(name) => heading(alloc, name),
         None => seasons_heading(alloc, zone),
     }
 }
@@ -71,8 +76,8 @@ fn zone_heading<A: Allocator + Copy>(alloc: A, zone: &TimeZone<'_>) -> Result<St
 fn seasons_heading<A: Allocator + Copy>(
     alloc: A,
     zone: &TimeZone<'_>,
-) -> Result<String<A>, AllocError>
-    ensures { IfOk result (λ heading. IsSeasonsHeading (plain_zone zone.now) (string_bytes heading)) }
+) -> Result<Vec<u8, A>, AllocError>
+    ensures { IfOk result (λ heading. IsSeasonsHeading (plain_zone zone.now) heading.items) }
 {
     let (january, july) = SEASONS;
     let winter = zone.to_offset_info(instant_of(january));
@@ -80,30 +85,46 @@ fn seasons_heading<A: Allocator + Copy>(
     heading_of_two(alloc, winter.abbreviation(), summer.abbreviation())
 }
 
+/// Returns the heading with a name, escaped.
+fn heading<A: Allocator + Copy>(alloc: A, name: &str) -> Result<Vec<u8, A>, AllocError>
+    ensures { IfOk result (λ text. text.items ≡ heading name.now) }
+{
+    let mut text = Vec::new(alloc);
+    put_text(&mut text, b"time (")?;
+    put_escaped(&mut text, name.as_bytes())?;
+    put_text(&mut text, b")")?;
+    Ok(text)
+}
+
 /// Returns the heading with two abbreviations, or with one where they are the same.
 fn heading_of_two<A: Allocator + Copy>(
     alloc: A,
     first: &str,
     second: &str,
-) -> Result<String<A>, AllocError>
-    ensures { IfOk result (λ text. string_bytes text ≡ heading_of_two first.now second.now) }
+) -> Result<Vec<u8, A>, AllocError>
+    ensures { IfOk result (λ text. text.items ≡ heading_of_two first.now second.now) }
 {
     if first == second {
-        format!(in alloc; "time ({first})")
-    } else {
-        format!(in alloc; "time ({first}/{second})")
+        return heading(alloc, first);
     }
+    let mut text = Vec::new(alloc);
+    put_text(&mut text, b"time (")?;
+    put_escaped(&mut text, first.as_bytes())?;
+    put_text(&mut text, b"/")?;
+    put_escaped(&mut text, second.as_bytes())?;
+    put_text(&mut text, b")")?;
+    Ok(text)
 }
 
 /// Appends a text, and blanks up to a width.
 fn put_padded<A: Allocator>(
     out: &mut Vec<u8, A>,
-    text: &str,
+    text: &[u8],
     width: usize,
 ) -> Result<(), AllocError>
     ensures { OnOk result (IsPadded width out.old.items text.now out.new.items) }
 {
-    out.extend_from_slice(text.as_bytes())?;
+    out.extend_from_slice(text)?;
     put_blanks(out, width.saturating_sub(text.len()))
 }
 

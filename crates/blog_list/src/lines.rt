@@ -35,7 +35,7 @@ pub(crate) fn put_header<A: Allocator + Copy>(
     times: &TimeColumn<'_, A>,
     gtids: bool,
 ) -> Result<(), AllocError>
-    ensures { OnOk result (out.new.items ≡ out.old.items ++ header gtids (string_bytes times.now.heading)) }
+    ensures { OnOk result (out.new.items ≡ out.old.items ++ header gtids times.now.heading.items) }
 {
     put_text(out, b"     start       stop  ")?;
     times.put_heading(out)?;

@@ -2,6 +2,7 @@
 
 ghost use Rattle.std.specs.Prelude.{◌≡◌, ◌||◌, ◌++◌, ◌⊎◌, IfErr, IfOk, IsSome, List, OnErr, OnOk, [], ◌∷◌, length, map, option_copied};
 ghost use Rattle.std.specs.Io.KnownBytes.{Appends};
+ghost use Rattle.std.specs.Result.{result_err};
 ghost use Rattle.jiff.specs.Words.{plain_zone};
 ghost use Rattle.blog_event.specs.Opening.{opening_fault};
 ghost use Rattle.blog_event.specs.code.LogView.{log_bytes};
@@ -105,7 +106,7 @@ impl<'z, A: Allocator + Copy> ListWriter<'z, A> {
         ensures counted { OnOk result (CountsLog totals.old totals.new (listed (option_copied name.entry) source.now wanted.now)) }
         ensures end { IfOk result (λ end. end ≡ end_listed source.now wanted.now) }
     {
-        let log = match Log::open(source.bytes()) {
+        let log = match open_log(source, self.style.seed) {
             Ok(log) => log,
             Err(fault) => return Err(RunFault::Log(fault)),
         };
@@ -249,6 +250,17 @@ impl<'z, A: Allocator + Copy> ListWriter<'z, A> {
             Form::Text => totals::put_totals(out, totals),
             Form::Json => json::put_totals(out, totals),
         }
+    }
+}
+
+/// Opens the log of a source, with a seed by which its tables are looked up.
+pub(crate) fn open_log<A: Allocator>(source: &Source<A>, seed: u64) -> Result<Log<'_>, Fault>
+    ensures exact { result_err result ≡ opening_fault (log_of source.now) }
+    ensures bytes { IfOk result (λ log. log_bytes log ≡ log_of source.now) }
+{
+    match Log::open(source.bytes()) {
+        Ok(log) => Ok(log.with_seed(seed)),
+        Err(fault) => Err(fault),
     }
 }
 

@@ -16,7 +16,7 @@ ghost use Rattle.blog_list.specs.declared.listing.Form.TheVariants.{Text};
 ghost use Rattle.blog_list.specs.code.Told.{end_listed, listed, source_place};
 
 use crate::list_end::early_end;
-use crate::list_writer::ListWriter;
+use crate::list_writer::{ListWriter, open_log};
 use crate::places::wanted_inside;
 use crate::totals::Totals;
 use blog_device::{RunFault, Watched, put};
@@ -46,6 +46,8 @@ pub struct Style<'z> {
     pub zone: TimeZone<'z>,
     /// Whether lines of text have global transaction ids. Those of JSON always have.
     pub gtids: bool,
+    /// The seed by which names and ids of tables are hashed (`Log::with_seed`). No line depends on it.
+    pub seed: u64,
 }
 
 /// Lists the wanted units of a log: a line for each, a line that counts them, and a line each for the statements and for the
@@ -74,7 +76,7 @@ pub fn list<A: Allocator + Copy, O: Write>(
     ensures beginning { style.now.form ≡ Text → OnErr result (AppendsListBeginning (plain_zone style.now.zone) style.now.gtids (listed None source.now wanted.now ∷ []) (O.contents (device_of writer.old)) (O.contents (device_of writer.new))) }
     ensures end { IfOk result (λ end. end ≡ end_listed source.now wanted.now) }
 {
-    let log = match Log::open(source.bytes()) {
+    let log = match open_log(source, style.seed) {
         Ok(log) => log,
         Err(fault) => return Err(RunFault::Log(fault)),
     };

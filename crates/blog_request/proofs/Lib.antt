@@ -1,2 +1,1 @@
-mod Asking
 mod Ranges

@@ -1,5 +1,5 @@
 -- The cut that is made is one: nothing is lost or moved, each piece fits, and none has room for the next rows event.
-use Rattle.std.proofs.Common.{◌≡◌, ℕ, ◌≤◌, ◌<◌, Bool, true, false, if◌then◌else◌, nat_le, List, [], ◌∷◌, ◌++◌, refl, sym, ap, subst, ◌∙◌, append-nil, append_assoc}
+use Rattle.std.proofs.Common.{◌≡◌, ℕ, ◌≤◌, ◌<◌, Bool, true, false, if◌then◌else◌, nat_le, List, [], ◌∷◌, ◌++◌, length, length-append, refl, sym, ap, subst, ◌∙◌, append-nil, append_assoc, arith}
 use Rattle.std.specs.List.{AllByRecursion, flat_map}
 use Rattle.std.proofs.lemmas.Bool.{leb-true, leb-false}
 use Rattle.blog_event.specs.Event.{Event}
@@ -34,6 +34,28 @@ on-bounded limit maps piece (r ∷ rows) h = by_case (nat_le (piece_bytes maps (
         → AllByRecursion (IsPiece limit maps) (if b then pieces_on limit maps (piece ++ r ∷ []) rows else piece ∷ pieces_on limit maps (r ∷ []) rows)
     by_case true is more anew = more (one-more limit maps piece r (leb-true (piece_bytes maps (piece ++ r ∷ [])) limit is))
     by_case false is more anew = (h, anew)
+
+-- all of them
+pub pieces-joined : (limit : ℕ) (maps : List Event) (rows : List RowsEvent) → flat_map (λ p. p) (pieces_of limit maps rows) ≡ rows
+pieces-joined limit maps [] = refl
+pieces-joined limit maps (r ∷ rows) = on-joined limit maps (r ∷ []) rows
+
+-- ---- none is empty
+
+on-some : (limit : ℕ) (maps : List Event) (piece rows : List RowsEvent) → 0 < length piece → AllByRecursion (λ p. 0 < length p) (pieces_on limit maps piece rows)
+on-some limit maps piece [] h = (h, tt)
+on-some limit maps piece (r ∷ rows) h =
+    by_case (nat_le (piece_bytes maps (piece ++ r ∷ [])) limit) (on-some limit maps (piece ++ r ∷ []) rows (omega (arith, length-append piece (r ∷ []))))
+    (on-some limit maps (r ∷ []) rows (omega arith))
+  where
+    by_case : (b : Bool) → AllByRecursion (λ p. 0 < length p) (pieces_on limit maps (piece ++ r ∷ []) rows) → AllByRecursion (λ p. 0 < length p) (pieces_on limit maps (r ∷ []) rows)
+        → AllByRecursion (λ p. 0 < length p) (if b then pieces_on limit maps (piece ++ r ∷ []) rows else piece ∷ pieces_on limit maps (r ∷ []) rows)
+    by_case true more anew = more
+    by_case false more anew = (h, anew)
+
+pub some-pieces : (limit : ℕ) (maps : List Event) (rows : List RowsEvent) → AllByRecursion (λ p. 0 < length p) (pieces_of limit maps rows)
+some-pieces limit maps [] = tt
+some-pieces limit maps (r ∷ rows) = on-some limit maps (r ∷ []) rows (omega arith)
 
 -- ---- full
 
@@ -71,7 +93,7 @@ on-full limit maps piece (r ∷ rows) =
 -- rows events
 pieces-cut : (limit : ℕ) (maps : List Event) (rows : List RowsEvent) → IsCut limit maps rows (pieces_of limit maps rows)
 pieces-cut limit maps [] = record { joined = refl; bounded = tt; full = tt }
-pieces-cut limit maps (r ∷ rows) = record { joined = on-joined limit maps (r ∷ []) rows; bounded = on-bounded limit maps (r ∷ []) rows tt; full = on-full limit maps (r ∷ []) rows }
+pieces-cut limit maps (r ∷ rows) = record { joined = pieces-joined limit maps (r ∷ rows); bounded = on-bounded limit maps (r ∷ []) rows tt; full = on-full limit maps (r ∷ []) rows }
 
 -- statements
 statements-cut : (limit : ℕ) (ss : List Statement) → AreCut limit ss (flat_map (cut_statement limit) ss)

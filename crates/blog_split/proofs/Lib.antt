@@ -2,12 +2,13 @@ mod Turned
 mod Pieces
 mod Cutting
 mod Small
-mod Greedy
+pub mod Greedy
 mod MapIds
 mod Marks
 mod Flags
 mod Adding
 mod Measuring
+mod Bounds
 mod Splitting
 mod CutWritten
 mod Going

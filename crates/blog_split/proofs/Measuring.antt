@@ -1,11 +1,20 @@
 -- The most that a statement of a log has, statement by statement and transaction by transaction.
-use Rattle.std.proofs.Common.{◌≡◌, ℕ, suc, ◌+◌, ◌<◌, ◌≤◌, Bool, true, false, List, [], ◌∷◌, length, map, Option, Some, IsSome, option_map, slice_get, refl, ap, ◌∙◌, sym, subst, arith}
+use Rattle.std.proofs.Common.{◌≡◌, ℕ, suc, ◌+◌, ◌<◌, ◌≤◌, Bool, true, false, List, [], ◌∷◌, length, map, reverse, Option, Some, IsSome, option_map, slice_get, refl, ap, ◌∙◌, sym, subst, arith}
 use Rattle.std.specs.List.{AllByRecursion}
 use Rattle.std.specs.Prelude.{nat_eq, option_and_then}
 use Rattle.std.proofs.lemmas.Option.{same_Some}
 use Rattle.std.proofs.lemmas.Bool.{eqb-true, eqb-false}
-use Rattle.std.proofs.lemmas.List.{length-map}
-use Rattle.blog_trans.specs.Groups.{PlacedStatement, PlacedTransaction, Transaction, event_value, rows_value, statement_value, transaction_value}
+use Rattle.std.proofs.lemmas.List.{length-map, length-reverse}
+use Rattle.blog_event.specs.Event.{Event}
+use Rattle.blog_row.specs.declared.order.Order.{Order}
+use Rattle.blog_row.specs.declared.order.Order.TheVariants.{Forward, Backward}
+use Rattle.blog_row.proofs.ReversedRows.{all-reverse}
+use Rattle.blog_trans.proofs.PlacedParts.{all-map}
+use Rattle.blog_flash.specs.Reversal.{reversed_rows, reversed_statement, reversed_transaction}
+use Rattle.blog_flash.specs.code.LaidOut.{groups_in}
+use Rattle.blog_flash.proofs.Formed.{AreGroups}
+use Rattle.blog_flash.proofs.Forming.{groups-reversed}
+use Rattle.blog_trans.specs.Groups.{PlacedStatement, PlacedTransaction, Statement, Transaction, event_value, rows_value, statement_value, transaction_value}
 use Rattle.blog_trans.specs.code.IndexView.{statement_at}
 use Rattle.blog_split.specs.declared.most.Most.{Most}
 use Rattle.blog_split.specs.code.Sizes.{IsAmongMost}
@@ -61,3 +70,24 @@ pub groups-among : (most : Most) (ts : List PlacedTransaction) → ((t s : ℕ) 
     → AllByRecursion (λ (t : Transaction). AllByRecursion (HasAtMost most) t.statements) (map transaction_value ts)
 groups-among most [] among = tt
 groups-among most (x ∷ ts) among = (statements-among most x.statements (λ s y at. among 0 s y at), groups-among most ts (λ t s y at. among (suc t) s y at))
+
+-- ---- in either order
+
+-- what holds of the elements, each changed and in reverse order
+all-turned : {A : Type 0} (P : A → Type 0) (f : A → A) → ((x : A) → P x → P (f x)) → (xs : List A) → AllByRecursion P xs → AllByRecursion P (reverse (map f xs))
+all-turned P f by xs all = all-reverse P (map f xs) (all-map P P f by xs all)
+
+statement-turned : (most : Most) (s : Statement) → HasAtMost most s → HasAtMost most (reversed_statement s)
+statement-turned most s few = (few.0, omega (arith, few.1, length-reverse (map reversed_rows s.rows), length-map s.rows reversed_rows))
+
+-- the groups that are written have no more
+pub most-in-order : (order : Order) (most : Most) (ts : List Transaction) → AllByRecursion (λ (t : Transaction). AllByRecursion (HasAtMost most) t.statements) ts
+    → AllByRecursion (λ (t : Transaction). AllByRecursion (HasAtMost most) t.statements) (groups_in order ts)
+most-in-order Forward most ts few = few
+most-in-order Backward most ts few =
+    all-turned (λ (t : Transaction). AllByRecursion (HasAtMost most) t.statements) reversed_transaction (λ t own. all-turned (HasAtMost most) reversed_statement (statement-turned most) t.statements own) ts few
+
+-- and are well-formed
+pub groups-in-order : (order : Order) (Known : Event → Type 0) (ts : List Transaction) → AreGroups Known ts → AreGroups Known (groups_in order ts)
+groups-in-order Forward Known ts are = are
+groups-in-order Backward Known ts are = groups-reversed Known ts are

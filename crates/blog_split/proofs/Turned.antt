@@ -13,7 +13,7 @@ use Rattle.blog_flash.specs.Texts.{rows_event, rows_events, statement_events, tr
 use Rattle.blog_flash.proofs.Lengths.{total}
 
 -- numbers of elements that are changed without a change of their numbers, in reverse order
-sum-turned : {A : Type 0} (f : A → ℕ) (g : A → A) → ((x : A) → f (g x) ≡ f x) → (xs : List A) → sum_of f (reverse (map g xs)) ≡ sum_of f xs
+pub sum-turned : {A : Type 0} (f : A → ℕ) (g : A → A) → ((x : A) → f (g x) ≡ f x) → (xs : List A) → sum_of f (reverse (map g xs)) ≡ sum_of f xs
 sum-turned f g same [] = refl
 sum-turned f g same (x ∷ xs) =
     let joined = ap (sum_of f) (reverse-latest (g x) (map g xs)) ∙ sum-append f (reverse (map g xs)) (g x ∷ []) in
@@ -28,7 +28,7 @@ total-append xs ys = sum-append event_size xs ys
 -- ---- groups
 
 -- how long the event of a rows event is
-abbrev rows_size : RowsEvent → ℕ
+abbrev pub rows_size : RowsEvent → ℕ
 rows_size r = 19 + length (written_body true r.content)
 
 -- the events of a statement

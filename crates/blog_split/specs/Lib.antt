@@ -1,6 +1,5 @@
 pub mod Cuts
 pub mod Laws
 pub mod Putting
-pub mod Splitting
-pub mod SplittingTo
+pub mod Writing
 pub mod code

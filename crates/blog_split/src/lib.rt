@@ -12,7 +12,7 @@ mod used_maps;
 mod written_cut;
 
 pub use cut_events::CutEvents;
-pub use cut_log::{cut_groups_of, split};
+pub use cut_log::cut_groups_of;
 pub use fault::{SplitFault, SplitRunFault};
-pub use laws::{split_keeps_changes, split_of_small_is_normal};
-pub use written_cut::{split_by_chunks, split_to};
+pub use laws::{split_keeps_changes, split_of_small_is_normal, written_cuts_are_split};
+pub use written_cut::write_cut;

@@ -8,6 +8,6 @@ pub mod Changing
 pub mod Walking
 pub mod Grouping
 pub mod Whole
-pub mod OfLog
+pub mod OfIndex
 pub mod Reading
 pub mod ReadBack

@@ -1,6 +1,6 @@
 pub mod Changed
 pub mod Sql
-pub mod OfLog
+pub mod OfIndex
 pub mod Laws
 pub mod ReadBack
 pub mod code

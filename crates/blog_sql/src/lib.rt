@@ -4,21 +4,18 @@
 mod base64_lines;
 mod changed;
 mod chunk;
-mod fault;
 mod full_line;
 mod laws;
-mod of_log;
+mod of_index;
 mod options;
 mod output;
 mod schemas;
 mod sizes;
-#[cfg(test)]
-mod tests;
 mod written_sql;
 
-pub use fault::SqlFault;
 pub use laws::{binlogs_are_read_back, texts_are_read_back};
-pub use of_log::sql_of_log;
+pub use of_index::write_index;
 pub use options::{Renamed, SqlOptions};
+pub use schemas::without_schema;
 pub use sizes::sql_sizes;
 pub use written_sql::{NAME_AND_VERSION, write_sql};

@@ -23,7 +23,7 @@ fn has_schema<A: Allocator>(index: &Index<'_, '_, A>, name: &[u8]) -> bool
 }
 
 /// Returns the number of the first pair of whose schema the groups of an index have no table.
-pub(crate) fn without_schema<A: Allocator>(
+pub fn without_schema<A: Allocator>(
     index: &Index<'_, '_, A>,
     schemas: &[Renamed<'_>],
 ) -> Option<usize>

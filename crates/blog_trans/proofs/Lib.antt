@@ -34,4 +34,5 @@ mod IndexCode
 pub mod IndexRows
 pub mod RowsFields
 pub mod Turns
+pub mod Asking
 mod Largest

@@ -1,4 +1,5 @@
 -- What only contracts of code need: its structs as values, and running states.
+pub mod SeededHash
 pub mod TableIdHash
 pub mod TableNameHash
 pub mod Progress

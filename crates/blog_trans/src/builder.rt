@@ -44,13 +44,13 @@ pub(crate) struct IndexBuilder<'a, A: Allocator> {
 }
 
 impl<'a, A: Allocator + Copy> IndexBuilder<'a, A> {
-    /// Nothing was read yet.
-    pub(crate) fn new(alloc: A) -> Self
+    /// Nothing was read yet. Names and ids of tables are hashed by a seed.
+    pub(crate) fn new(alloc: A, seed: u64) -> Self
         ensures walks { (sel : Sel) → HasTaken sel [] result }
         ensures within { IsWithin 0 result }
     {
         IndexBuilder {
-            checker: Checker::new(alloc),
+            checker: Checker::new(alloc, seed),
             lists: IndexLists::new(alloc),
             counts: Counts::new(alloc),
         }
@@ -255,7 +255,7 @@ pub fn index_from<'a, 's, A: Allocator + Copy>(
     ensures shown { OnOk result (ShowsEachOnce (log_bytes log.now) (selection_of sel.now)) }
     ensures refused { IfErr result (IsRefusal (fault (log_bytes log.now) (selection_of sel.now))) }
 {
-    let mut builder = IndexBuilder::new(alloc);
+    let mut builder = IndexBuilder::new(alloc, log.seed());
     let at = builder.walk(log, sel, from)?;
     check_end(log.end(), sel, builder.checker.place, at)?;
     let IndexBuilder {

@@ -20,12 +20,11 @@ use crate::layouts::{Layouts, SelectedTable, in_body, take_table};
 use crate::place::Place;
 use crate::selection::Selection;
 use crate::table_ids::TableIdHasher;
-use crate::table_name::TableName;
+use crate::table_name::{TableName, TableNameHasher};
 use blog_event::{Event, Fault};
 use blog_row::{RowsAction, RowsEvent, RowsHead, RowsKind, TableMap};
 use indexmap::IndexMap;
 use std::alloc::Allocator;
-use std::hash::BuildHasherDefault;
 
 /// A table map of the open statement, the first of its table id.
 #[derive(Clone, Copy, Debug)]
@@ -41,7 +40,7 @@ pub(crate) struct MapSeen<'a> {
 }
 
 /// The table maps of the open statement by their table ids, in the order of the log.
-pub(crate) type Maps<'a, A> = IndexMap<u64, MapSeen<'a>, BuildHasherDefault<TableIdHasher>, A>;
+pub(crate) type Maps<'a, A> = IndexMap<u64, MapSeen<'a>, TableIdHasher, A>;
 
 /// A rows event of a selected table.
 #[derive(Clone, Copy, Debug)]
@@ -99,8 +98,8 @@ fn kept_rows<'a>(
 }
 
 impl<'a, A: Allocator + Copy> Checker<'a, A> {
-    /// Nothing is known: no event was checked.
-    pub(crate) fn new(alloc: A) -> Self
+    /// Nothing is known: no event was checked. Names and ids are hashed by a seed.
+    pub(crate) fn new(alloc: A, seed: u64) -> Self
         ensures known { (sel : Sel) → HasChecked sel [] [] result }
         ensures empty { index_map_len result.maps ≡ 0 }
         ensures layouts { IsEmpty result.layouts }
@@ -108,8 +107,8 @@ impl<'a, A: Allocator + Copy> Checker<'a, A> {
         Checker {
             place: Place::Outside,
             has_rows: false,
-            maps: IndexMap::with_hasher(alloc, BuildHasherDefault::new()),
-            layouts: IndexMap::with_hasher(alloc, BuildHasherDefault::new()),
+            maps: IndexMap::with_hasher(alloc, TableIdHasher::new(seed)),
+            layouts: IndexMap::with_hasher(alloc, TableNameHasher::new(seed)),
         }
     }
 

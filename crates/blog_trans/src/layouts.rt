@@ -18,16 +18,10 @@ use blog_event::Fault;
 use blog_row::{Layout, RowFault, TableMap};
 use indexmap::IndexMap;
 use std::alloc::Allocator;
-use std::hash::BuildHasherDefault;
 
 /// The columns of each selected table, by its name; all its maps in the range have the same. A table's number is its
 /// place among them, which are in the order of their first maps.
-pub(crate) type Layouts<'a, A> = IndexMap<
-    TableName<'a>,
-    Layout<'a>,
-    BuildHasherDefault<TableNameHasher>,
-    A,
->;
+pub(crate) type Layouts<'a, A> = IndexMap<TableName<'a>, Layout<'a>, TableNameHasher, A>;
 
 /// A selected table, as a table map tells of it.
 #[derive(Clone, Copy, Debug)]

@@ -10,6 +10,7 @@ mod laws;
 mod layouts;
 mod lists;
 mod place;
+mod seeded;
 mod selection;
 mod table_ids;
 mod table_name;

@@ -1,18 +1,37 @@
 //! Hashing table ids.
 
+use crate::seeded::{Keys, beside, folded_multiply};
 use byteorder::{ByteOrder, LittleEndian};
-use std::hash::Hasher;
+use std::hash::{BuildHasher, Hasher};
 
-/// How far the place of an id is behind that of the id before, in 2^40ths of a group: (5 - √5) / 10 of a group. Small
-/// multiples of this number are far from whole ones, so ids that come round to the same groups spread over them again.
-const STEP: u64 = 0x46_C1B4_7481;
-
-/// A hasher of table ids. A server gives them out one after the other, so those of a statement with many maps are mostly
-/// neighbours: three or four of them share a group of a hash table, the next ones share the group behind it, and so on. So
-/// a load from memory serves several of them, and each group gets as many as any other.
-#[derive(Clone, Copy, Default)]
+/// A hasher of table ids by a seed. A server gives them out in order, so those of a statement with many maps are mostly
+/// neighbours: sixteen of them are in groups of a hash table that lie side by side, and a processor loads such groups
+/// ahead.
+///
+/// A map copies the hasher for each id.
+#[derive(Clone, Copy)]
 pub(crate) struct TableIdHasher {
+    // Where hashing starts, and what is multiplied by.
+    start: u64,
+    factor: u64,
     id: u64,
+}
+
+impl TableIdHasher {
+    ghost use Rattle.std.specs.Prelude.{◌≡◌};
+    ghost use Rattle.blog_trans.specs.code.TableIdHash.{id_hasher};
+
+    /// Returns the hasher of a seed.
+    pub(crate) fn new(seed: u64) -> TableIdHasher
+        ensures { result ≡ id_hasher seed }
+    {
+        let keys = Keys::new(seed);
+        TableIdHasher {
+            start: keys.start,
+            factor: keys.factor,
+            id: 0,
+        }
+    }
 }
 
 impl Hasher for TableIdHasher {
@@ -22,15 +41,25 @@ impl Hasher for TableIdHasher {
 
     ghost finish = { hash_of };
 
-    // A hash table goes by the lowest 24 bits to a group, and by the eight above them to one of its ids.
     fn finish(&self) -> u64 {
-        let product = self.id.wrapping_mul(STEP);
-        product >> 40 | (product >> 32 & 0xFF) << 24
+        // Folded twice: once would leave the sixteens of ids in order at equal distances.
+        let once = folded_multiply(self.start ^ (self.id / 16), self.factor);
+        beside(folded_multiply(once, self.factor), self.id % 16)
     }
 
     fn write(&mut self, bytes: &[u8]) {
         if bytes.len() >= 8 {
             self.id = LittleEndian::read_u64(bytes);
         }
+    }
+}
+
+impl BuildHasher for TableIdHasher {
+    type Hasher = TableIdHasher;
+
+    ghost build_hasher = { λ hasher. hasher };
+
+    fn build_hasher(&self) -> TableIdHasher {
+        *self
     }
 }

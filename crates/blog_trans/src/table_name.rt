@@ -1,6 +1,7 @@
 //! The name of a table, and hashing it.
 
-use std::hash::{FoldHasher, Hash, Hasher};
+use crate::seeded::{Keys, beside, folded, folded_multiply};
+use std::hash::{BuildHasher, Hash, Hasher};
 
 /// A table, by the bytes of its two names.
 #[derive(Clone, Copy, Debug, PartialEq, Eq)]
@@ -18,28 +19,43 @@ impl Hash for TableName<'_> {
 
     ghost respects_eq = { Prim.search (hashing, rules) };
 
-    // Each part at once; a derived `Hash` writes byte by byte. The last byte is a part of its own.
+    // Each name at once; a derived `Hash` writes byte by byte.
     fn hash<H: Hasher>(&self, state: &mut H) {
-        let (front, last) = self.table.split_at(self.table.len().saturating_sub(1));
         state.write(self.schema);
-        state.write(front);
-        state.write(last);
+        state.write(self.table);
     }
 }
 
-/// How far a name's hash is behind that of a name whose last byte is one less. A hash table takes the exclusive or of a
-/// hash's halves, and goes by its lowest bits to a group and by its upper eight to one of the names there. So a step leads
-/// to another group close by, and to another tag.
-const STEP: u64 = 0x4D00_0001;
-
-/// A hasher of table names. Where tables are many, their names mostly end in numbers and come in order. Those that differ
-/// in the last digit alone are in groups that lie close together, and a processor loads such groups ahead.
-#[derive(Clone, Copy, Default)]
+/// A hasher of table names by a seed. Where tables are many, their names mostly end in numbers and come in order. Those
+/// that differ in the last digit alone are in groups that lie side by side, and a processor loads such groups ahead.
+///
+/// A map copies the hasher for each name.
+#[derive(Clone, Copy)]
 pub(crate) struct TableNameHasher {
-    // The parts of several bytes, or of none.
-    fold: FoldHasher,
-    // The parts of one byte.
-    bytes: u64,
+    // What is multiplied by.
+    factor: u64,
+    // What was folded.
+    state: u64,
+    // The end of the name that was written last, which isn't folded yet: 256 times its length, and its last byte. 0 before the
+    // first name.
+    end: u64,
+}
+
+impl TableNameHasher {
+    ghost use Rattle.std.specs.Prelude.{◌≡◌};
+    ghost use Rattle.blog_trans.specs.code.TableNameHash.{name_hasher};
+
+    /// Returns the hasher of a seed.
+    pub(crate) fn new(seed: u64) -> TableNameHasher
+        ensures { result ≡ name_hasher seed }
+    {
+        let keys = Keys::new(seed);
+        TableNameHasher {
+            factor: keys.factor,
+            state: keys.start,
+            end: 0,
+        }
+    }
 }
 
 impl Hasher for TableNameHasher {
@@ -50,18 +66,35 @@ impl Hasher for TableNameHasher {
     ghost finish = { hash_of };
 
     fn finish(&self) -> u64 {
-        // Once more: without it fronts that differ by little can have hashes at equal distances.
-        let mut fold = self.fold;
-        fold.write(&[]);
-        fold.finish().wrapping_add(self.bytes.wrapping_mul(STEP))
+        // Folded once more: else fronts that differ by little can have hashes at equal distances.
+        beside(
+            folded_multiply(self.state ^ (self.end / 16), self.factor),
+            self.end % 16,
+        )
     }
 
     fn write(&mut self, bytes: &[u8]) {
-        if let [byte] = *bytes {
-            // 257 is more than a byte can be, so each list of such parts has a number of its own.
-            self.bytes = self.bytes.wrapping_mul(257).wrapping_add(byte as u64);
-        } else {
-            self.fold.write(bytes);
+        if bytes.is_empty() {
+            return;
         }
+        // A product of its own for the end of the name before. Else the bytes that follow could make up for another end.
+        if self.end != 0 {
+            self.state = folded_multiply(self.state ^ self.end, self.factor);
+        }
+        let front = bytes.len() - 1;
+        self.state = folded(self.factor, self.state, &bytes[..front]);
+        self.end = (bytes.len() as u64)
+            .wrapping_mul(256)
+            .wrapping_add(bytes[front] as u64);
+    }
+}
+
+impl BuildHasher for TableNameHasher {
+    type Hasher = TableNameHasher;
+
+    ghost build_hasher = { λ hasher. hasher };
+
+    fn build_hasher(&self) -> TableNameHasher {
+        *self
     }
 }

@@ -11,7 +11,7 @@ ghost use Rattle.flashback.specs.Status.{status_of};
 ghost use Rattle.flashback.specs.declared.commands.Failure.TheVariants.{Arguments, Run};
 
 use crate::arguments::{ArgumentsFault, Asked, Task, read_arguments};
-use blog_flash::{RunFault, Watched, prepare, put, run};
+use blog_flash::{RunFault, Watched, prepare_seeded, put, run_seeded};
 use std::alloc::Allocator;
 use std::fs::{File, OpenOptions};
 use std::io;
@@ -80,10 +80,12 @@ impl<A: Allocator> From<RunFault> for Failure<A> {
 /// refused or something failed, 2 where the arguments are wrong. `arguments` is the system's answer, which
 /// begins with the program's name. Where the status isn't 0 the reason is printed to `errors`.
 ///
-/// Memory is taken from `alloc`; the parser of the arguments takes it from the system.
+/// Memory is taken from `alloc`; the parser of the arguments takes it from the system. Names and ids of tables are hashed
+/// by `seed`. Nothing that is written depends on it.
 pub fn command<R: Files + AllocGlobal, A: Allocator + Copy, O: Write, E: Write>(
     rt: &R,
     alloc: A,
+    seed: u64,
     arguments: io::Result<Vec<String>>,
     output: &mut Watched<O>,
     errors: &mut Watched<E>,
@@ -100,7 +102,7 @@ pub fn command<R: Files + AllocGlobal, A: Allocator + Copy, O: Write, E: Write>(
     ensures refused { 1 ≤ exit_status result → has_failed output.new ≡ false
         → output.new ≡ output.old }
 {
-    let outcome = carry_out(rt, alloc, arguments, output);
+    let outcome = carry_out(rt, alloc, seed, arguments, output);
     report(outcome, errors)
 }
 
@@ -124,6 +126,7 @@ fn report<A: Allocator, E: Write>(
 fn carry_out<R: Files + AllocGlobal, A: Allocator + Copy, O: Write>(
     rt: &R,
     alloc: A,
+    seed: u64,
     arguments: io::Result<Vec<String>>,
     output: &mut Watched<O>,
 ) -> Result<(), Failure<A>>
@@ -136,7 +139,7 @@ fn carry_out<R: Files + AllocGlobal, A: Allocator + Copy, O: Write>(
         Asked::Help(text) => put(output, text.as_bytes())?,
         Asked::Run(task) => {
             let mut reader = open_log(rt, task.log)?;
-            run_task(rt, alloc, &mut reader, &task, output)?
+            run_task(rt, alloc, seed, &mut reader, &task, output)?
         }
     }
     Ok(())
@@ -156,6 +159,7 @@ fn open_log<R: Files, A: Allocator>(rt: &R, path: &str) -> Result<Watched<R::Fil
 fn run_task<R: Files, A: Allocator + Copy, D: Read, O: Write>(
     rt: &R,
     alloc: A,
+    seed: u64,
     reader: &mut Watched<D>,
     task: &Task<'_>,
     output: &mut Watched<O>,
@@ -174,8 +178,8 @@ fn run_task<R: Files, A: Allocator + Copy, D: Read, O: Write>(
         → OfRun (λ ran. has_failed output.new ≡ (has_failed output.old || is_write_fault ran)) result }
 {
     match task.result_file {
-        None => run(alloc, reader, task.mode, &task.selection, output)?,
-        Some(path) => run_to_file(rt, alloc, reader, task, path)?,
+        None => run_seeded(alloc, reader, task.mode, &task.selection, seed, output)?,
+        Some(path) => run_to_file(rt, alloc, seed, reader, task, path)?,
     }
     Ok(())
 }
@@ -184,13 +188,14 @@ fn run_task<R: Files, A: Allocator + Copy, D: Read, O: Write>(
 fn run_to_file<R: Files, A: Allocator + Copy, D: Read>(
     rt: &R,
     alloc: A,
+    seed: u64,
     reader: &mut Watched<D>,
     task: &Task<'_>,
     path: &str,
 ) -> Result<(), Failure<A>>
     ensures status { IfErr result (λ f. status_of f ≡ 1) }
 {
-    let text = text_for_file(alloc, reader, task)?;
+    let text = text_for_file(alloc, seed, reader, task)?;
     let created = OpenOptions::new()
         .write(true)
         .create(true)
@@ -207,11 +212,12 @@ fn run_to_file<R: Files, A: Allocator + Copy, D: Read>(
 /// What the task makes of the log that is read.
 fn text_for_file<A: Allocator + Copy, D: Read>(
     alloc: A,
+    seed: u64,
     reader: &mut Watched<D>,
     task: &Task<'_>,
 ) -> Result<Vec<u8, A>, RunFault>
     ensures prepares { Prepares (D.remaining (device_of reader.old)) (D.remaining (device_of reader.new))
         task.now.mode (selection_of task.now.selection) result }
 {
-    prepare(alloc, reader, task.mode, &task.selection)
+    prepare_seeded(alloc, reader, task.mode, &task.selection, seed)
 }

@@ -10,6 +10,7 @@ mod tests;
 
 use blog_flash::Watched;
 use commands::command;
+use console::seed_of_run;
 use std::env;
 use std::process::ExitCode;
 
@@ -17,5 +18,6 @@ fn main(rt: HostRuntime) -> ExitCode {
     let arguments = env::args(&rt).and_then(|arguments| Ok(arguments.collect(rt.alloc())?));
     let mut output = Watched::new(rt.stdout());
     let mut errors = Watched::new(rt.stderr());
-    command(&rt, rt.alloc(), arguments, &mut output, &mut errors)
+    let seed = seed_of_run(&rt);
+    command(&rt, rt.alloc(), seed, arguments, &mut output, &mut errors)
 }

@@ -33,7 +33,7 @@ pub fn arguments_of(rt: &HostRuntime, arguments: &[&str]) -> Result<Vec<String>,
 fn run_given(rt: &HostRuntime, arguments: io::Result<Vec<String>>) -> Outcome {
     let mut output = Watched::new(Vec::new(rt.alloc()));
     let mut errors = Watched::new(Vec::new(rt.alloc()));
-    let status = command(rt, rt.alloc(), arguments, &mut output, &mut errors);
+    let status = command(rt, rt.alloc(), 0, arguments, &mut output, &mut errors);
     Outcome {
         status,
         output,
@@ -232,7 +232,7 @@ fn check_unwritten(rt: &HostRuntime, arguments: &[&str]) -> Result<(), Fail> {
     let all = arguments_of(rt, arguments)?;
     let mut output = Watched::new(Broken::new());
     let mut errors = Watched::new(Vec::new(rt.alloc()));
-    let status = command(rt, rt.alloc(), Ok(all), &mut output, &mut errors);
+    let status = command(rt, rt.alloc(), 0, Ok(all), &mut output, &mut errors);
     check(status == ExitCode::FAILURE, "status", arguments)?;
     check(output.device().writes() == 1, "writes", arguments)?;
     check(
@@ -259,7 +259,7 @@ fn check_unprinted(rt: &HostRuntime, arguments: &[&str], status: u8) -> Result<(
     let all = arguments_of(rt, arguments)?;
     let mut output = Watched::new(Vec::new(rt.alloc()));
     let mut errors = Watched::new(Broken::new());
-    let answer = command(rt, rt.alloc(), Ok(all), &mut output, &mut errors);
+    let answer = command(rt, rt.alloc(), 0, Ok(all), &mut output, &mut errors);
     check(answer == ExitCode::from(status), "status", arguments)?;
     check(output.device().is_empty(), "output", arguments)?;
     check(errors.device().writes() == 1, "errors", arguments)?;

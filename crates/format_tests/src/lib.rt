@@ -1,4 +1,4 @@
-//! Tests of the bytes of events, of table maps and rows events, and of checksums.
+//! Tests of the bytes of events, of table maps and rows events, of tagged GTIDs, and of checksums.
 #![tactic(auto)]
 
 #[cfg(test)]
@@ -11,6 +11,8 @@ mod column_tests;
 mod event_tests;
 #[cfg(test)]
 mod going_tests;
+#[cfg(test)]
+mod gtid_body_tests;
 #[cfg(test)]
 mod image_tests;
 #[cfg(test)]

@@ -7,8 +7,6 @@ mod found;
 mod names;
 mod naming;
 mod noted;
-#[cfg(test)]
-mod tests;
 mod whole_file;
 
 pub use fault::FileFault;

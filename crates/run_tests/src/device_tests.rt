@@ -67,7 +67,7 @@ fn run_marked<R: AllocGlobal + Abort>(
     let sel = Selection::all();
     let mode = Mode::Flashback;
     let answer = match chunk_len {
-        Some(len) => run_by_chunks(rt.alloc(), reader, mode, &sel, writer, len),
+        Some(len) => run_by_chunks(rt.alloc(), reader, mode, &sel, 0, writer, len),
         None => run(rt.alloc(), reader, mode, &sel, writer),
     };
     check_mark(rt, reader.failed(), reader.device().failed_calls);

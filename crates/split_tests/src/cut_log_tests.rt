@@ -1,8 +1,9 @@
 //! What is known of logs whose statements are cut.
 
+use crate::splits::split;
 use blog_event::Fault;
 use blog_flash::{Selection, flashback, forward, sql, summary};
-use blog_split::{SplitFault, split};
+use blog_run::WritingFault;
 use sample_logs::logs::{
     extra_bytes, longer_format, map_alone, map_twice, newer_server, nine_columns, no_changes,
     one_delete, one_insert, two_inserts, two_statements, two_tables, two_transactions, two_updates,
@@ -16,9 +17,7 @@ use std::test::Fail;
 type Built = Result<Vec<u8>, AllocError>;
 
 fn cut_at<R: AllocGlobal + Abort>(rt: &R, log: &[u8], limit: usize) -> Vec<u8> {
-    split(rt.alloc(), log, limit)
-        .ok()
-        .expect(rt, "the log is split")
+    split(rt, log, limit).ok().expect(rt, "the log is split")
 }
 
 fn normal_form<R: AllocGlobal + Abort>(rt: &R, log: &[u8]) -> Vec<u8> {
@@ -103,16 +102,16 @@ fn logs_of_a_server_keep_their_changes(rt: HostRuntime) {
 /// The log isn't split, for what refuses its normal form.
 fn check_refused<R: AllocGlobal + Abort>(rt: &R, log: &[u8]) {
     let fault = forward(rt.alloc(), log, &Selection::all()).err();
-    let told = split(rt.alloc(), log, 100).err();
+    let told = split(rt, log, 100).err();
     assert!(rt; told.is_some());
-    assert_eq!(rt; told, fault.map(SplitFault::Log));
+    assert_eq!(rt; told, fault.map(WritingFault::Log));
 }
 
 #[test]
 fn refused_logs_are_not_split(rt: HostRuntime) -> Result<(), Fail> {
     check_refused(&rt, &ALTER_BETWEEN);
     check_refused(&rt, INSERT.get(..200).ok_or("a shorter log")?);
-    let told = split(rt.alloc(), b"no log", 100).err();
-    assert_eq!(rt; told, Some(SplitFault::Log(Fault::NotABinlog { pos: 0 })));
+    let told = split(&rt, b"no log", 100).err();
+    assert_eq!(rt; told, Some(WritingFault::Log(Fault::NotABinlog { pos: 0 })));
     Ok(())
 }

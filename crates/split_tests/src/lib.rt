@@ -8,4 +8,8 @@ mod memory_tests;
 #[cfg(test)]
 mod piece_tests;
 #[cfg(test)]
+mod splits;
+#[cfg(test)]
+mod undoing_tests;
+#[cfg(test)]
 mod writing_tests;

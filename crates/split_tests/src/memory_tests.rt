@@ -1,8 +1,12 @@
 //! Memory that runs out: each request of a call is refused in turn, and the call answers that memory was refused.
 
+use crate::splits::split;
 use blog_device::Watched;
 use blog_event::Fault;
-use blog_split::{SplitFault, SplitRunFault, split, split_by_chunks};
+use blog_flash::{Selection, selected};
+use blog_row::Order;
+use blog_run::{Writing, WritingFault, write_changes};
+use blog_split::{SplitFault, SplitRunFault, write_cut};
 use linked_list_allocator::LocalHeap;
 use refusing::Refusing;
 use sample_logs::logs::two_tables;
@@ -17,24 +21,29 @@ const MOST_REQUESTS: usize = 200;
 #[test]
 fn a_refused_request_is_answered(rt: HostRuntime) -> Result<(), Fail> {
     let log = two_tables(&rt)?;
-    let cut = split(rt.alloc(), &log, 1)
-        .ok()
-        .ok_or("the log is not split")?;
+    let cut = split(&rt, &log, 1).ok().ok_or("the log is not split")?;
     let heap = LocalHeap::new(rt.alloc(), ROOM)?;
+    let writing = Writing {
+        order: Order::Forward,
+        limit: 1,
+        sql: None,
+    };
     for number in 0..MOST_REQUESTS {
         let alloc = Refusing::new(&heap, number + 1);
-        match split(&alloc, &log, 1) {
-            Ok(text) => {
-                assert_eq!(rt; text.as_slice(), cut.as_slice());
+        let mut writer = Watched::new(Vec::new(rt.alloc()));
+        match write_changes(&alloc, &mut writer, &log, &Selection::all(), 0, &writing) {
+            Ok(()) => {
+                assert_eq!(rt; writer.device().as_slice(), cut.as_slice());
                 assert!(rt; !alloc.has_refused());
-                // The room of the log, and more of it, since the cut log is longer.
+                // The cut log is longer.
                 assert!(rt; cut.len() > log.len());
                 assert!(rt; number >= 5);
                 return Ok(());
             }
             Err(fault) => {
                 assert!(rt; alloc.has_refused());
-                assert_eq!(rt; fault, SplitFault::Log(Fault::OutOfMemory));
+                assert_eq!(rt; fault, WritingFault::Log(Fault::OutOfMemory));
+                assert!(rt; writer.device().is_empty());
             }
         }
     }
@@ -45,10 +54,11 @@ fn a_refused_request_is_answered(rt: HostRuntime) -> Result<(), Fail> {
 fn a_refused_request_writes_nothing(rt: HostRuntime) -> Result<(), Fail> {
     let log = two_tables(&rt)?;
     let heap = LocalHeap::new(rt.alloc(), ROOM)?;
+    let index = selected(rt.alloc(), &log, &Selection::all(), 0)?;
     for number in 0..MOST_REQUESTS {
         let alloc = Refusing::new(&heap, number + 1);
         let mut writer = Watched::new(Vec::new(rt.alloc()));
-        let answer = split_by_chunks(&alloc, &mut writer, &log, 1, 1);
+        let answer = write_cut(&alloc, &mut writer, &index, Order::Backward, 1, 1);
         if answer.is_ok() {
             assert!(rt; !alloc.has_refused());
             assert!(rt; writer.device().len() > log.len());

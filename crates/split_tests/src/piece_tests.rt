@@ -1,6 +1,6 @@
 //! Statements cut at small sizes, spelled out.
 
-use blog_split::split;
+use crate::splits::split;
 use sample_logs::builder::{BEGIN, Part, T, XID, build, delete, insert, map_of};
 use sample_logs::logs::{extra_bytes, two_tables};
 use std::process::Abort;
@@ -13,9 +13,7 @@ fn check_split<R: AllocGlobal + Abort>(
     limit: usize,
     cut: &[u8],
 ) -> Result<(), Fail> {
-    let text = split(rt.alloc(), log, limit)
-        .ok()
-        .ok_or("the log is not split")?;
+    let text = split(rt, log, limit).ok().ok_or("the log is not split")?;
     assert_eq!(rt; text.as_slice(), cut);
     Ok(())
 }

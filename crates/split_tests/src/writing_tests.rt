@@ -1,9 +1,12 @@
 //! Logs that are split to a writer, and a statement with very many maps.
 
+use crate::splits::split;
 use blog_device::Watched;
 use blog_event::Fault;
-use blog_flash::{Selection, forward};
-use blog_split::{SplitFault, SplitRunFault, split, split_by_chunks, split_to};
+use blog_flash::{Selection, forward, selected};
+use blog_row::Order;
+use blog_run::{Writing, WritingFault, write_changes};
+use blog_split::{SplitRunFault, write_cut};
 use sample_logs::builder::{BEGIN, XID, build, insert, map_of};
 use sample_logs::logs::two_tables;
 use std::alloc::AllocError;
@@ -11,21 +14,35 @@ use std::io;
 use std::test::Fail;
 use testkit::devices::{ALL, Failure, SlowWriter};
 
+/// Each rows event as a statement.
+const SINGLE: Writing<'static> = Writing {
+    order: Order::Forward,
+    limit: 1,
+    sql: None,
+};
+
 #[test]
 fn each_chunk_is_written(rt: HostRuntime) -> Result<(), Fail> {
     let log = two_tables(&rt)?;
-    let cut = split(rt.alloc(), &log, 1)
-        .ok()
-        .ok_or("the log is not split")?;
+    let cut = split(&rt, &log, 1).ok().ok_or("the log is not split")?;
+    let index = selected(rt.alloc(), &log, &Selection::all(), 0)?;
     for chunk_len in [0, 1, 100, 1 << 18] {
         let mut writer = Watched::new(SlowWriter::new(&rt, 7, Failure::Never));
-        let done = split_by_chunks(rt.alloc(), &mut writer, &log, 1, chunk_len);
+        let done = write_cut(
+            rt.alloc(),
+            &mut writer,
+            &index,
+            Order::Forward,
+            1,
+            chunk_len,
+        );
         assert_eq!(rt; done, Ok(()));
         assert_eq!(rt; writer.device().taken.as_slice(), cut.as_slice());
         assert!(rt; !writer.failed());
     }
     let mut writer = Watched::new(SlowWriter::new(&rt, ALL, Failure::Never));
-    assert_eq!(rt; split_to(rt.alloc(), &mut writer, &log, 1), Ok(()));
+    let done = write_changes(rt.alloc(), &mut writer, &log, &Selection::all(), 0, &SINGLE);
+    assert_eq!(rt; done, Ok(()));
     assert_eq!(rt; writer.device().taken.as_slice(), cut.as_slice());
     Ok(())
 }
@@ -33,13 +50,12 @@ fn each_chunk_is_written(rt: HostRuntime) -> Result<(), Fail> {
 #[test]
 fn a_failed_write_is_answered(rt: HostRuntime) -> Result<(), Fail> {
     let log = two_tables(&rt)?;
-    let cut = split(rt.alloc(), &log, 1)
-        .ok()
-        .ok_or("the log is not split")?;
+    let cut = split(&rt, &log, 1).ok().ok_or("the log is not split")?;
+    let index = selected(rt.alloc(), &log, &Selection::all(), 0)?;
     for call in 1..4 {
         let failure = Failure::At(call, io::ErrorKind::Other);
         let mut writer = Watched::new(SlowWriter::new(&rt, ALL, failure));
-        let done = split_by_chunks(rt.alloc(), &mut writer, &log, 1, 0);
+        let done = write_cut(rt.alloc(), &mut writer, &index, Order::Forward, 1, 0);
         assert_eq!(rt; done, Err(SplitRunFault::Write));
         let taken = writer.device().taken.as_slice();
         assert!(rt; cut.starts_with(taken));
@@ -50,11 +66,22 @@ fn a_failed_write_is_answered(rt: HostRuntime) -> Result<(), Fail> {
 }
 
 #[test]
+fn a_failed_write_of_changes_is_answered(rt: HostRuntime) -> Result<(), Fail> {
+    let log = two_tables(&rt)?;
+    let mut writer = Watched::new(SlowWriter::new(&rt, ALL, Failure::At(1, io::ErrorKind::Other)));
+    let done = write_changes(rt.alloc(), &mut writer, &log, &Selection::all(), 0, &SINGLE);
+    assert_eq!(rt; done, Err(WritingFault::Write));
+    assert!(rt; writer.failed());
+    Ok(())
+}
+
+#[test]
 fn of_a_refused_log_nothing_is_written(rt: HostRuntime) -> Result<(), Fail> {
     let mut writer = Watched::new(SlowWriter::new(&rt, ALL, Failure::Never));
-    let done = split_to(rt.alloc(), &mut writer, b"no log", 1);
-    let fault = SplitFault::Log(Fault::NotABinlog { pos: 0 });
-    assert_eq!(rt; done, Err(SplitRunFault::Split(fault)));
+    let all = Selection::all();
+    let done = write_changes(rt.alloc(), &mut writer, b"no log", &all, 0, &SINGLE);
+    let fault = Fault::NotABinlog { pos: 0 };
+    assert_eq!(rt; done, Err(WritingFault::Log(fault)));
     assert_eq!(rt; writer.device().calls, 0);
     Ok(())
 }
@@ -92,9 +119,9 @@ fn many_pieces<R: AllocGlobal>(rt: &R) -> Result<Vec<u8>, AllocError> {
 #[test]
 fn a_statement_of_many_maps_is_split(rt: HostRuntime) -> Result<(), Fail> {
     let log = many_maps(&rt)?;
-    let cut = split(rt.alloc(), &log, 1).ok();
+    let cut = split(&rt, &log, 1).ok();
     assert_eq!(rt; cut, Some(many_pieces(&rt)?));
-    let whole = split(rt.alloc(), &log, 1_000_000).ok();
+    let whole = split(&rt, &log, 1_000_000).ok();
     let normal = forward(rt.alloc(), &log, &Selection::all())?;
     assert_eq!(rt; whole, Some(normal));
     Ok(())
@@ -128,7 +155,7 @@ fn two_pieces<R: AllocGlobal>(rt: &R) -> Result<Vec<u8>, AllocError> {
 #[test]
 fn maps_count_in_the_size_of_a_piece(rt: HostRuntime) -> Result<(), Fail> {
     // The rows events alone have 72,000 bytes.
-    let cut = split(rt.alloc(), &many_maps(&rt)?, 100_000).ok();
+    let cut = split(&rt, &many_maps(&rt)?, 100_000).ok();
     assert_eq!(rt; cut, Some(two_pieces(&rt)?));
     Ok(())
 }

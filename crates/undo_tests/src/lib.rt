@@ -14,6 +14,8 @@ mod sample_tests;
 #[cfg(test)]
 mod sample_undoing_tests;
 #[cfg(test)]
+mod seed_tests;
+#[cfg(test)]
 mod selection_tests;
 #[cfg(test)]
 mod undoing_tests;

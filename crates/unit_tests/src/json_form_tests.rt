@@ -56,6 +56,7 @@ fn checked_lines(
         form: Form::Json,
         zone,
         gtids: false,
+        seed: 0,
     };
     let mut output = Watched::new(Vec::new(rt.alloc()));
     let list = ListWriter::new(rt.alloc(), rt.alloc(), &style)?;

@@ -1,6 +1,6 @@
 //! Lists of the units of logs, as text and as JSON.
 
-use crate::lists::{ALL, TEXT, of_database, of_tables};
+use crate::lists::{ALL, JSON, TEXT, of_database, of_tables};
 use crate::parts::{MAP, ONE, PAYLOAD, ROLLBACK, TAGGED, event_of};
 use crate::sources::{source_of, source_with};
 use blog_choice::TableName;
@@ -524,4 +524,23 @@ units 7, not undoable 7, rows 0
         XID,
     ];
     check_parts(&rt, &parts, lines, None)
+}
+
+/// The list of the wanted units of a log that a server wrote, in a style.
+fn list_of(rt: &(impl AllocGlobal + Abort), style: &Style<'_>) -> Result<Vec<u8>, Fail> {
+    let mut output = Watched::new(Vec::new(rt.alloc()));
+    let source = source_of(rt, &MULTI_TABLE)?;
+    let answer = list(rt.alloc(), rt.alloc(), &source, &ALL, style, &mut output);
+    assert_eq!(rt; answer, Ok(None));
+    Ok(output.device().to_vec(rt.alloc())?)
+}
+
+#[test]
+fn lists_are_the_same_by_each_seed(rt: HostRuntime) -> Result<(), Fail> {
+    for style in [TEXT, JSON] {
+        let fixed = list_of(&rt, &style)?;
+        let seeded = list_of(&rt, &Style { seed: 7, ..style })?;
+        assert_eq!(rt; seeded.as_slice(), fixed.as_slice());
+    }
+    Ok(())
 }

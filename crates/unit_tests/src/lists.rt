@@ -56,6 +56,7 @@ pub const TEXT: Style<'static> = Style {
     form: Form::Text,
     zone: TimeZone::UTC,
     gtids: false,
+    seed: 0,
 };
 
 /// As JSON, with times in UTC.
@@ -63,4 +64,5 @@ pub const JSON: Style<'static> = Style {
     form: Form::Json,
     zone: TimeZone::UTC,
     gtids: false,
+    seed: 0,
 };

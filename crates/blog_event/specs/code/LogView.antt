@@ -14,6 +14,10 @@ use Rattle.blog_event.specs.Items.{item_of, items_from}
 abbrev pub log_bytes : Log → List ℕ
 log_bytes log = log.bytes.now
 
+-- the seed of its look-ups
+abbrev pub log_seed : Log → ℕ
+log_seed log = log.seed
+
 -- the items that are left
 abbrev pub items_left : Events → List (Result Placed Fault)
 items_left events = option_map_or (items_from (log_bytes events.log)) events.at []

@@ -27,7 +27,7 @@ shown_told log place unit = shown_with log place (facts_told unit) (changes_told
 -- its line was appended
 abbrev pub PutsLine : {A : Type 0} → TimeColumn A → Bool → Shown → List ℕ → List ℕ → Type 0
 PutsLine column gtids s old new =
-    (line : List ℕ) × IsLine (plain_zone column.zone) gtids (length (string_bytes column.heading)) s line × (new ≡ old ++ line)
+    (line : List ℕ) × IsLine (plain_zone column.zone) gtids (length column.heading.items) s line × (new ≡ old ++ line)
 
 -- what is wanted by positions of the server's log, by those of the log of a source
 abbrev pub inside : List ℕ → Wanted → Wanted

@@ -19,4 +19,4 @@ zone_of list = plain_zone list.times.zone
 
 -- the heading of these
 abbrev pub heading_of : {A : Type 0} → ListWriter A → List ℕ
-heading_of list = string_bytes list.times.heading
+heading_of list = list.times.heading.items

@@ -2,7 +2,12 @@
 use Rattle.std.specs.Prelude.{ℕ, nat_le, if◌then◌else◌, List, [], ◌∷◌, ◌++◌, map}
 use Rattle.std.specs.List.{flat_map}
 use Rattle.blog_event.specs.Event.{Event}
-use Rattle.blog_trans.specs.Groups.{RowsEvent, Statement, Transaction}
+use Rattle.blog_event.specs.File.{read}
+use Rattle.blog_row.specs.declared.order.Order.{Order}
+use Rattle.blog_trans.specs.Groups.{RowsEvent, Statement, Transaction, groups}
+use Rattle.blog_trans.specs.Selection.{Selection}
+use Rattle.blog_flash.specs.Texts.{laid_out_after}
+use Rattle.blog_flash.specs.code.LaidOut.{groups_in}
 use Rattle.blog_split.specs.Cuts.{piece_bytes, piece_statement}
 
 -- the pieces of rows events of a statement with these maps, the first of which has some already
@@ -25,3 +30,7 @@ cut_transaction limit t = record { begin = t.begin; statements = flat_map (cut_s
 
 abbrev pub cut_groups : ℕ → List Transaction → List Transaction
 cut_groups limit ts = map (cut_transaction limit) ts
+
+-- the log of selected changes, or of what undoes them, with its statements cut
+abbrev pub cut_text : Order → ℕ → List ℕ → Selection → List ℕ
+cut_text order limit bytes sel = laid_out_after (read bytes sel.stop) (cut_groups limit (groups_in order (groups bytes sel)))

@@ -27,7 +27,7 @@ const OUT_OF_MEMORY: &str = "flashback: OutOfMemory\n";
 fn run_with<A: Allocator + Copy>(rt: &HostRuntime, alloc: A, arguments: Vec<String>) -> Outcome {
     let mut output = Watched::new(Vec::new(rt.alloc()));
     let mut errors = Watched::new(Vec::new(rt.alloc()));
-    let status = command(rt, alloc, Ok(arguments), &mut output, &mut errors);
+    let status = command(rt, alloc, 0, Ok(arguments), &mut output, &mut errors);
     Outcome {
         status,
         output,

@@ -1,5 +1,4 @@
 use Rattle.std.proofs.Common.{ℕ, List, ◌++◌, sym, ap, ◌∙◌}
-use Rattle.std.specs.Prelude.{string_bytes}
 use Rattle.std.proofs.lemmas.Bool.{cond-true, cond-false}
 use Rattle.std.proofs.lemmas.Result.{on_ok_weaker}
 use Rattle.blog_list.specs.Lines.{header}
@@ -15,7 +14,7 @@ returns-then-gtids g c =
     let three : List ℕ = c.put_text-2.new.out.items in
     let new : List ℕ = c.put_text-then-gtids.new.out.items in
     on_ok_weaker c.put_text-then-gtids.result
-    (λ last. both-parts old one new _ _ c.in_ok-put_text.ensures (both-parts one two new _ _ (in-its-column 19 one (string_bytes c.args.times.now.heading) two c.in_ok-put_heading.ensures)
+    (λ last. both-parts old one new _ _ c.in_ok-put_text.ensures (both-parts one two new _ _ (in-its-column 19 one c.args.times.now.heading.items two c.in_ok-put_heading.ensures)
     (both-parts two three new _ _ c.in_ok-put_text-2.ensures
     (last ∙ ap (λ (rest : List ℕ). three ++ rest) (sym (cond-true _ _ _ c.if-gtids.true))))))
     c.put_text-then-gtids.ensures
@@ -29,7 +28,7 @@ returns-else-gtids g c =
     let three : List ℕ = c.put_text-2.new.out.items in
     let new : List ℕ = c.put_text-else-gtids.new.out.items in
     on_ok_weaker c.put_text-else-gtids.result
-    (λ last. both-parts old one new _ _ c.in_ok-put_text.ensures (both-parts one two new _ _ (in-its-column 19 one (string_bytes c.args.times.now.heading) two c.in_ok-put_heading.ensures)
+    (λ last. both-parts old one new _ _ c.in_ok-put_text.ensures (both-parts one two new _ _ (in-its-column 19 one c.args.times.now.heading.items two c.in_ok-put_heading.ensures)
     (both-parts two three new _ _ c.in_ok-put_text-2.ensures
     (last ∙ ap (λ (rest : List ℕ). three ++ rest) (sym (cond-false _ _ _ c.if-gtids.false))))))
     c.put_text-else-gtids.ensures

@@ -11,7 +11,7 @@ pub returns : goal.returns
 unfolding unit_line
 returns g c =
     let s : Shown = shown_told (log_bytes c.args.log.now) (source_place c.args.source.now) c.args.unit.now in
-    let width : ℕ = length (string_bytes c.args.times.now.heading) in
+    let width : ℕ = length c.args.times.now.heading.items in
     let time : List ℕ = c.in_ok-put_time.ensures.0 in
     let behind : List ℕ = in_column width time ++ rest_text c.args.gtids s in
     let old : List ℕ = c.args.out.now.items in

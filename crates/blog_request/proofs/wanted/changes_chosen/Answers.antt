@@ -4,7 +4,7 @@ use Rattle.blog_trans.specs.Groups.{groups}
 use Rattle.blog_trans.specs.code.IndexView.{index_bytes, index_selection, table_counted}
 use Rattle.blog_choice.specs.Choice.{chooses}
 use Rattle.blog_choice.specs.code.Views.{choice_value}
-use Rattle.blog_request.proofs.Asking.{not-this, this-one}
+use Rattle.blog_trans.proofs.Asking.{not-this, this-one}
 use Rattle.blog_request.proofs.wanted.changes_chosen.Goals as goal
 
 pub loop-n-preserved : goal.loop-n-preserved

@@ -1,4 +1,4 @@
-use Rattle.std.proofs.Common.{List, ℕ, length, ap₂, subst, ◌∙◌}
+use Rattle.std.proofs.Common.{List, ℕ, length, ap₂, subst}
 use Rattle.std.specs.Prelude.{option_copied}
 use Rattle.std.proofs.lemmas.Result.{err_from_is_err_and}
 use Rattle.blog_device.specs.Watched.{device_of}
@@ -15,17 +15,17 @@ use Rattle.blog_list.proofs.list_writer.ListWriter.write_log.Goals as goal
 pub returns-in_err-whole-clause-beginning : goal.returns-in_err-whole-clause-beginning
 returns-in_err-whole-clause-beginning g c text =
     let p = err_from_is_err_and c.from_residual.result c.from_residual.ensures.1 in
-    let same = ap₂ (λ (w : Wanted) (log : List ℕ). log_list (option_copied c.args.name) w log (source_place c.args.source.now) (damaged_of c.args.source.now)) c.wanted_inside-inside.ensures (c.in-Ok.ensures.bytes ∙ c.bytes.ensures) in
+    let same = ap₂ (λ (w : Wanted) (log : List ℕ). log_list (option_copied c.args.name) w log (source_place c.args.source.now) (damaged_of c.args.source.now)) c.wanted_inside-inside.ensures c.in-Ok.ensures.bytes in
     rw p.1
     (subst (λ (l : LogList). AppendsLogBeginning (zone_of c.args.self.now) (gtids_of c.args.self.now) (length (heading_of c.args.self.now)) l (g.O.Write.contents (device_of c.args.writer.now)) (g.O.Write.contents (device_of c.write_opened.new.writer)))
     same (c.in_err-whole.ensures.beginning text))
 
 pub returns-in-Some-clause-counted : goal.returns-in-Some-clause-counted
 returns-in-Some-clause-counted g c =
-    let same = ap₂ (λ (w : Wanted) (log : List ℕ). log_list (option_copied c.args.name) w log (source_place c.args.source.now) (damaged_of c.args.source.now)) c.wanted_inside-inside.ensures (c.in-Ok.ensures.bytes ∙ c.bytes.ensures) in
+    let same = ap₂ (λ (w : Wanted) (log : List ℕ). log_list (option_copied c.args.name) w log (source_place c.args.source.now) (damaged_of c.args.source.now)) c.wanted_inside-inside.ensures c.in-Ok.ensures.bytes in
     subst (λ (l : LogList). CountsLog c.args.totals.now c.write_opened.new.totals l) same c.in_ok-whole.ensures.counted
 
 pub returns-in-None-clause-counted : goal.returns-in-None-clause-counted
 returns-in-None-clause-counted g c =
-    let same = ap₂ (λ (w : Wanted) (log : List ℕ). log_list (option_copied c.args.name) w log (source_place c.args.source.now) (damaged_of c.args.source.now)) c.wanted_inside-inside.ensures (c.in-Ok.ensures.bytes ∙ c.bytes.ensures) in
+    let same = ap₂ (λ (w : Wanted) (log : List ℕ). log_list (option_copied c.args.name) w log (source_place c.args.source.now) (damaged_of c.args.source.now)) c.wanted_inside-inside.ensures c.in-Ok.ensures.bytes in
     subst (λ (l : LogList). CountsLog c.args.totals.now c.write_opened.new.totals l) same c.in_ok-whole.ensures.counted

@@ -1,0 +1,196 @@
+-- What a run does to the bytes of its devices. Of a device that does not tell its bytes these definitions say that there
+-- are such bytes.
+use Rattle.std.specs.Prelude.{◌≡◌, ◌⊎◌, ◌<◌, ℕ, Bool, true, false, List, [], ◌∷◌, ⊤, String, Vec, Option, None, Some, option_map, Result, Ok, Err}
+use Rattle.std.specs.Io.KnownBytes.{Keeps, Appends}
+use Rattle.blog_event.specs.declared.fault.Fault.{Fault}
+use Rattle.blog_event.specs.declared.fault.Fault.TheVariants.{TooLong, OutOfMemory as NoMemory}
+use Rattle.blog_device.specs.Devices.{greatest_length, PassesLimit, ReadsLog, AppendsBeginning}
+use Rattle.blog_device.specs.declared.fault.RunFault.{RunFault}
+use Rattle.blog_device.specs.declared.fault.RunFault.TheVariants.{Log, Read, Write}
+use Rattle.blog_sum.specs.declared.fault.SumFault.{SumFault}
+use Rattle.blog_sum.specs.Sums.{sum_fault}
+use Rattle.blog_source.specs.Laws.{whole_reading}
+use Rattle.blog_source.specs.Plain.{plain_log}
+use Rattle.blog_source.specs.declared.reading.Reading.{Reading}
+use Rattle.blog_source.specs.Found.{found_of, source_refusal}
+use Rattle.blog_source.specs.Handed.{handed_log}
+use Rattle.blog_source.specs.Places.{place_of}
+use Rattle.blog_source.specs.code.SourceView.{damaged_of, end_of, fault_of, log_of}
+use Rattle.blog_source.specs.declared.source.Source.{Source}
+use Rattle.blog_event.specs.Fault.{name_of, position_of}
+use Rattle.blog_event.specs.Opening.{opening_fault}
+use Rattle.jiff.specs.Types.{TimeZone}
+use Rattle.blog_list.specs.Texts.{AppendsList}
+use Rattle.blog_list.specs.code.Told.{end_listed, listed}
+use Rattle.blog_list.specs.declared.listing.Form.TheVariants.{Text}
+use Rattle.blog_request.specs.declared.wanted.Wanted.{Wanted}
+use Rattle.binlog_command.specs.Request.{HasTask, asks_for_list}
+use Rattle.binlog_command.specs.Zones.{IsZoneOf}
+use Rattle.binlog_command.specs.declared.list_arguments.ListTask.{ListTask}
+use Rattle.binlog_command.specs.declared.commands.Failure.{Failure}
+use Rattle.binlog_command.specs.declared.commands.Failure.TheVariants.{NewLog as NoNewLog, List as NoList, EndsEarly, Unread}
+use Rattle.binlog_command.specs.declared.commands.NewLogFault.{NewLogFault}
+use Rattle.binlog_command.specs.declared.commands.NewLogFault.TheVariants.{Run, Sums, Split as Cut, NoSchema}
+use Rattle.binlog_command.specs.declared.arguments.Making.{Making}
+use Rattle.binlog_command.specs.declared.arguments.Making.TheVariants.{Plain, Changes}
+use Rattle.blog_split.specs.declared.fault.SplitFault.{SplitFault}
+use Rattle.blog_split.specs.declared.fault.SplitFault.TheVariants.{Log as OfLog, TooLong as TooLongCut}
+use Rattle.blog_run.specs.Writing.{CanBeWritten, end_of_text, lacks, text_of}
+use Rattle.blog_run.specs.declared.writing.Writing.{Writing}
+use Rattle.blog_run.specs.declared.fault.WritingFault.{WritingFault}
+use Rattle.blog_run.specs.declared.fault.WritingFault.TheVariants as writing
+use Rattle.blog_trans.specs.Acceptance.{IsAccepted, IsRefusal, fault}
+use Rattle.blog_trans.specs.Groups.{groups}
+use Rattle.blog_trans.specs.Selection.{all}
+
+-- this log was read, and it isn't whole: this is its first fault
+abbrev pub RefusesSums : Option (List ℕ) → Option (List ℕ) → SumFault → Type 0
+RefusesSums old new fault = (log : List ℕ) × ReadsLog old new log × (sum_fault log ≡ Some fault)
+
+-- a fault of the log that a source hands out, which was read up to an end, at its place in the server's log
+abbrev pub IsPlaced : List ℕ → ℕ → Fault → Fault → Type 0
+IsPlaced handed end inner fault = (name_of fault ≡ name_of inner) × (position_of fault ≡ option_map (place_of handed end) (position_of inner))
+
+-- the log that a source hands out is refused, or memory was: this is the fault at its place
+abbrev pub RefusesHanded : List ℕ → ℕ → Fault → Type 0
+RefusesHanded handed end cause = (inner : Fault) × IsRefusal (fault handed all) inner × IsPlaced handed end inner cause
+
+-- what is written of its changes would be too long
+abbrev pub WouldBeTooLong : Writing → List ℕ → Type 0
+WouldBeTooLong w handed = IsAccepted handed all × (lacks w.sql (groups handed all) ≡ None) × (4294967295 < end_of_text w.sql w.order w.limit handed all)
+
+-- they have no table of a schema that is to have another name, the one of this number
+abbrev pub LacksSchema : Writing → List ℕ → ℕ → Type 0
+LacksSchema w handed n = IsAccepted handed all × (lacks w.sql (groups handed all) ≡ Some n)
+
+-- this text is what is written of them
+abbrev pub IsWrittenOf : Writing → List ℕ → List ℕ → Type 0
+IsWrittenOf w handed text = IsAccepted handed all × CanBeWritten w.sql w.order w.limit handed all × (text ≡ text_of w.sql w.order w.limit handed all)
+
+-- what is made of a log, each of whose sums is right: the same without checksums, or what is written of its changes
+abbrev pub IsMadeOf : Making → List ℕ → List ℕ → Type 0
+IsMadeOf Plain log text = (sum_fault log ≡ None) × (text ≡ plain_log log)
+IsMadeOf (Changes w) log text = (sum_fault log ≡ None) × IsWrittenOf w (handed_log whole_reading log) text
+
+-- why its changes aren't written
+abbrev pub RefusesWriting : Writing → List ℕ → ℕ → SplitFault → Type 0
+RefusesWriting w handed end (OfLog cause) = RefusesHanded handed end cause
+RefusesWriting w handed end TooLongCut = WouldBeTooLong w handed
+
+-- why no new log is made of a log, each of whose sums is right
+abbrev pub RefusesNewLog : Making → List ℕ → SplitFault → Type 0
+RefusesNewLog Plain log fault = ⊥
+RefusesNewLog (Changes w) log fault = (sum_fault log ≡ None) × RefusesWriting w (handed_log whole_reading log) (found_of whole_reading log).end fault
+
+-- a log, each of whose sums is right, changes no table of a schema that is to have another name
+abbrev pub RefusesSchemas : Making → List ℕ → Type 0
+RefusesSchemas Plain log = ⊥
+RefusesSchemas (Changes w) log = (sum_fault log ≡ None) × ((n : ℕ) × LacksSchema w (handed_log whole_reading log) n)
+
+-- what comes of reading a log and opening it as a source: a source that is whole; or that it can't be held, that a read failed,
+-- or that it isn't whole
+abbrev pub OpensWhole : {A : Type 0} → Option (List ℕ) → Option (List ℕ) → Result (Source A) (NewLogFault A) → Type 0
+OpensWhole old new (Ok source) = (log : List ℕ) × ReadsLog old new log × (sum_fault log ≡ None) × (log_of source ≡ handed_log whole_reading log) × (end_of source ≡ (found_of whole_reading log).end)
+OpensWhole old new (Err (Run (Log fault))) = (fault ≡ NoMemory) ⊎ ((fault ≡ TooLong 0) × PassesLimit greatest_length old new)
+OpensWhole old new (Err (Run Read)) = ⊤
+OpensWhole old new (Err (Run Write)) = ⊥
+OpensWhole old new (Err (Sums fault)) = RefusesSums old new fault
+OpensWhole old new (Err (Cut fault)) = ⊥
+OpensWhole old new (Err (NoSchema text)) = ⊥
+
+-- what comes of writing the changes of the log that a source hands out
+abbrev pub WritesSource : Writing → List ℕ → ℕ → Option (List ℕ) → Option (List ℕ) → Result Unit WritingFault → Type 0
+WritesSource w handed end had has (Ok done) = (text : List ℕ) × IsWrittenOf w handed text × Appends had has text
+WritesSource w handed end had has (Err (writing.Log cause)) = RefusesHanded handed end cause
+WritesSource w handed end had has (Err writing.TooLong) = WouldBeTooLong w handed
+WritesSource w handed end had has (Err (writing.NoSchema n)) = LacksSchema w handed n
+WritesSource w handed end had has (Err writing.Write) = (text : List ℕ) × IsWrittenOf w handed text × AppendsBeginning had has text
+
+-- what comes of making a new log of the log that is read, and writing it: the whole new log is written, or a beginning of it
+-- where a write failed, or nothing
+abbrev pub WritesNewLog : {A : Type 0} → Making → Option (List ℕ) → Option (List ℕ) → Option (List ℕ) → Option (List ℕ) → Result Unit (NewLogFault A) → Type 0
+WritesNewLog making old new had has (Ok done) = (log text : List ℕ) × ReadsLog old new log × IsMadeOf making log text × Appends had has text
+WritesNewLog making old new had has (Err (Run (Log fault))) = ((fault ≡ NoMemory) ⊎ ((fault ≡ TooLong 0) × PassesLimit greatest_length old new)) × Keeps had has
+WritesNewLog making old new had has (Err (Run Read)) = Keeps had has
+WritesNewLog making old new had has (Err (Run Write)) = (log text : List ℕ) × ReadsLog old new log × IsMadeOf making log text × AppendsBeginning had has text
+WritesNewLog making old new had has (Err (Sums fault)) = RefusesSums old new fault × Keeps had has
+WritesNewLog making old new had has (Err (Cut fault)) = (log : List ℕ) × ReadsLog old new log × RefusesNewLog making log fault × Keeps had has
+WritesNewLog making old new had has (Err (NoSchema text)) = (log : List ℕ) × ReadsLog old new log × RefusesSchemas making log × Keeps had has
+
+-- the outcome is that of making and writing a new log, of which this holds
+abbrev pub OfNewLog : {A : Type 0} → (Result Unit (NewLogFault A) → Type 0) → Result Unit (Failure A) → Type 0
+OfNewLog P (Ok done) = P (Ok done)
+OfNewLog P (Err (NoNewLog fault)) = P (Err fault)
+OfNewLog P (Err failure) = ⊥
+
+-- the answer is that a read failed
+abbrev pub is_failed_read : {A X : Type 0} → Result X (NewLogFault A) → Bool
+is_failed_read (Ok x) = false
+is_failed_read (Err (Run (Log fault))) = false
+is_failed_read (Err (Run Read)) = true
+is_failed_read (Err (Run Write)) = false
+is_failed_read (Err (Sums fault)) = false
+is_failed_read (Err (Cut fault)) = false
+is_failed_read (Err (NoSchema text)) = false
+
+-- the answer is that a write failed
+abbrev pub is_failed_write : {A X : Type 0} → Result X (NewLogFault A) → Bool
+is_failed_write (Ok x) = false
+is_failed_write (Err (Run (Log fault))) = false
+is_failed_write (Err (Run Read)) = false
+is_failed_write (Err (Run Write)) = true
+is_failed_write (Err (Sums fault)) = false
+is_failed_write (Err (Cut fault)) = false
+is_failed_write (Err (NoSchema text)) = false
+
+-- ---- lists
+
+-- the arguments ask for a list, where there are any
+abbrev pub may_list : {A B E : Type 0} → Result (Vec (String A) B) E → Bool
+may_list (Ok arguments) = asks_for_list arguments.items
+may_list (Err error) = false
+
+-- a log opens as this source, if it is read so
+abbrev pub IsSourceOf : {A : Type 0} → Reading → List ℕ → Source A → Type 0
+IsSourceOf how log source = (log_of source ≡ handed_log how log) × (end_of source ≡ (found_of how log).end)
+    × (fault_of source ≡ (found_of how log).fault) × (damaged_of source ≡ (found_of how log).damaged)
+
+-- the list of a source that a task asks for is written, and this is why it ends early. For JSON it isn't said what is written
+abbrev pub IsListOf : {A : Type 0} → Source A → ListTask A → Option SumFault → Option (List ℕ) → Option (List ℕ) → Type 0
+IsListOf source task end had has = (wanted : Wanted) × HasTask task wanted × (end ≡ end_listed source wanted)
+    × ((zone : TimeZone) × IsZoneOf task.zone zone × (task.form ≡ Text → AppendsList zone task.gtids (listed None source wanted ∷ []) had has))
+
+-- what comes of reading a log for the list of a task: the list of the source that the log opens as is written; or the log can't be
+-- held, what is handed out for it can't be opened, or a read or a write failed
+abbrev pub WritesList : {A : Type 0} → ListTask A → Option (List ℕ) → Option (List ℕ) → Option (List ℕ) → Option (List ℕ) → Result (Option SumFault) RunFault → Type 0
+WritesList {A} task old new had has (Ok end) = (log : List ℕ) × ReadsLog old new log × (source_refusal log ≡ None)
+    × ((source : Source A) × IsSourceOf task.reading log source × IsListOf source task end had has)
+WritesList task old new had has (Err (Log fault)) = (fault ≡ NoMemory) ⊎ ((fault ≡ TooLong 0) × PassesLimit greatest_length old new)
+    ⊎ ((log : List ℕ) × ReadsLog old new log × (source_refusal log ≡ None) × (opening_fault (handed_log task.reading log) ≡ Some fault))
+WritesList task old new had has (Err Read) = ⊤
+WritesList task old new had has (Err Write) = (log : List ℕ) × ReadsLog old new log × (source_refusal log ≡ None)
+
+-- this log was read, of which nothing can be read for a list
+abbrev pub LeavesUnread : Option (List ℕ) → Option (List ℕ) → SumFault → Type 0
+LeavesUnread old new fault = (log : List ℕ) × ReadsLog old new log × (source_refusal log ≡ Some fault)
+
+-- a part of the list may be written before this fault: memory was refused, or a write failed
+abbrev pub MayHaveListed : RunFault → Type 0
+MayHaveListed (Log fault) = fault ≡ NoMemory
+MayHaveListed Read = ⊥
+MayHaveListed Write = ⊤
+
+-- a part of a list, or all of it, may be written before this failure
+abbrev pub MayFollowList : {A : Type 0} → Failure A → Type 0
+MayFollowList (NoList fault) = MayHaveListed fault
+MayFollowList (EndsEarly fault) = ⊤
+MayFollowList failure = ⊥
+
+-- the outcome is that of a list, of which this holds: it was written, and why the log ends too early if it does; or why not; or
+-- that nothing of the log can be read, of which this holds
+abbrev pub OfList : {A : Type 0} → (Result (Option SumFault) RunFault → Type 0) → (SumFault → Type 0) → Result Unit (Failure A) → Type 0
+OfList P Q (Ok done) = P (Ok None)
+OfList P Q (Err (EndsEarly fault)) = P (Ok (Some fault))
+OfList P Q (Err (NoList fault)) = P (Err fault)
+OfList P Q (Err (Unread fault)) = Q fault
+OfList P Q (Err failure) = ⊥

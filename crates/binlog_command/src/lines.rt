@@ -1,0 +1,170 @@
+//! The lines on standard error.
+
+use crate::arguments::ArgumentsFault;
+use crate::commands::{Failure, NewLogFault};
+use crate::log_file::LogFault;
+use blog_device::{RunFault, Watched, put};
+use blog_event::Fault;
+use blog_split::SplitFault;
+use console::put_line;
+use result_file::FileFault;
+use std::alloc::Allocator;
+use std::fmt;
+use std::io::Write;
+
+impl<A: Allocator> Failure<'_, A> {
+    /// Prints the failure. What can't be printed is dropped.
+    pub fn print<E: Write>(&self, errors: &mut Watched<E>) {
+        let _ = match self {
+            Failure::Arguments(ArgumentsFault::Wrong(text)) => put(errors, text.as_bytes()),
+            _ => put_line(errors, "binlog", self),
+        };
+    }
+}
+
+/// What failed, and one sentence what to do.
+impl<A: Allocator> fmt::Display for Failure<'_, A> {
+    fn fmt<W: fmt::Write>(&self, f: &mut fmt::Formatter<W>) -> fmt::Result {
+        match self {
+            Failure::Arguments(ArgumentsFault::Wrong(text)) => write!(f, "{text}"),
+            Failure::Arguments(ArgumentsFault::NotText) => f.write_str(NOT_TEXT),
+            Failure::Arguments(ArgumentsFault::OutOfMemory) => {
+                let fault = Fault::OutOfMemory;
+                write!(f, "{fault}: {}", advice::of_log(&fault))
+            }
+            Failure::NoLog(path, fault) => print_no_log(f, path, fault),
+            Failure::Terminal => f.write_str(TERMINAL),
+            Failure::ResultFile(fault) => print_file_fault(f, fault),
+            Failure::NewLog(NewLogFault::Run(fault)) | Failure::List(fault) => print_run_fault(
+                f, fault,
+            ),
+            Failure::EndsEarly(fault) => write!(f, "{fault}: {}", advice::of_reading(fault)),
+            Failure::Unread(fault) | Failure::NewLog(NewLogFault::Sums(fault)) => write!(
+                f,
+                "{fault}: {}",
+                advice::of_sums(fault)
+            ),
+            Failure::NewLog(NewLogFault::Split(SplitFault::Log(fault))) => write!(
+                f,
+                "{fault}: {}",
+                advice::of_whole_log(fault)
+            ),
+            Failure::NewLog(NewLogFault::Split(SplitFault::TooLong)) => f.write_str(CUT_TOO_LONG),
+            Failure::NewLog(NewLogFault::NoSchema(text)) => f.write_str(text.as_str()),
+        }
+    }
+}
+
+fn print_run_fault<W: fmt::Write>(f: &mut fmt::Formatter<W>, fault: &RunFault) -> fmt::Result {
+    let sentence = advice::of_run(fault);
+    match fault {
+        RunFault::Log(fault) => write!(f, "{fault}: {sentence}"),
+        RunFault::Read => write!(f, "read failed: {sentence}"),
+        RunFault::Write => write!(f, "write failed: {sentence}"),
+    }
+}
+
+/// Why a file can't be read as a log.
+fn print_no_log<W: fmt::Write>(
+    f: &mut fmt::Formatter<W>,
+    path: &str,
+    fault: &LogFault,
+) -> fmt::Result {
+    match fault {
+        LogFault::Absent(cause) => write!(
+            f,
+            "cannot open the log {path}: {cause}: see its name and its folder"
+        ),
+        LogFault::NotPermitted(cause) => write!(
+            f,
+            "cannot open the log {path}: {cause}: run it as a user who may read it"
+        ),
+        LogFault::NotOpened(cause) => write!(
+            f,
+            "cannot open the log {path}: {cause}: see its name and whether you may read it"
+        ),
+        LogFault::Directory => write!(
+            f,
+            "the log is a directory: {path}: give a file in it, such as binlog.000042"
+        ),
+        LogFault::Empty => write!(f, "the log is empty: {path}: copy it from the server again"),
+        LogFault::Index => write!(
+            f,
+            "the log is an index file: {path}: give one of the logs that it lists"
+        ),
+        LogFault::Encrypted => write!(f, "the log is encrypted: {path}: {ENCRYPTED}"),
+    }
+}
+
+/// Returns whether a path is one by which systems name standard output.
+fn is_output(path: &str) -> bool {
+    path == "/dev/stdout" || path == "/dev/fd/1" || path == "/proc/self/fd/1"
+}
+
+/// Why there is no result file, or what is left beside it.
+fn print_file_fault<W: fmt::Write, A: Allocator>(
+    f: &mut fmt::Formatter<W>,
+    fault: &FileFault<'_, A>,
+) -> fmt::Result {
+    match fault {
+        FileFault::IsThere(path) => write!(
+            f,
+            "the result file is there: {path}: give another name, or --force"
+        ),
+        FileFault::IsLog(path) => write!(
+            f,
+            "the result file is the log: {path}: give another name"
+        ),
+        FileFault::IsLink(path) if is_output(path) => write!(
+            f,
+            "the result file is standard output: {path}: leave -r out"
+        ),
+        FileFault::IsLink(path) => write!(
+            f,
+            "the result file is a symbolic link: {path}: give the name of the file itself"
+        ),
+        FileFault::IsDirectory(path) => write!(
+            f,
+            "the result file is a directory: {path}: give the name of a file"
+        ),
+        FileFault::NamesTaken(path) => write!(
+            f,
+            "the temporary names beside the result file are taken: {path}: remove old files .NAME.NUMBER.tmp there"
+        ),
+        FileFault::OutOfMemory => {
+            let fault = Fault::OutOfMemory;
+            write!(f, "{fault}: {}", advice::of_log(&fault))
+        }
+        FileFault::NameLeft(path, name, cause) => write!(
+            f,
+            "cannot remove {name}: {cause}: the result file {path} is whole: remove the other name"
+        ),
+        FileFault::NotCreated(path, cause) => write!(
+            f,
+            "cannot create the result file {path}: {cause}: see its folder and whether you may write there"
+        ),
+        FileFault::NotWritten(path, cause) => write!(
+            f,
+            "cannot write the result file {path}: {cause}: see whether its disk is full"
+        ),
+        FileFault::NotSynced(path, cause) => write!(
+            f,
+            "cannot sync the result file {path}: {cause}: see its disk"
+        ),
+        FileFault::NotNamed(path, cause) => write!(
+            f,
+            "cannot give the result file its name {path}: {cause}: see its folder and whether you may write there"
+        ),
+    }
+}
+
+const NOT_TEXT: &str = "the arguments are not UTF-8: give names in UTF-8";
+
+const TERMINAL: &str =
+    "the new log is binary, and standard output is a terminal: use -r FILE or > FILE";
+
+const ENCRYPTED: &str =
+    "fetch it from its server by mysqlbinlog --read-from-remote-server --raw, which decrypts it";
+
+const CUT_TOO_LONG: &str =
+    "TooLong: cut so small the log would have more than 4294967295 bytes: give a larger --size";

@@ -1,0 +1,383 @@
+//! Choices of tables, and statements that name one of them.
+
+use blog_choice::{ChosenNames, TableChoice, TableName};
+use std::process::Abort;
+use std::test::Fail;
+
+/// The tables of any schema that are so named.
+fn of_tables<'c>(tables: &'c [TableName<'c>]) -> TableChoice<'c> {
+    TableChoice {
+        database: None,
+        tables,
+        excluded: &[],
+    }
+}
+
+/// All tables of a schema.
+fn of_schema<'c>(schema: &'c [u8]) -> TableChoice<'c> {
+    TableChoice {
+        database: Some(schema),
+        tables: &[],
+        excluded: &[],
+    }
+}
+
+/// Returns whether a statement names a chosen table.
+fn is_named(
+    rt: &impl AllocGlobal,
+    choice: &TableChoice<'_>,
+    schema: &str,
+    text: &str,
+) -> Result<bool, Fail> {
+    let names = ChosenNames::new(rt.alloc(), choice)?;
+    Ok(names.is_named(schema.as_bytes(), text.as_bytes(), false, false))
+}
+
+/// Returns whether a statement with the default schema `other` names the table that `name` spells. `twins` says whether its
+/// client's character set has two spellings for some characters of ASCII.
+fn names(
+    rt: &impl AllocGlobal,
+    name: &str,
+    text: &[u8],
+    inside: bool,
+    twins: bool,
+) -> Result<bool, Fail> {
+    let tables = [TableName::read(name.as_bytes())];
+    let names = ChosenNames::new(rt.alloc(), &of_tables(&tables))?;
+    Ok(names.is_named(b"other", text, inside, twins))
+}
+
+/// Statements that name the table `orders`, and statements that don't.
+fn check_orders(
+    rt: &(impl AllocGlobal + Abort),
+    naming: &[&str],
+    others: &[&str],
+    inside: bool,
+) -> Result<(), Fail> {
+    for text in naming {
+        let found = names(rt, "orders", text.as_bytes(), inside, false)?;
+        assert!(rt; found, "{text}");
+    }
+    for text in others {
+        let found = names(rt, "orders", text.as_bytes(), inside, false)?;
+        assert!(rt; !found, "{text}");
+    }
+    Ok(())
+}
+
+#[test]
+fn reads_names(rt: HostRuntime) -> Result<(), Fail> {
+    let spelled: [(&str, Option<&str>, &str); 6] = [
+        ("orders", None, "orders"),
+        ("shop.orders", Some("shop"), "orders"),
+        ("a.b.c", Some("a"), "b.c"),
+        (".orders", Some(""), "orders"),
+        ("shop.", Some("shop"), ""),
+        ("", None, ""),
+    ];
+    for (text, schema, table) in spelled {
+        let name = TableName::read(text.as_bytes());
+        assert_eq!(rt;
+            name.schema,
+            schema.map(|schema| schema.as_bytes()),
+            "{text}"
+        );
+        assert_eq!(rt; name.table, table.as_bytes(), "{text}");
+    }
+    Ok(())
+}
+
+#[test]
+fn chooses_all(rt: HostRuntime) -> Result<(), Fail> {
+    let all = of_tables(&[]);
+    assert!(rt; all.is_all());
+    assert!(rt; all.has(b"shop", b"orders"));
+    let found = is_named(&rt, &all, "shop", "DROP TABLE x")?;
+    assert!(rt; found);
+    Ok(())
+}
+
+#[test]
+fn chooses_tables(rt: HostRuntime) {
+    let tables = [TableName::read(b"orders"), TableName::read(b"other.items")];
+    let mut choice = of_tables(&tables);
+    assert!(rt; !choice.is_all());
+    assert!(rt; choice.has(b"shop", b"orders"));
+    assert!(rt; choice.has(b"other", b"orders"));
+    assert!(rt; choice.has(b"other", b"items"));
+    assert!(rt; !choice.has(b"shop", b"items"));
+    assert!(rt; !choice.has(b"shop", b"Orders"));
+    assert!(rt; !choice.has(b"Other", b"items"));
+    choice.database = Some(b"shop");
+    assert!(rt; choice.has(b"shop", b"orders"));
+    assert!(rt; !choice.has(b"other", b"orders"));
+    assert!(rt; choice.has(b"other", b"items"));
+    assert!(rt; !choice.has(b"shop", b"items"));
+}
+
+#[test]
+fn chooses_a_schema(rt: HostRuntime) {
+    let shop = of_schema(b"shop");
+    assert!(rt; !shop.is_all());
+    assert!(rt; shop.has(b"shop", b"orders"));
+    assert!(rt; !shop.has(b"other", b"orders"));
+    assert!(rt; !shop.has(b"Shop", b"orders"));
+}
+
+#[test]
+fn leaves_tables_out(rt: HostRuntime) -> Result<(), Fail> {
+    let tables = [TableName::read(b"orders"), TableName::read(b"shop.items")];
+    let excluded = [TableName::read(b"other.orders"), TableName::read(b"items")];
+    let mut choice = TableChoice {
+        database: None,
+        tables: &[],
+        excluded: &excluded,
+    };
+    assert!(rt; !choice.is_all());
+    assert!(rt; choice.has(b"shop", b"orders"));
+    assert!(rt; !choice.has(b"other", b"orders"));
+    assert!(rt; !choice.has(b"shop", b"items"));
+    let found = is_named(&rt, &choice, "shop", "DROP TABLE x")?;
+    assert!(rt; found);
+    choice.database = Some(b"shop");
+    assert!(rt; !choice.has(b"shop", b"items"));
+    choice.tables = &tables;
+    assert!(rt; !choice.has(b"shop", b"items"));
+    let found = is_named(&rt, &choice, "shop", "DROP TABLE items")?;
+    assert!(rt; found);
+    let found = is_named(&rt, &choice, "shop", "DROP TABLE x")?;
+    assert!(rt; !found);
+    Ok(())
+}
+
+#[test]
+fn finds_words(rt: HostRuntime) -> Result<(), Fail> {
+    let naming = [
+        "DROP TABLE `shop`.`orders` /* generated by server */",
+        "ALTER TABLE Orders ADD note TEXT",
+        "TRUNCATE\torders",
+        "truncate table orders",
+        "RENAME TABLE reorders TO old, ORDERS TO older",
+        "DROP TABLE ordersé",
+        "DROP TABLE éorders",
+        "CREATE TRIGGER t AFTER INSERT ON orders FOR EACH ROW SET @a = 1",
+    ];
+    let others = [
+        "drop table orders2",
+        "DROP TABLE my_orders",
+        "DROP TABLE 1orders",
+        "DROP TABLE orders$",
+        "DROP TABLE xorders",
+        "DROP TABLE order",
+        "DROP TABLE rders",
+    ];
+    check_orders(&rt, &naming, &others, false)
+}
+
+#[test]
+fn knows_statements_by_their_first_word(rt: HostRuntime) -> Result<(), Fail> {
+    let naming = [
+        "UPDATE orders2 SET a = 1",
+        "INSERT INTO x VALUES (1)",
+        "/* c */ DROP TABLE x",
+        "(DROP TABLE x)",
+        "DROPS TABLE x",
+        "DROPé TABLE x",
+        "\x0bDROP TABLE x",
+        "DRO",
+        "",
+        " ",
+    ];
+    let others = [
+        " \t\r\nDROP TABLE x",
+        "DROP",
+        "drop`x`",
+        "Alter TABLE x ADD a INT",
+        "ANALYZE TABLE x",
+        "CREATE TABLE x (a INT)",
+        "FLUSH TABLES",
+        "GRANT ALL ON x TO u",
+        "OPTIMIZE TABLE x",
+        "RENAME TABLE x TO y",
+        "REPAIR TABLE x",
+        "REVOKE ALL ON x FROM u",
+        "TRUNCATE x",
+        "XA START 'x'",
+    ];
+    check_orders(&rt, &naming, &others, false)
+}
+
+#[test]
+fn knows_statements_about_schemas(rt: HostRuntime) -> Result<(), Fail> {
+    let cases = [
+        ("orders", "CREATE DATABASE x", true),
+        ("orders", "DROP SCHEMA x", true),
+        ("shop.orders", "DROP DATABASE shop", true),
+        ("shop.orders", "drop schema if exists `Shop`", true),
+        ("shop.orders", "DROP DATABASE other", false),
+        ("shop.orders", "ALTER TABLE shop.x ADD a INT", false),
+        ("shop.orders", "ALTER TABLE other.orders ADD a INT", true),
+        ("shop.orders", "DROP TABLE `shop`.`databases`", false),
+    ];
+    for (name, text, expected) in cases {
+        let found = names(&rt, name, text.as_bytes(), false, false)?;
+        assert_eq!(rt; found, expected, "{name}: {text}");
+    }
+    let tables = [TableName::read(b"orders")];
+    let mut choice = of_tables(&tables);
+    choice.database = Some(b"shop");
+    let found = is_named(&rt, &choice, "other", "DROP DATABASE shop")?;
+    assert!(rt; found);
+    let found = is_named(&rt, &choice, "shop", "DROP DATABASE other")?;
+    assert!(rt; !found);
+    Ok(())
+}
+
+#[test]
+fn takes_some_names_as_named(rt: HostRuntime) -> Result<(), Fail> {
+    for name in ["käse", "a`b", "a\"b", "", "shop."] {
+        let found = names(&rt, name, b"DROP TABLE x", false, false)?;
+        assert!(rt; found, "{name}");
+    }
+    let found = names(&rt, "köln.orders", b"DROP DATABASE x", false, false)?;
+    assert!(rt; found);
+    let found = names(&rt, "köln.orders", b"DROP TABLE x", false, false)?;
+    assert!(rt; !found);
+    Ok(())
+}
+
+#[test]
+fn knows_statements_in_a_transaction(rt: HostRuntime) -> Result<(), Fail> {
+    let naming = [
+        "DROP TABLE x",
+        "ALTER TABLE x ADD a INT",
+        "CREATE TEMPORARY TABLE x (a INT)",
+        "CREATE/* c */TABLE x (a INT)",
+        "CREATE",
+        "UPDATE x SET a = 1",
+        "CREATE TABLE orders (a INT)",
+    ];
+    let others = ["CREATE TABLE x (a INT)", "\ncreate\r\n\ttable`x` (a INT)"];
+    check_orders(&rt, &naming, &others, true)
+}
+
+#[test]
+fn knows_statements_in_a_schema(rt: HostRuntime) -> Result<(), Fail> {
+    let shop = of_schema(b"shop");
+    let cases = [
+        ("shop", "DROP TABLE x", true),
+        ("other", "DROP TABLE x", false),
+        ("Shop", "DROP TABLE x", false),
+        ("", "DROP TABLE x", false),
+        ("other", "DROP TABLE `shop`.x", true),
+        ("other", "DROP TABLE SHOP.x", true),
+        ("other", "DROP TABLE shops.x", false),
+        ("other", "UPDATE x SET a = 1", true),
+    ];
+    for (schema, text, expected) in cases {
+        let found = is_named(&rt, &shop, schema, text)?;
+        assert_eq!(rt; found, expected, "{schema}: {text}");
+    }
+    Ok(())
+}
+
+#[test]
+fn looks_at_each_name(rt: HostRuntime) -> Result<(), Fail> {
+    let tables = [
+        TableName::read(b"items"),
+        TableName::read(b"shop.prices"),
+        TableName::read(b"orders"),
+    ];
+    let choice = of_tables(&tables);
+    for text in ["DROP TABLE items", "DROP TABLE prices", "DROP TABLE orders"] {
+        let found = is_named(&rt, &choice, "shop", text)?;
+        assert!(rt; found, "{text}");
+    }
+    let found = is_named(&rt, &choice, "shop", "DROP TABLE x")?;
+    assert!(rt; !found);
+    Ok(())
+}
+
+#[test]
+fn knows_other_spellings_of_ascii(rt: HostRuntime) -> Result<(), Fail> {
+    // In armscii8 AC is the hyphen, and A1 C0 in ujis is the backslash.
+    for (name, text) in [
+        ("a-b", b"DROP TABLE `a\xACb`".as_slice()),
+        ("a\\b", b"DROP TABLE `a\xA1\xC0b`".as_slice()),
+        ("a'b", b"DROP TABLE x".as_slice()),
+        ("a(b", b"DROP TABLE x".as_slice()),
+        ("a)b", b"DROP TABLE x".as_slice()),
+        ("a,b", b"DROP TABLE x".as_slice()),
+        ("s.a.b", b"DROP TABLE x".as_slice()),
+    ] {
+        let found = names(&rt, name, text, false, true)?;
+        assert!(rt; found, "{name}");
+        let found = names(&rt, name, text, false, false)?;
+        assert!(rt; !found, "{name}");
+    }
+    for name in ["a b", "a+b", "a_b", "a$b", "a/b", "ab", "s.ab"] {
+        let found = names(&rt, name, b"DROP TABLE x", false, true)?;
+        assert!(rt; !found, "{name}");
+    }
+    let found = names(&rt, "my-shop.orders", b"DROP DATABASE x", false, true)?;
+    assert!(rt; found);
+    let found = names(&rt, "my-shop.orders", b"DROP DATABASE x", false, false)?;
+    assert!(rt; !found);
+    Ok(())
+}
+
+#[test]
+fn finds_one_of_many_names(rt: HostRuntime) -> Result<(), Fail> {
+    // Names in no order, of many lengths, some the beginning or the end of others, some of several words.
+    let spelled = [
+        "orders",
+        "Order",
+        "o",
+        "orders_2026",
+        "z",
+        "old orders",
+        "orders$",
+        "items",
+        "ITEMS2",
+        "a b c",
+        "shop.b c",
+        "x-y",
+    ];
+    let mut tables = Vec::new(rt.alloc());
+    for name in spelled {
+        tables.push(TableName::read(name.as_bytes()))?;
+    }
+    let choice = of_tables(&tables);
+    for text in [
+        "DROP TABLE ORDERS",
+        "DROP TABLE order",
+        "DROP TABLE O",
+        "DROP TABLE x.orders_2026",
+        "DROP TABLE q, Z",
+        "DROP TABLE `Old Orders`",
+        "DROP TABLE orders$",
+        "DROP TABLE `x`.`items`",
+        "DROP TABLE items2",
+        "DROP TABLE `a b c`",
+        "DROP TABLE `b C`",
+        "DROP TABLE `X-Y`",
+    ] {
+        let found = is_named(&rt, &choice, "", text)?;
+        assert!(rt; found, "{text}");
+    }
+    for text in [
+        "DROP TABLE orders2",
+        "DROP TABLE ord",
+        "DROP TABLE orders_202",
+        "DROP TABLE zz",
+        "DROP TABLE old_orders",
+        "DROP TABLE items22",
+        "DROP TABLE `x y`",
+        "DROP TABLE $orders",
+        "DROP TABLE",
+    ] {
+        let found = is_named(&rt, &choice, "", text)?;
+        assert!(rt; !found, "{text}");
+    }
+    Ok(())
+}

@@ -1,0 +1,14 @@
+//! Tests of `binlog` over files and devices: logs that can't be opened, result files, terminals, writers that fail, and memory
+//! that is refused.
+#![tactic(auto)]
+
+#[cfg(test)]
+mod failing_writer_tests;
+#[cfg(test)]
+mod log_file_tests;
+#[cfg(test)]
+mod memory_tests;
+#[cfg(test)]
+mod result_file_tests;
+#[cfg(test)]
+mod terminal_tests;

@@ -1,0 +1,277 @@
+//! Runs of `list`.
+
+use command_runs::{path_of, run_arguments, run_log};
+use sample_logs::logs::insert_and_drop;
+use sample_logs::small::{INSERT_ONE_ROW, PLAIN, SUMMED};
+use sample_logs::summed::CLOSED;
+use std::process::{Abort, ExitCode};
+use std::test::Fail;
+use testkit::runs::Outcome;
+
+const HEADER: &str = "     start       stop  time (UTC)               thread  rows\n";
+
+const INSERT: &str = "       120        259  1970-01-01 00:00:00           0  `d`.`t` inserts 1\n";
+
+const DROP: &str =
+    "       259        305  1970-01-01 00:00:00           0  Statement at 259: DROP TABLE t\n";
+
+/// Whether the run listed these lines and the last one below the header, and printed nothing.
+fn lists(rt: &HostRuntime, arguments: &[&str], lines: &[&str]) -> Result<(), Fail> {
+    let outcome = run_log(rt, "lists", insert_and_drop(rt)?.as_slice(), arguments)?;
+    let mut text = String::from_str(rt.alloc(), HEADER)?;
+    for line in lines {
+        text.push_str(line)?;
+    }
+    if outcome.is_done(text.as_bytes()) {
+        Ok(())
+    } else {
+        Err(Fail::new(format_args!("{arguments:?}")))
+    }
+}
+
+#[test]
+fn units_are_listed(rt: HostRuntime) -> Result<(), Fail> {
+    let all = [INSERT, DROP, "units 2, not undoable 1, rows 1\n"];
+    let insert = [INSERT, "units 1, not undoable 0, rows 1\n"];
+    let drop = [DROP, "units 1, not undoable 1, rows 0\n"];
+    let last = ["units 0, not undoable 0, rows 0\n"];
+    let passed = [
+        "units 0, not undoable 0, rows 0\n",
+        "statements passed over 1\n",
+    ];
+    lists(&rt, &["list", "--utc"], &all)?;
+    lists(&rt, &["list", "--utc", "-d", "d", "-T", "t"], &all)?;
+    lists(
+        &rt,
+        &["list", "--utc", "--database", "d", "--table", "u"],
+        &passed,
+    )?;
+    lists(&rt, &["list", "--utc", "-j", "121"], &drop)?;
+    lists(&rt, &["list", "--utc", "--start-position", "120"], &all)?;
+    lists(&rt, &["list", "--utc", "--stop-position", "259"], &insert)?;
+    lists(
+        &rt,
+        &["list", "--utc", "--start-datetime", "1970-01-01 00:00:00"],
+        &all,
+    )?;
+    lists(
+        &rt,
+        &["list", "--utc", "--stop-datetime", "1970-01-01 00:00:00"],
+        &last,
+    )
+}
+
+#[test]
+fn tables_and_threads_choose_units(rt: HostRuntime) -> Result<(), Fail> {
+    let all = [INSERT, DROP, "units 2, not undoable 1, rows 1\n"];
+    let drop = [DROP, "units 1, not undoable 1, rows 0\n"];
+    let none = ["units 0, not undoable 0, rows 0\n"];
+    lists(&rt, &["list", "--utc", "-T", "u", "-T", "d.t"], &all)?;
+    lists(&rt, &["list", "--utc", "-T", "other.t"], &drop)?;
+    lists(&rt, &["list", "--utc", "--exclude-table", "d.t"], &drop)?;
+    lists(&rt, &["list", "--utc", "--thread", "0"], &all)?;
+    lists(
+        &rt,
+        &["list", "--utc", "--thread", "7", "--thread", "0"],
+        &all,
+    )?;
+    lists(&rt, &["list", "--utc", "--thread", "7"], &none)
+}
+
+/// The list of `CLOSED` with GTIDs.
+const WITH_GTIDS: &str = "     start       stop  time (UTC)               thread  gtid  rows
+       198        512  2026-11-21 02:00:00          13  283c105d-e730-11f1-97ff-02fc00000001:4  `shop`.`orders` inserts 3
+       512        811  2026-11-21 02:01:00          13  283c105d-e730-11f1-97ff-02fc00000001:5  `shop`.`items` inserts 2
+       811       1215  2026-11-21 02:02:00          13  283c105d-e730-11f1-97ff-02fc00000001:6  `shop`.`orders` deletes 2; `shop`.`items` deletes 1
+      1215       1528  2026-11-21 02:03:00          13  283c105d-e730-11f1-97ff-02fc00000001:7  `shop`.`orders` updates 1
+units 4, not undoable 0, rows 9
+";
+
+/// The list of `CLOSED` with a damaged rows event that is passed over.
+const WITHOUT_DAMAGED: &str = "     start       stop  time (UTC)               thread  rows
+       198        512  2026-11-21 02:00:00          13  `shop`.`orders` inserts 3
+       512        811  2026-11-21 02:01:00          13  `shop`.`items` inserts 2
+       811       1215  2026-11-21 02:02:00          13  Damaged at 1026: rows
+      1215       1528  2026-11-21 02:03:00          13  `shop`.`orders` updates 1
+units 4, not undoable 1, rows 6
+damaged events passed over 1
+";
+
+#[test]
+fn gtids_are_listed_if_asked_for(rt: HostRuntime) -> Result<(), Fail> {
+    let arguments = ["list", "--utc", "--gtid"];
+    let outcome = run_log(&rt, "gtids", CLOSED.as_slice(), arguments.as_slice())?;
+    assert!(rt; outcome.is_done(WITH_GTIDS.as_bytes()));
+    Ok(())
+}
+
+#[test]
+fn damaged_events_are_passed_over(rt: HostRuntime) -> Result<(), Fail> {
+    let mut damaged = CLOSED;
+    damaged[1060] ^= 1;
+    let arguments = ["list", "--utc", "--skip-damaged"];
+    let outcome = run_log(&rt, "passed", damaged.as_slice(), arguments.as_slice())?;
+    assert!(rt; outcome.is_done(WITHOUT_DAMAGED.as_bytes()));
+    let arguments = ["list", "--utc", "--skip-damaged", "--json", "-j", "4000"];
+    let outcome = run_log(&rt, "passed", damaged.as_slice(), arguments.as_slice())?;
+    let text =
+        b"{\"units\":0,\"not_undoable\":0,\"rows\":0,\"passed_over\":0}\n{\"damaged_events\":1}\n";
+    assert!(rt; outcome.is_done(text.as_slice()));
+    Ok(())
+}
+
+#[test]
+fn a_time_zone_is_asked_for(rt: HostRuntime) -> Result<(), Fail> {
+    let all = [INSERT, DROP, "units 2, not undoable 1, rows 1\n"];
+    lists(&rt, &["list", "--time-zone", "UTC"], &all)?;
+    let arguments = ["list", "--utc", "--time-zone", "UTC", "a"];
+    let line = "error: the argument '--utc' cannot be used with '--time-zone <NAME>'\n";
+    assert!(rt; run_arguments(&rt, &arguments)?.begins_refusal(2, line));
+    Ok(())
+}
+
+#[test]
+fn units_are_listed_as_json(rt: HostRuntime) -> Result<(), Fail> {
+    let text =
+        b"{\"start\":259,\"stop\":305,\"time\":\"1970-01-01T00:00:00+00:00\",\"timestamp\":0,\"thread\":0,\"gtid\":null,\"fault\":\"Statement\",\"position\":259,\"statement\":\"DROP TABLE t\"}
+{\"units\":1,\"not_undoable\":1,\"rows\":0,\"passed_over\":0}
+";
+    let arguments = ["list", "--utc", "--json", "-j", "121"];
+    let log = insert_and_drop(&rt)?;
+    let outcome = run_log(&rt, "json", log.as_slice(), arguments.as_slice())?;
+    assert!(rt; outcome.is_done(text.as_slice()));
+    Ok(())
+}
+
+/// Whether the run listed the insert and printed a line that begins so.
+fn has_listed(outcome: &Outcome, line: &str) -> bool {
+    outcome.status == ExitCode::FAILURE
+        && outcome.output().starts_with(HEADER.as_bytes())
+        && outcome.output().ends_with(b", rows 1\n")
+        && outcome.errors().starts_with(line.as_bytes())
+        && outcome.errors().ends_with(b"\n")
+}
+
+#[test]
+fn a_log_that_ends_early_is_listed_and_told(rt: HostRuntime) -> Result<(), Fail> {
+    let log = insert_and_drop(&rt)?;
+    let cut = log.get(..304).ok_or("a short log")?;
+    let outcome = run_log(&rt, "cut", cut, &["list", "--utc"])?;
+    assert!(rt;
+        has_listed(
+            &outcome,
+            "binlog: CutEvent at 259: the log ends inside an event: "
+        )
+    );
+    let outcome = run_log(&rt, "unended", &INSERT_ONE_ROW[..232], &["list"])?;
+    assert_eq!(rt; outcome.status, ExitCode::FAILURE);
+    assert!(rt;
+        outcome
+            .output()
+            .ends_with(b"units 1, not undoable 1, rows 0\n")
+    );
+    let line = b"binlog: Unended at 232: the log ends inside a transaction: ";
+    assert!(rt; outcome.errors().starts_with(line));
+    Ok(())
+}
+
+const WRONG_SUM: &str =
+    "binlog: WrongSum at 4: the event isn't what the server wrote: copy the log from the server again\n";
+
+const UNKNOWN_ALGORITHM: &str =
+    "binlog: UnknownAlgorithm at 4: the log has checksums that aren't CRC32: use the server's own tools\n";
+
+#[test]
+fn a_log_with_checksums_is_listed(rt: HostRuntime) -> Result<(), Fail> {
+    let outcome = run_log(
+        &rt,
+        "sums",
+        CLOSED.as_slice(),
+        &["list", "--utc", "-j", "1215"],
+    )?;
+    let line =
+        "      1215       1528  2026-11-21 02:03:00          13  `shop`.`orders` updates 1\n";
+    let text = format!(in rt.alloc(); "{HEADER}{line}units 1, not undoable 0, rows 1\n")?;
+    assert!(rt; outcome.is_done(text.as_bytes()));
+    let mut damaged = CLOSED;
+    // a byte of the last event but one
+    damaged[1510] ^= 1;
+    let outcome = run_log(
+        &rt,
+        "damaged",
+        damaged.as_slice(),
+        &["list", "--utc", "-j", "1215"],
+    )?;
+    let line = "      1215       1497  2026-11-21 02:03:00          13  Unended at 1497\n";
+    let text = format!(in rt.alloc(); "{HEADER}{line}units 1, not undoable 1, rows 0\n")?;
+    let told =
+        "binlog: WrongSum at 1497: the event isn't what the server wrote: copy the log from the server again\n";
+    assert_eq!(rt; outcome.status, ExitCode::FAILURE);
+    assert_eq!(rt; outcome.output(), text.as_bytes());
+    assert_eq!(rt; outcome.errors(), told.as_bytes());
+    Ok(())
+}
+
+#[test]
+fn logs_that_are_not_listed_are_told(rt: HostRuntime) -> Result<(), Fail> {
+    let mut changed = SUMMED;
+    // the time at which the log was made
+    changed[75] ^= 1;
+    let outcome = run_log(&rt, "wrong-sum", changed.as_slice(), &["list"])?;
+    assert!(rt; outcome.is_refusal(1, WRONG_SUM));
+    let mut unknown = SUMMED;
+    // the checksum algorithm
+    unknown[115] = 2;
+    let outcome = run_log(&rt, "algorithm", unknown.as_slice(), &["list"])?;
+    assert!(rt; outcome.is_refusal(1, UNKNOWN_ALGORITHM));
+    let outcome = run_log(&rt, "no-log", b"no log", &["list"])?;
+    assert!(rt; outcome.begins_refusal(1, "binlog: NotABinlog at 0: "));
+    let absent = path_of(&rt, "unlisted")?;
+    let outcome = run_arguments(&rt, &["list", absent.as_str()])?;
+    assert!(rt; outcome.begins_refusal(1, "binlog: cannot open the log /"));
+    let outcome = run_log(&rt, "no-units", PLAIN.as_slice(), &["list", "--json"])?;
+    assert!(rt;
+        outcome.is_done(b"{\"units\":0,\"not_undoable\":0,\"rows\":0,\"passed_over\":0}\n")
+    );
+    Ok(())
+}
+
+#[test]
+fn wrong_values_end_in_two(rt: HostRuntime) -> Result<(), Fail> {
+    let cases = [
+        (
+            ["list", "--start-datetime", "2026-11-23", "a"],
+            "error: invalid value '2026-11-23' for '--start-datetime <TIME>': not a time: ",
+        ),
+        (
+            ["list", "--stop-datetime", "", "a"],
+            "error: invalid value '' for '--stop-datetime <TIME>': not a time: ",
+        ),
+        (
+            ["list", "-j", "+4", "a"],
+            "error: invalid value '+4' for '--start-position <POS>': not a position: ",
+        ),
+        (
+            ["list", "--stop-position", "4294967296", "a"],
+            "error: invalid value '4294967296' for '--stop-position <POS>': not a position: ",
+        ),
+        (
+            ["list", "--thread", "+7", "a"],
+            "error: invalid value '+7' for '--thread <N>': not a thread id: ",
+        ),
+        (["list", "--force", "-j", "4"], "error: "),
+        (
+            ["list", "--time-zone", "Nonsense/Zone", "a"],
+            "error: invalid value 'Nonsense/Zone' for '--time-zone <NAME>': not a time zone that this machine has a file of: ",
+        ),
+        (
+            ["list", "--time-zone", "../zoneinfo/UTC", "a"],
+            "error: invalid value '../zoneinfo/UTC' for '--time-zone <NAME>': not a time zone ",
+        ),
+    ];
+    for (arguments, line) in cases {
+        let outcome = run_arguments(&rt, arguments.as_slice())?;
+        assert!(rt; outcome.begins_refusal(2, line), "{arguments:?}");
+    }
+    Ok(())
+}

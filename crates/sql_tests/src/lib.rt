@@ -1,0 +1,5 @@
+//! Tests of logs as SQL.
+#![tactic(auto)]
+
+#[cfg(test)]
+mod sql_tests;
