@@ -1,5 +1,5 @@
 #!/usr/bin/env python3
-"""Measures binlog plain on logs with checksums in the page cache, and prints a table; bench/README.md explains it.
+"""Measures binlog plain and list on logs with checksums in the page cache, and prints a table; bench/README.md explains it.
 
     sums.py BINLOG FLASHBACK RUNS LIMIT OUT LOG..
 
@@ -42,15 +42,17 @@ def zlib_of(log, runs):
 def main(binlog, flashback, runs, limit, out, *logs):
     runs, limit, status = int(runs), float(limit), 0
     print("| Log | MB | Events | cat, MB/s | zlib's sum of its bytes | binlog plain | flashback --summary of the plain log "
-          "| plain, of summary | Most memory, MB | binlog plain |\n|---|---|---|---|---|---|---|---|---|---|")
+          "| plain, of summary | Most memory, MB | binlog plain | binlog list, MB/s | of list of the plain log |\n"
+          "|---|---|---|---|---|---|---|---|---|---|---|---|")
     for log in logs:
         with open(log + ".counts") as file:
             size, events, _ = map(int, file.read().split())
         plain = os.path.join(out, "plain.binlog")
         print("measuring", os.path.basename(log), file=sys.stderr)
-        cat, ours, summary = Best(), Best(), Best()
+        cat, ours, summary, listed, unsummed = (Best() for _ in range(5))
         run_all("sums.py", ((["cat", log], os.devnull, cat), ([binlog, "plain", log], plain, ours),
-                            ([flashback, "--summary", plain], os.devnull, summary)), runs, limit)
+                            ([flashback, "--summary", plain], os.devnull, summary), ([binlog, "list", log], os.devnull, listed),
+                            ([binlog, "list", plain], os.devnull, unsummed)), runs, limit)
         made = log.removesuffix("-sums.binlog") + ".binlog"
         if subprocess.run(["cmp", "-i", str(FIRST), plain, made]).returncode:
             status = 1
@@ -58,7 +60,8 @@ def main(binlog, flashback, runs, limit, out, *logs):
         mb = size / 1e6
         print(f"| {os.path.basename(made).removesuffix('.binlog')} | {mb:,.0f} | {events:,} | {mb / cat.wall:,.0f} "
               f"| {mb / zlib_of(log, runs)[1]:,.0f} | {mb / ours.wall:,.0f} | {written / 1e6 / summary.wall:,.0f} "
-              f"| {(mb / ours.wall) / (written / 1e6 / summary.wall):.2f} | {(size + MOST_BESIDE) / 1e6:,.0f} | {ours.peak / 1e6:,.0f} |")
+              f"| {(mb / ours.wall) / (written / 1e6 / summary.wall):.2f} | {(size + MOST_BESIDE) / 1e6:,.0f} | {ours.peak / 1e6:,.0f} "
+              f"| {mb / listed.wall:,.0f} | {unsummed.wall / listed.wall:.2f} |")
     return status
 
 

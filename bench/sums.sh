@@ -1,5 +1,5 @@
 #!/bin/sh
-# Measures binlog plain on logs with checksums, beside cat, zlib and flashback. See README.md beside this file.
+# Measures binlog plain and list on logs with checksums, beside cat, zlib and flashback. See README.md beside this file.
 #
 #     sh bench/sums.sh [SHAPE MB]..
 #

@@ -76,7 +76,10 @@ begin_folder() {
     mkdir "$work/here"
     case $1 in
         flashback*) cp "$work/logs/plain" "$work/here/binlog.000042" ;;
-        "binlog list"*) cp "$work/logs/plain" "$work/here/plain.000042" ;;
+        "binlog list"*)
+            cp "$work/logs/plain" "$work/here/plain.000041"
+            cp "$work/logs/plain" "$work/here/plain.000042"
+            ;;
         "binlog split"* | "binlog sql"*) cp "$work/logs/undo" "$work/here/undo.binlog" ;;
         binlog*) cp examples/mysql/crc32_closed.binlog "$work/here/binlog.000042" ;;
     esac

@@ -5,7 +5,7 @@ use blog_device::RunFault;
 use blog_event::Fault;
 use blog_sum::SumFault;
 
-const OUT_OF_MEMORY: &str = "run it where twice the log's size is free in memory";
+const OUT_OF_MEMORY: &str = "run it where one and a half times the log's size is free in memory";
 
 /// Returns what to do about the fault of a log, or of a range of it.
 pub fn of_log(fault: &Fault) -> &'static str {

@@ -52,6 +52,7 @@ fn of_tables<'n>(tables: &'n [TableName<'n>]) -> Wanted<'n> {
         from_time: None,
         to_time: None,
         threads: &[],
+        gtids: &[],
         choice: TableChoice {
             database: None,
             tables,

@@ -18,6 +18,9 @@ use Rattle.blog_list.specs.Times.{IsRead as IsReadTime}
 use Rattle.jiff.specs.Types.{TimeZone}
 use Rattle.blog_choice.specs.Choice.{read_name}
 use Rattle.blog_choice.specs.code.Views.{choice_value, name_value}
+use Rattle.blog_request.specs.Ids.{read_ids}
+use Rattle.blog_request.specs.code.IdsView.{ids_value}
+use Rattle.blog_request.specs.declared.ids.GlobalIds.{GlobalIds}
 use Rattle.blog_request.specs.declared.wanted.Wanted.{Wanted}
 use Rattle.blog_sql.specs.Changed.{HasShortNames, HaveShortNames, read_renamed}
 use Rattle.blog_sql.specs.code.Views.{renamed_value}
@@ -115,17 +118,22 @@ all_values found name = option_map_or raw_values (matched_of found name) []
 abbrev pub AreNumbers : List (List ℕ) → List ℕ → Type 0
 AreNumbers values numbers = AllByRecursion IsPosition values × (numbers ≡ map (digits_value 10) values)
 
+-- the global transaction ids that values mean, each of which means some
+abbrev pub AreIds : List (List ℕ) → List GlobalIds → Type 0
+AreIds values gtids = map (λ ids. Some (ids_value ids)) gtids ≡ map read_ids values
+
 -- each part of the list is the value of its option, or are its values
 pub record IsListTask {A : Type 0} (found : Found) (task : ListTask A) : Type 0 where
-  pub log : task.log.now ≡ unwrap_or (first_value found (codes "LOG")) []
+  pub logs : map (λ path. path.now) task.logs.items ≡ all_values found (codes "LOG")
   pub form : task.form ≡ form_of (is_given found (codes "json"))
-  pub gtids : task.gtids ≡ is_given found (codes "gtid")
+  pub show_gtids : task.show_gtids ≡ is_given found (codes "show-gtid")
   pub reading : task.reading ≡ record { stop = None; skip_damaged = is_given found (codes "skip-damaged") }
   pub start : IsPositionOf (first_value found (codes "start-position")) task.start
   pub stop : IsPositionOf (first_value found (codes "stop-position")) task.stop
   pub zone : IsZoneAsked found task.zone
   pub times : (zone : TimeZone) × IsZoneOf task.zone zone × AreTimes found task.from_time task.to_time zone
   pub threads : AreNumbers (all_values found (codes "thread")) task.threads.items
+  pub gtids : AreIds (all_values found (codes "gtid")) task.gtids.items
   pub database : option_map (λ name. name.now) task.database ≡ first_value found (codes "database")
   pub tables : map name_value task.tables.items ≡ map read_name (all_values found (codes "table"))
   pub excluded : map name_value task.excluded.items ≡ map read_name (all_values found (codes "exclude-table"))
@@ -137,6 +145,7 @@ pub record HasTask {A : Type 0} (task : ListTask A) (wanted : Wanted) : Type 0 w
   pub from_time : wanted.from_time ≡ task.from_time
   pub to_time : wanted.to_time ≡ task.to_time
   pub threads : wanted.threads.now ≡ task.threads.items
+  pub gtids : wanted.gtids.now ≡ task.gtids.items
   pub database : (choice_value wanted.choice).database ≡ option_map (λ name. name.now) task.database
   pub tables : (choice_value wanted.choice).tables ≡ map name_value task.tables.items
   pub excluded : (choice_value wanted.choice).excluded ≡ map name_value task.excluded.items
@@ -203,17 +212,28 @@ RefusesSchemas values (Wrong text) = HasWrongSchemas values
 RefusesSchemas values NotText = ⊥
 RefusesSchemas values OutOfMemory = ⊤
 
+-- one of these values means no global transaction ids
+abbrev pub HasWrongIds : List (List ℕ) → Type 0
+HasWrongIds values = (n : ℕ) × (value : List ℕ) × (slice_get values n ≡ Some value) × (read_ids value ≡ None)
+
+-- why an option has no global transaction ids: one of its values means none, or memory was refused
+abbrev pub RefusesIds : {A : Type 0} → List (List ℕ) → ArgumentsFault A → Type 0
+RefusesIds values (Wrong text) = HasWrongIds values
+RefusesIds values NotText = ⊥
+RefusesIds values OutOfMemory = ⊤
+
 -- the same of a time, or of the name of a zone
 abbrev pub RefusesTime : {A : Type 0} → Option (List ℕ) → ArgumentsFault A → Type 0
 RefusesTime value (Wrong text) = IsSome value
 RefusesTime value NotText = ⊥
 RefusesTime value OutOfMemory = ⊤
 
--- a position or a thread is wrong, or a time or the name of a zone may be
+-- a position, a thread or a global transaction id is wrong, or a time or the name of a zone may be
 abbrev pub HasWrongValue : Found → Type 0
 HasWrongValue found = IsWrongPosition (first_value found (codes "start-position")) ⊎ IsWrongPosition (first_value found (codes "stop-position"))
     ⊎ IsSome (first_value found (codes "start-datetime")) ⊎ IsSome (first_value found (codes "stop-datetime"))
     ⊎ IsSome (first_value found (codes "time-zone")) ⊎ HasWrongNumber (all_values found (codes "thread"))
+    ⊎ HasWrongIds (all_values found (codes "gtid"))
 
 -- why no list is asked for: that, or memory was refused
 abbrev pub RefusesList : {A : Type 0} → Found → ArgumentsFault A → Type 0

@@ -1,6 +1,6 @@
 -- What a run does to the bytes of its devices. Of a device that does not tell its bytes these definitions say that there
 -- are such bytes.
-use Rattle.std.specs.Prelude.{◌≡◌, ◌⊎◌, ◌<◌, ℕ, Bool, true, false, List, [], ◌∷◌, ⊤, String, Vec, Option, None, Some, option_map, Result, Ok, Err}
+use Rattle.std.specs.Prelude.{◌≡◌, ◌⊎◌, ◌<◌, ℕ, Bool, true, false, List, [], ◌∷◌, length, ⊤, String, Vec, Option, None, Some, option_map, Result, Ok, Err}
 use Rattle.std.specs.Io.KnownBytes.{Keeps, Appends}
 use Rattle.blog_event.specs.declared.fault.Fault.{Fault}
 use Rattle.blog_event.specs.declared.fault.Fault.TheVariants.{TooLong, OutOfMemory as NoMemory}
@@ -20,15 +20,15 @@ use Rattle.blog_source.specs.declared.source.Source.{Source}
 use Rattle.blog_event.specs.Fault.{name_of, position_of}
 use Rattle.blog_event.specs.Opening.{opening_fault}
 use Rattle.jiff.specs.Types.{TimeZone}
-use Rattle.blog_list.specs.Texts.{AppendsList}
-use Rattle.blog_list.specs.code.Told.{end_listed, listed}
-use Rattle.blog_list.specs.declared.listing.Form.TheVariants.{Text}
+use Rattle.list_run.specs.Listed.{ListsLogs, MayFollow}
+use Rattle.list_run.specs.declared.fault.ListFault.{ListFault}
+use Rattle.list_run.specs.declared.given.GivenLog.{GivenLog}
 use Rattle.blog_request.specs.declared.wanted.Wanted.{Wanted}
 use Rattle.binlog_command.specs.Request.{HasTask, asks_for_list}
 use Rattle.binlog_command.specs.Zones.{IsZoneOf}
 use Rattle.binlog_command.specs.declared.list_arguments.ListTask.{ListTask}
 use Rattle.binlog_command.specs.declared.commands.Failure.{Failure}
-use Rattle.binlog_command.specs.declared.commands.Failure.TheVariants.{NewLog as NoNewLog, List as NoList, EndsEarly, Unread}
+use Rattle.binlog_command.specs.declared.commands.Failure.TheVariants.{NewLog as NoNewLog, List as NoList}
 use Rattle.binlog_command.specs.declared.commands.NewLogFault.{NewLogFault}
 use Rattle.binlog_command.specs.declared.commands.NewLogFault.TheVariants.{Run, Sums, Split as Cut, NoSchema}
 use Rattle.binlog_command.specs.declared.arguments.Making.{Making}
@@ -150,47 +150,19 @@ abbrev pub may_list : {A B E : Type 0} → Result (Vec (String A) B) E → Bool
 may_list (Ok arguments) = asks_for_list arguments.items
 may_list (Err error) = false
 
--- a log opens as this source, if it is read so
-abbrev pub IsSourceOf : {A : Type 0} → Reading → List ℕ → Source A → Type 0
-IsSourceOf how log source = (log_of source ≡ handed_log how log) × (end_of source ≡ (found_of how log).end)
-    × (fault_of source ≡ (found_of how log).fault) × (damaged_of source ≡ (found_of how log).damaged)
-
--- the list of a source that a task asks for is written, and this is why it ends early. For JSON it isn't said what is written
-abbrev pub IsListOf : {A : Type 0} → Source A → ListTask A → Option SumFault → Option (List ℕ) → Option (List ℕ) → Type 0
-IsListOf source task end had has = (wanted : Wanted) × HasTask task wanted × (end ≡ end_listed source wanted)
-    × ((zone : TimeZone) × IsZoneOf task.zone zone × (task.form ≡ Text → AppendsList zone task.gtids (listed None source wanted ∷ []) had has))
-
--- what comes of reading a log for the list of a task: the list of the source that the log opens as is written; or the log can't be
--- held, what is handed out for it can't be opened, or a read or a write failed
-abbrev pub WritesList : {A : Type 0} → ListTask A → Option (List ℕ) → Option (List ℕ) → Option (List ℕ) → Option (List ℕ) → Result (Option SumFault) RunFault → Type 0
-WritesList {A} task old new had has (Ok end) = (log : List ℕ) × ReadsLog old new log × (source_refusal log ≡ None)
-    × ((source : Source A) × IsSourceOf task.reading log source × IsListOf source task end had has)
-WritesList task old new had has (Err (Log fault)) = (fault ≡ NoMemory) ⊎ ((fault ≡ TooLong 0) × PassesLimit greatest_length old new)
-    ⊎ ((log : List ℕ) × ReadsLog old new log × (source_refusal log ≡ None) × (opening_fault (handed_log task.reading log) ≡ Some fault))
-WritesList task old new had has (Err Read) = ⊤
-WritesList task old new had has (Err Write) = (log : List ℕ) × ReadsLog old new log × (source_refusal log ≡ None)
-
--- this log was read, of which nothing can be read for a list
-abbrev pub LeavesUnread : Option (List ℕ) → Option (List ℕ) → SumFault → Type 0
-LeavesUnread old new fault = (log : List ℕ) × ReadsLog old new log × (source_refusal log ≡ Some fault)
-
--- a part of the list may be written before this fault: memory was refused, or a write failed
-abbrev pub MayHaveListed : RunFault → Type 0
-MayHaveListed (Log fault) = fault ≡ NoMemory
-MayHaveListed Read = ⊥
-MayHaveListed Write = ⊤
+-- the list of given logs that a task asks for comes to this
+abbrev pub ListsGiven : {A R : Type 0} → (R → Option (List ℕ)) → ListTask A → List (GivenLog R) → Option (List ℕ) → Option (List ℕ) → Result Unit (ℕ × ListFault) → Type 0
+ListsGiven known task givens had has listed = (wanted : Wanted) × HasTask task wanted × ((zone : TimeZone) × IsZoneOf task.zone zone
+    × (0 < length givens → ListsLogs known task.form zone task.show_gtids (record { how = task.reading; wanted = wanted; count = length givens }) givens had has listed))
 
 -- a part of a list, or all of it, may be written before this failure
 abbrev pub MayFollowList : {A : Type 0} → Failure A → Type 0
-MayFollowList (NoList fault) = MayHaveListed fault
-MayFollowList (EndsEarly fault) = ⊤
+MayFollowList (NoList None fault) = MayFollow fault
+MayFollowList (NoList (Some path) fault) = ⊤
 MayFollowList failure = ⊥
 
--- the outcome is that of a list, of which this holds: it was written, and why the log ends too early if it does; or why not; or
--- that nothing of the log can be read, of which this holds
-abbrev pub OfList : {A : Type 0} → (Result (Option SumFault) RunFault → Type 0) → (SumFault → Type 0) → Result Unit (Failure A) → Type 0
-OfList P Q (Ok done) = P (Ok None)
-OfList P Q (Err (EndsEarly fault)) = P (Ok (Some fault))
-OfList P Q (Err (NoList fault)) = P (Err fault)
-OfList P Q (Err (Unread fault)) = Q fault
-OfList P Q (Err failure) = ⊥
+-- the outcome is that of a list, of which this holds
+abbrev pub OfList : {A : Type 0} → (Result Unit (ℕ × ListFault) → Type 0) → Result Unit (Failure A) → Type 0
+OfList P (Ok done) = P (Ok done)
+OfList P (Err (NoList path fault)) = (n : ℕ) × P (Err (n, fault))
+OfList P (Err failure) = ⊥

@@ -11,7 +11,10 @@ ghost use Rattle.binlog_command.specs.Status.{status_of};
 ghost use Rattle.blog_source.specs.code.SourceView.{end_of, log_of};
 ghost use Rattle.binlog_command.specs.Runs.{OpensWhole, WritesSource, MayFollowList, OfNewLog, WritesNewLog, is_failed_read, is_failed_write, may_list};
 ghost use Rattle.blog_device.specs.Devices.{is_read_fault, is_write_fault};
-ghost use Rattle.binlog_command.specs.declared.commands.Failure.TheVariants.{Arguments, NewLog, ResultFile};
+ghost use Rattle.binlog_command.specs.declared.commands.Failure.TheVariants.{Arguments, List, NewLog, ResultFile};
+ghost use Rattle.blog_event.specs.declared.fault.Fault.TheVariants.{OutOfMemory};
+ghost use Rattle.list_run.specs.declared.fault.ListFault.TheVariants.{Run as OfRun};
+ghost use Rattle.blog_device.specs.declared.fault.RunFault.TheVariants.{Log as OfLog};
 ghost use Rattle.binlog_command.specs.declared.commands.NewLogFault.TheVariants.{Run, Sums};
 ghost use Rattle.binlog_command.specs.declared.arguments.Making.TheVariants as made;
 
@@ -27,8 +30,9 @@ use blog_source::{Source, plain};
 use blog_split::SplitFault;
 use blog_sum::SumFault;
 use blog_trans::Selection;
+use list_run::ListFault;
 use result_file::{FileFault, ResultFile, Wanted};
-use std::alloc::Allocator;
+use std::alloc::{AllocError, Allocator};
 use std::io;
 use std::io::{Read, Write};
 use std::process::ExitCode;
@@ -60,12 +64,10 @@ pub enum Failure<'a, A: Allocator> {
     ResultFile(FileFault<'a, A>),
     /// The new log can't be made, or not be written.
     NewLog(NewLogFault<A>),
-    /// The list can't be made, or not be written.
-    List(RunFault),
-    /// Nothing can be read of the log.
-    Unread(SumFault),
-    /// The list was written of a log that ends too early, or is damaged behind what was listed.
-    EndsEarly(SumFault),
+    /// The log of the first path is that of the second.
+    GivenTwice(&'a str, &'a str),
+    /// The list isn't whole. The path is that of the log for which it isn't, where several are listed.
+    List(Option<&'a str>, ListFault),
 }
 
 /// Why a new log can't be made or written.
@@ -110,6 +112,15 @@ impl<'a, A: Allocator> From<io::Error> for Failure<'a, A> {
         } else {
             ArgumentsFault::NotText
         })
+    }
+}
+
+/// Memory for opening logs was refused.
+impl<'a, A: Allocator> From<AllocError> for Failure<'a, A> {
+    ghost from_gives = { λ _ failure. failure ≡ List None (OfRun (OfLog OutOfMemory)) };
+
+    fn from(_error: AllocError) -> Failure<'a, A> {
+        Failure::List(None, ListFault::Run(RunFault::Log(Fault::OutOfMemory)))
     }
 }
 
@@ -223,10 +234,7 @@ fn carry_out<'a, R: Files + Env + AllocGlobal, A: Allocator + Copy, O: Write>(
             let mut reader = open_log(rt, task.log)?;
             run_sql(rt, alloc, process, &mut reader, &task, output)?
         }
-        Asked::List(task) => {
-            let mut reader = open_log(rt, task.log)?;
-            run_list(rt, alloc, process.seed, &mut reader, &task, output)?
-        }
+        Asked::List(task) => run_list(rt, alloc, process.seed, &task, output)?,
     }
     Ok(())
 }

@@ -7,6 +7,7 @@ use blog_device::{RunFault, Watched, put};
 use blog_event::Fault;
 use blog_split::SplitFault;
 use console::put_line;
+use list_run::ListFault;
 use result_file::FileFault;
 use std::alloc::Allocator;
 use std::fmt;
@@ -35,15 +36,29 @@ impl<A: Allocator> fmt::Display for Failure<'_, A> {
             Failure::NoLog(path, fault) => print_no_log(f, path, fault),
             Failure::Terminal => f.write_str(TERMINAL),
             Failure::ResultFile(fault) => print_file_fault(f, fault),
-            Failure::NewLog(NewLogFault::Run(fault)) | Failure::List(fault) => print_run_fault(
-                f, fault,
-            ),
-            Failure::EndsEarly(fault) => write!(f, "{fault}: {}", advice::of_reading(fault)),
-            Failure::Unread(fault) | Failure::NewLog(NewLogFault::Sums(fault)) => write!(
+            Failure::NewLog(NewLogFault::Run(fault)) => print_run_fault(f, fault),
+            Failure::NewLog(NewLogFault::Sums(fault)) => write!(
                 f,
                 "{fault}: {}",
                 advice::of_sums(fault)
             ),
+            Failure::GivenTwice(path, same) if path == same => write!(
+                f,
+                "the log is given twice: {path}: give it once"
+            ),
+            Failure::GivenTwice(path, same) => write!(
+                f,
+                "the log is given twice: {path} is {same}: give it once"
+            ),
+            Failure::List(_, ListFault::Run(RunFault::Write)) => print_run_fault(
+                f,
+                &RunFault::Write,
+            ),
+            Failure::List(None, fault) => print_list_fault(f, fault),
+            Failure::List(Some(path), fault) => {
+                write!(f, "{path}: ")?;
+                print_list_fault(f, fault)
+            }
             Failure::NewLog(NewLogFault::Split(SplitFault::Log(fault))) => write!(
                 f,
                 "{fault}: {}",
@@ -52,6 +67,15 @@ impl<A: Allocator> fmt::Display for Failure<'_, A> {
             Failure::NewLog(NewLogFault::Split(SplitFault::TooLong)) => f.write_str(CUT_TOO_LONG),
             Failure::NewLog(NewLogFault::NoSchema(text)) => f.write_str(text.as_str()),
         }
+    }
+}
+
+/// Why a list isn't whole.
+fn print_list_fault<W: fmt::Write>(f: &mut fmt::Formatter<W>, fault: &ListFault) -> fmt::Result {
+    match fault {
+        ListFault::Run(fault) => print_run_fault(f, fault),
+        ListFault::Unread(fault) => write!(f, "{fault}: {}", advice::of_sums(fault)),
+        ListFault::EndsEarly(fault) => write!(f, "{fault}: {}", advice::of_reading(fault)),
     }
 }
 

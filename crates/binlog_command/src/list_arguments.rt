@@ -6,18 +6,18 @@ ghost use Rattle.console.specs.Positions.{IsPositionOf};
 ghost use Rattle.jiff.specs.Words.{plain_zone};
 ghost use Rattle.blog_choice.specs.Choice.{read_name};
 ghost use Rattle.blog_choice.specs.code.Views.{name_value};
-ghost use Rattle.binlog_command.specs.Request.{AreNumbers, HasTask, IsWrong, IsListTask, IsTimeOf, IsZoneAsked, RefusesList, RefusesNumbers, RefusesTime, all_values, form_of, is_given};
+ghost use Rattle.binlog_command.specs.Request.{AreIds, AreNumbers, HasTask, IsWrong, IsListTask, IsTimeOf, IsZoneAsked, RefusesIds, RefusesList, RefusesNumbers, RefusesTime, all_values, form_of, is_given};
 ghost use Rattle.binlog_command.specs.declared.arguments.ArgumentsFault.TheVariants.{OutOfMemory};
 
 use crate::arguments::{ArgumentsFault, is_given, read_number};
 use crate::options::{
-    DATABASE, EXCLUDED_TABLE, GTID, JSON, LOG, SKIP_DAMAGED, START, START_TIME, STOP, STOP_TIME,
-    TABLE, THREAD, TIME_ZONE, UTC,
+    DATABASE, EXCLUDED_TABLE, GTID, JSON, LOG, SHOW_GTID, SKIP_DAMAGED, START, START_TIME, STOP,
+    STOP_TIME, TABLE, THREAD, TIME_ZONE, UTC,
 };
 use crate::zones::{Zone, named_zone, system_zone};
 use blog_choice::{TableChoice, TableName};
 use blog_list::{Form, Side, TimeFault, seconds_of};
-use blog_request::Wanted;
+use blog_request::{GlobalIds, Wanted};
 use blog_source::Reading;
 use clap::{ArgMatches, Command};
 use console::{POSITION, position_of, wrong_value};
@@ -25,11 +25,11 @@ use jiff::tz::TimeZone;
 use std::alloc::{AllocError, Allocator};
 use std::rt::{Env, Files};
 
-/// The list of the units of a log.
+/// The list of the units of logs.
 #[derive(Drop)]
 pub struct ListTask<'a, A: Allocator> {
-    /// The path of the log.
-    pub log: &'a str,
+    /// The paths of the logs.
+    pub logs: Vec<&'a str, A>,
     /// The units that start at this position or after it.
     pub start: Option<u32>,
     /// The units that start before this position.
@@ -40,6 +40,8 @@ pub struct ListTask<'a, A: Allocator> {
     pub to_time: Option<u32>,
     /// The units of these threads; of any if there are none.
     pub threads: Vec<u32, A>,
+    /// The units with one of these global transaction ids; with any or none if there are none.
+    pub gtids: Vec<GlobalIds<'a>, A>,
     /// The schema of the chosen tables.
     pub database: Option<&'a [u8]>,
     /// The chosen tables.
@@ -49,14 +51,22 @@ pub struct ListTask<'a, A: Allocator> {
     /// In which form units are listed.
     pub form: Form,
     /// Whether GTIDs are listed.
-    pub gtids: bool,
+    pub show_gtids: bool,
     /// How the log is read.
     pub reading: Reading,
     /// The time zone in which times are printed.
     pub zone: Zone,
 }
 
-impl<A: Allocator> ListTask<'_, A> {
+impl<'a, A: Allocator> ListTask<'a, A> {
+    /// Returns the path of a log by its number, from 0 on; an empty one where there is no such log.
+    pub fn path(&self, n: usize) -> &'a str {
+        match self.logs.get(n) {
+            Some(path) => path,
+            None => "",
+        }
+    }
+
     /// Returns which units are wanted.
     pub fn wanted(&self) -> Wanted<'_>
         ensures { HasTask self.now result }
@@ -67,6 +77,7 @@ impl<A: Allocator> ListTask<'_, A> {
             from_time: self.from_time,
             to_time: self.to_time,
             threads: self.threads.as_slice(),
+            gtids: self.gtids.as_slice(),
             choice: TableChoice {
                 database: self.database,
                 tables: self.tables.as_slice(),
@@ -89,24 +100,40 @@ pub(crate) fn read_list<'a, R: Files + Env + AllocGlobal, A: Allocator + Copy>(
     let zone = read_zone(rt, alloc, command, found)?;
     let clock = zone.time_zone();
     Ok(ListTask {
-        // the parser has refused arguments without a LOG
-        log: found.get_str(LOG).unwrap_or(""),
+        logs: read_logs(alloc, found)?,
         start: read_number(alloc, command, found, START, "POS", POSITION)?,
         stop: read_number(alloc, command, found, STOP, "POS", POSITION)?,
         from_time: read_time(alloc, command, found, START_TIME, clock, Side::Start)?,
         to_time: read_time(alloc, command, found, STOP_TIME, clock, Side::Stop)?,
         threads: read_threads(alloc, command, found)?,
+        gtids: read_gtids(alloc, command, found)?,
         database: found.get_str(DATABASE).map(str::as_bytes),
         tables: read_tables(alloc, found, TABLE)?,
         excluded: read_tables(alloc, found, EXCLUDED_TABLE)?,
         form: read_form(found),
-        gtids: is_given(found, GTID),
+        show_gtids: is_given(found, SHOW_GTID),
         reading: Reading {
             stop: None,
             skip_damaged: is_given(found, SKIP_DAMAGED),
         },
         zone,
     })
+}
+
+/// The paths of the logs, in order.
+fn read_logs<'a, A: Allocator>(
+    alloc: A,
+    found: &ArgMatches<'a>,
+) -> Result<Vec<&'a str, A>, AllocError>
+    ensures { IfOk result (λ logs. map (λ path. path.now) logs.items ≡ all_values (found_of found.now) (codes "LOG")) }
+{
+    let mut logs = Vec::new(alloc);
+    if let Some(paths) = found.get_strs(LOG) {
+        for path in paths {
+            logs.push(*path)?;
+        }
+    }
+    Ok(logs)
 }
 
 /// The tables that an option names, in order.
@@ -162,6 +189,46 @@ fn wrong_thread<A: Allocator + Copy>(
 {
     let option = format!(in alloc; "{THREAD} <N>")?;
     let told = wrong_value(alloc, command, option.as_str(), text, THREAD_ID)?;
+    Ok(ArgumentsFault::Wrong(told))
+}
+
+/// What ids are, as it is reported of a value that is none.
+const IDS: &str =
+    "a GTID: UUID:NUMBER, UUID:TAG:NUMBER, or FIRST-LAST in place of the number, which is 1 to 18446744073709551615";
+
+/// The global transaction ids that are asked for, in order.
+fn read_gtids<'a, A: Allocator + Copy>(
+    alloc: A,
+    command: &mut Command<'a>,
+    found: &ArgMatches<'a>,
+) -> Result<Vec<GlobalIds<'a>, A>, ArgumentsFault<A>>
+    ensures found { IfOk result (λ ids. AreIds (all_values (found_of found.now) (codes "gtid")) ids.items) }
+    ensures wrong { IfErr result (RefusesIds (all_values (found_of found.now) (codes "gtid"))) }
+{
+    let mut gtids = Vec::new(alloc);
+    if let Some(values) = found.get_strs(GTID) {
+        for text in values {
+            let Some(ids) = GlobalIds::read(text.as_bytes()) else {
+                return Err(wrong_gtid(alloc, command, text)?);
+            };
+            if gtids.push(ids).is_err() {
+                return Err(ArgumentsFault::OutOfMemory);
+            }
+        }
+    }
+    Ok(gtids)
+}
+
+/// Why a text is no global transaction id.
+fn wrong_gtid<A: Allocator + Copy>(
+    alloc: A,
+    command: &mut Command<'_>,
+    text: &str,
+) -> Result<ArgumentsFault<A>, AllocError>
+    ensures { IfOk result (λ fault. IsWrong fault) }
+{
+    let option = format!(in alloc; "{GTID} <GTID>")?;
+    let told = wrong_value(alloc, command, option.as_str(), text, IDS)?;
     Ok(ArgumentsFault::Wrong(told))
 }
 

@@ -1,12 +1,14 @@
-//! Opening LOG, and telling a file that is no log by its first bytes.
+//! Opening each LOG, and telling a file that is no log by its first bytes.
 
-ghost use Rattle.std.specs.Prelude.{◌≡◌, [], IfErr, None, Some};
+ghost use Rattle.std.specs.Prelude.{◌≡◌, [], IfErr, IfOk, None, Some, map};
 ghost use Rattle.binlog_command.specs.Status.{status_of};
 ghost use Rattle.binlog_command.specs.declared.log_file.LogFault.TheVariants.{Empty};
 
 use crate::commands::Failure;
 use blog_device::Watched;
-use std::alloc::Allocator;
+use list_run::GivenLog;
+use result_file::{FileId, first_repeated};
+use std::alloc::{AllocError, Allocator};
 use std::fs::{File, OpenFile};
 use std::io;
 use std::io::{Read, Seek, SeekFrom};
@@ -53,6 +55,37 @@ pub fn open_log<'a, R: Files, A: Allocator>(
     match open_checked(rt, path) {
         Ok(log) => Ok(Watched::new(log)),
         Err(fault) => Err(Failure::NoLog(path, fault)),
+    }
+}
+
+/// Opens the logs of these paths, in order, of which no two may be the same file.
+pub fn open_logs<'a, R: Files, A: Allocator + Copy>(
+    rt: &R,
+    alloc: A,
+    paths: &[&'a str],
+) -> Result<Vec<GivenLog<'a, R::File>, A>, Failure<'a, A>>
+    ensures logs { IfOk result (λ logs. map (λ log. log.name.now) logs.items ≡ map (λ path. path.now) paths.now) }
+    ensures status { IfErr result (λ f. status_of f ≡ 1) }
+{
+    let mut logs = Vec::new(alloc);
+    let mut ids = Vec::new(alloc);
+    for path in paths {
+        let reader = open_log(rt, path)?;
+        let id = match reader.device().metadata() {
+            Ok(metadata) => FileId::of(&metadata),
+            Err(cause) => return Err(Failure::NoLog(path, LogFault::NotOpened(cause))),
+        };
+        if ids.push(id).is_err() || logs.push(GivenLog { name: path, reader }).is_err() {
+            return Err(Failure::from(AllocError));
+        }
+    }
+    let Some((earlier, later)) = first_repeated(&ids) else {
+        return Ok(logs);
+    };
+    match (paths.get(earlier), paths.get(later)) {
+        (Some(path), Some(same)) => Err(Failure::GivenTwice(path, same)),
+        // there are as many ids as paths
+        _ => Ok(logs),
     }
 }
 

@@ -23,6 +23,8 @@ pub const EXCLUDED_TABLE: &str = "exclude-table";
 pub const THREAD: &str = "thread";
 /// The name of `--gtid`.
 pub const GTID: &str = "gtid";
+/// The name of `--show-gtid`.
+pub const SHOW_GTID: &str = "show-gtid";
 /// The name of `--skip-damaged`.
 pub const SKIP_DAMAGED: &str = "skip-damaged";
 /// The name of `-j`.
@@ -68,7 +70,7 @@ const USAGE: &str = "\
 binlog plain [-r FILE [--force]] LOG
        binlog list [-d NAME] [-T NAME] [-j POS] [--stop-position POS]
                    [--start-datetime TIME] [--stop-datetime TIME]
-                   [--utc | --time-zone NAME] [--json] LOG
+                   [--utc | --time-zone NAME] [--json] LOG..
        binlog split [--size BYTES] [-r FILE [--force]] LOG
        binlog sql [--each-transaction] [--keep-times] [--size BYTES]
                   [--rewrite-db FROM:TO].. [-r FILE [--force]] LOG";
@@ -114,18 +116,21 @@ Examples:
 Exit status: 0 done, 1 the log is refused or something failed, 2 the arguments are wrong.";
 
 const LIST_ABOUT: &str = "\
-Lists the units of LOG: its transactions, and what stands between them and can't be undone.
+Lists the units of each LOG: its transactions, and what stands between them and can't be undone.
 A line says where a unit starts and stops, its local time, the thread of the connection that wrote it,
 and how many rows of each table it changes, or why it can't be undone. The heading names the time zone.
 The last line counts units, those that can't be undone, and the rows of the others.
+With several LOGs the lines of each stand below its name, and the last line counts all. -j is a position
+of the first LOG, and --stop-position one of the last.
 Each checksum of LOG is checked, if it has checksums. Positions are those of LOG, as mysqlbinlog shows them.
 flashback -B -j START --stop-position STOP undoes a unit, or more of them in a row. It takes no log with
 checksums: list the plain log of binlog plain for it, whose positions are its own.";
 
 const LIST_USAGE: &str = "\
 binlog list [-d NAME] [-T [NAME.]NAME].. [--exclude-table [NAME.]NAME].. [--thread N]..
-                   [-j POS] [--stop-position POS] [--start-datetime TIME] [--stop-datetime TIME]
-                   [--utc | --time-zone NAME] [--gtid] [--skip-damaged] [--json] LOG";
+                   [-j POS] [--stop-position POS] [--gtid GTID]..
+                   [--start-datetime TIME] [--stop-datetime TIME] [--utc | --time-zone NAME]
+                   [--show-gtid] [--skip-damaged] [--json] LOG..";
 
 const LIST_AFTER_HELP: &str = "\
 Positions are bytes from the start of the file, decimal, 0 to 4294967295.
@@ -139,6 +144,8 @@ they change isn't known, but for statements that name no chosen table, such as A
 Examples:
   binlog list plain.000042
       list all units
+  binlog list plain.000041 plain.000042
+      those of several logs, in this order
   binlog list -d shop -T orders plain.000042
       those that change one table, with the other tables that they change;
       -d is the same as --database, -T the same as --table
@@ -156,8 +163,10 @@ Examples:
       those before this time
   binlog list --utc plain.000042
       times in UTC
-  binlog list --gtid plain.000042
+  binlog list --show-gtid plain.000042
       with their GTIDs
+  binlog list --gtid 283c105d-e730-11f1-97ff-02fc00000001:5-9 plain.000042
+      those with these GTIDs: a UUID and a number, or from one number to another
   binlog list --skip-damaged plain.000042
       go on after an event whose checksum is wrong
   binlog list --json plain.000042
@@ -322,21 +331,23 @@ fn list_arguments<'a>(alloc: Global) -> Result<Command<'a>, AllocError> {
         .about(LIST_ABOUT)
         .override_usage(LIST_USAGE)
         .after_help(LIST_AFTER_HELP);
-    let gtid = flag(alloc, GTID).help("Print GTIDs too");
+    let gtid = flag(alloc, SHOW_GTID).help("Print GTIDs too");
     let damaged = flag(alloc, SKIP_DAMAGED).help("Go on after an event whose checksum is wrong");
     let utc = flag(alloc, UTC).help("Read and print times in UTC");
     let zone = option(alloc, TIME_ZONE, "NAME").help(
         "Read and print times in this time zone, such as Europe/Berlin",
     );
     let json = flag(alloc, JSON).help("Write JSON, an object a line");
-    let log = Arg::new(alloc, LOG).help("The binary log, a file");
+    let logs = Arg::new(alloc, LOG)
+        .help("The binary logs, files")
+        .num_args(1..);
     range_arguments(alloc, table_arguments(alloc, command)?)?
         .arg(gtid)?
         .arg(damaged)?
         .arg(utc)?
         .arg(zone.conflicts_with(UTC)?)?
         .arg(json)?
-        .arg(log.required(true))
+        .arg(logs.required(true).action(ArgAction::Append))
 }
 
 /// Adds the options that choose tables and threads.
@@ -370,5 +381,13 @@ fn range_arguments<'a>(alloc: Global, command: Command<'a>) -> Result<Command<'a
     let to = option(alloc, STOP_TIME, "TIME").help(
         "Only the units before TIME: YYYY-MM-DD hh:mm:ss",
     );
-    command.arg(start.short('j'))?.arg(stop)?.arg(from)?.arg(to)
+    let gtid = option(alloc, GTID, "GTID").help(
+        "Only the units with this GTID, or one of UUID:N-M; can be given several times",
+    );
+    command
+        .arg(start.short('j'))?
+        .arg(stop)?
+        .arg(gtid.action(ArgAction::Append))?
+        .arg(from)?
+        .arg(to)
 }

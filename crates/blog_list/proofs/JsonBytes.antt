@@ -12,7 +12,8 @@ use Rattle.std.proofs.lemmas.List.Folds.{list_any-append}
 use Rattle.std.proofs.lemmas.Str.{encode_ascii}
 use Rattle.bstr.specs.Utf8.{lossy_chars}
 use Rattle.bstr.proofs.lemmas.EncodeLemmas.{lossy_chars-utf8}
-use Rattle.blog_list.specs.code.Json.{is_escaped, is_high_control, is_literal, json_byte, json_char, may_begin}
+use Rattle.blog_list.specs.Json.{is_high_control, json_char}
+use Rattle.blog_list.specs.code.Json.{is_escaped, is_literal, json_byte, may_begin}
 use Rattle.blog_list.proofs.Growing.{next-part}
 
 -- which numbers of characters stand for themselves

@@ -2,6 +2,7 @@ mod Ending
 mod Growing
 mod JsonBytes
 mod JsonLanes
+mod Largest
 mod Marking
 mod OnTheWay
 mod Plain

@@ -25,21 +25,23 @@ use Rattle.blog_request.specs.declared.wanted.Concern.TheVariants.{Wanted as IsW
 use Rattle.blog_request.specs.declared.wanted.Wanted.{Wanted}
 use Rattle.blog_request.specs.Wanted.{changes_told, concern_of, is_before, is_wanted, is_wanted_unit}
 use Rattle.blog_list.specs.declared.column.TimeColumn.{TimeColumn}
+use Rattle.blog_list.specs.declared.listing.Form.{Form}
+use Rattle.blog_list.specs.declared.listing.Form.TheVariants.{Text, Json}
 use Rattle.blog_list.specs.declared.totals.Totals.{Totals}
-use Rattle.blog_list.specs.Lines.{LogList, Refusal, Shown, all_refused, all_rows, name_line, rows_of, rows_shown, sum_damaged, sum_passed_over, sum_refused, sum_rows, sum_units, totals_lines}
+use Rattle.blog_list.specs.Lines.{LogList, Refusal, Shown, all_refused, all_rows, rows_of, rows_shown, sum_damaged, sum_passed_over, sum_refused, sum_rows, sum_units, totals_lines}
 use Rattle.blog_list.specs.Shown.{changes_in, changes_of, changes_shown, in_front, is_passed, passed_over_of, rows_or, shown, shown_with, wanted_of}
-use Rattle.blog_list.specs.Texts.{AreLines, IsLine}
+use Rattle.blog_list.specs.Texts.{AreLines, IsLine, name_above, totals_of}
 use Rattle.blog_list.specs.code.Held.{HasBegun, HasListed, HasWritten, has_no_memory}
-use Rattle.blog_list.specs.code.Told.{PutsLine, shown_told}
-use Rattle.blog_list.specs.code.Totals.{AreTotals, CountsLog, HasAdded, HasCounted, HasDamaged, totals_text}
+use Rattle.blog_list.specs.code.Told.{PutsLineIn, shown_told}
+use Rattle.blog_list.specs.code.Totals.{AreTotals, CountsLog, HasAdded, HasCounted, HasDamaged, totals_put, totals_text}
 
 -- ---- one unit more
 
-lines-more : (zone : TimeZone) (gtids : Bool) (width : ℕ) (done : List Shown) (s : Shown) (lines line : List ℕ) → AreLines zone gtids width done lines → IsLine zone gtids width s line
-    → AreLines zone gtids width (done ++ s ∷ []) (lines ++ line)
-lines-more zone gtids width [] s lines line are is = (line, [], is, refl, ap (λ (text : List ℕ). text ++ line) are ∙ sym (append-nil line))
-lines-more zone gtids width (x ∷ xs) s lines line (first, rest, one, others, split) is =
-    (first, rest ++ line, one, lines-more zone gtids width xs s rest line others is, ap (λ (text : List ℕ). text ++ line) split ∙ append_assoc first rest line)
+lines-more : (form : Form) (zone : TimeZone) (gtids : Bool) (width : ℕ) (name : Option (List ℕ)) (done : List Shown) (s : Shown) (lines line : List ℕ)
+    → AreLines form zone gtids width name done lines → IsLine form zone gtids width name s line → AreLines form zone gtids width name (done ++ s ∷ []) (lines ++ line)
+lines-more form zone gtids width name [] s lines line are is = (line, [], is, refl, ap (λ (text : List ℕ). text ++ line) are ∙ sym (append-nil line))
+lines-more form zone gtids width name (x ∷ xs) s lines line (first, rest, one, others, split) is =
+    (first, rest ++ line, one, lines-more form zone gtids width name xs s rest line others is, ap (λ (text : List ℕ). text ++ line) split ∙ append_assoc first rest line)
 
 refused-more : (done : List Shown) (s : Shown) → all_refused (done ++ s ∷ []) ≡ all_refused done + (if is_err s.changes then 1 else 0)
 refused-more [] s = omega arith
@@ -55,8 +57,10 @@ rows-more (x ∷ xs) s = let more = rows-more xs s in omega arith
 abbrev pub listed_of : Wanted → List ℕ → (ℕ → ℕ) → List Facts → List Shown
 listed_of w log place us = map (shown log place) (wanted_of w log us)
 
--- how lines are written: in this zone, with ids or without, with times in a column of this width, behind what was held before
+-- how lines are written: in this form, in this zone, with ids or without, with times in a column of this width, behind what was
+-- held before
 pub record Sheet : Type 0 where
+  pub form : Form
   pub zone : TimeZone
   pub gtids : Bool
   pub width : ℕ
@@ -68,11 +72,11 @@ pub record IsListing (sheet : Sheet) (l : LogList) (later : List Shown) (had has
   pub written : List ℕ
   pub appended : Appends had has written
   pub lines : List ℕ
-  pub lines_are : AreLines sheet.zone sheet.gtids sheet.width done lines
-  pub text : written ++ held ≡ sheet.before ++ (name_line l.name ++ lines)
+  pub lines_are : AreLines sheet.form sheet.zone sheet.gtids sheet.width l.name done lines
+  pub text : written ++ held ≡ sheet.before ++ (name_above sheet.form l.name ++ lines)
 
 -- at first the line of the log's name is held
-pub listing-none : (sheet : Sheet) (l : LogList) (later : List Shown) (had : Option (List ℕ)) (held : List ℕ) → later ≡ l.units → held ≡ sheet.before ++ name_line l.name
+pub listing-none : (sheet : Sheet) (l : LogList) (later : List Shown) (had : Option (List ℕ)) (held : List ℕ) → later ≡ l.units → held ≡ sheet.before ++ name_above sheet.form l.name
     → IsListing sheet l later had had held
 listing-none sheet l later had held same is = record {
   done = [];
@@ -81,22 +85,22 @@ listing-none sheet l later had held same is = record {
   appended = Appends-nil had;
   lines = [];
   lines_are = refl;
-  text = is ∙ ap (λ (name : List ℕ). sheet.before ++ name) (sym (append-nil (name_line l.name)));
+  text = is ∙ ap (λ (name : List ℕ). sheet.before ++ name) (sym (append-nil (name_above sheet.form l.name)));
 }
 
 -- the line of the next one is held
 listing-more : (sheet : Sheet) (l : LogList) (later rest : List Shown) (had has : Option (List ℕ)) (held more line : List ℕ) (s : Shown)
-    → IsListing sheet l later had has held → later ≡ s ∷ rest → IsLine sheet.zone sheet.gtids sheet.width s line → more ≡ held ++ line → IsListing sheet l rest had has more
+    → IsListing sheet l later had has held → later ≡ s ∷ rest → IsLine sheet.form sheet.zone sheet.gtids sheet.width l.name s line → more ≡ held ++ line → IsListing sheet l rest had has more
 listing-more sheet l later rest had has held more line s list first is grown = record {
   done = list.done ++ s ∷ [];
   chosen = append_assoc list.done (s ∷ []) rest ∙ ap (λ (ss : List Shown). list.done ++ ss) (sym first) ∙ list.chosen;
   written = list.written;
   appended = list.appended;
   lines = list.lines ++ line;
-  lines_are = lines-more sheet.zone sheet.gtids sheet.width list.done s list.lines line list.lines_are is;
+  lines_are = lines-more sheet.form sheet.zone sheet.gtids sheet.width l.name list.done s list.lines line list.lines_are is;
   text = ap (λ (text : List ℕ). list.written ++ text) grown ∙ sym (append_assoc list.written held line)
-      ∙ ap (λ (text : List ℕ). text ++ line) list.text ∙ append_assoc sheet.before (name_line l.name ++ list.lines) line
-      ∙ ap (λ (text : List ℕ). sheet.before ++ text) (append_assoc (name_line l.name) list.lines line);
+      ∙ ap (λ (text : List ℕ). text ++ line) list.text ∙ append_assoc sheet.before (name_above sheet.form l.name ++ list.lines) line
+      ∙ ap (λ (text : List ℕ). sheet.before ++ text) (append_assoc (name_above sheet.form l.name) list.lines line);
 }
 
 -- the same units are left to list
@@ -121,9 +125,9 @@ listing-written sheet l later had has now held rest list (part, appended, split)
 
 -- a beginning of what is held is written, and no more
 pub listing-broken : (sheet : Sheet) (l : LogList) (later : List Shown) (had has now : Option (List ℕ)) (held : List ℕ)
-    → IsListing sheet l later had has held → AppendsBeginning has now held → HasBegun sheet.zone sheet.gtids sheet.width l had now sheet.before
+    → IsListing sheet l later had has held → AppendsBeginning has now held → HasBegun sheet.form sheet.zone sheet.gtids sheet.width l had now sheet.before
 listing-broken sheet l later had has now held list (front, rest, split, appended) = (
-  name_line l.name ++ list.lines,
+  name_above sheet.form l.name ++ list.lines,
   inr (record l { units = list.done }, (later, list.chosen, refl), (list.lines, list.lines_are, refl)),
   (
     list.written ++ front,
@@ -135,20 +139,20 @@ listing-broken sheet l later had has now held list (front, rest, split, appended
 
 -- nothing more is written
 pub listing-left : (sheet : Sheet) (l : LogList) (later : List Shown) (had has : Option (List ℕ)) (held : List ℕ)
-    → IsListing sheet l later had has held → HasBegun sheet.zone sheet.gtids sheet.width l had has sheet.before
+    → IsListing sheet l later had has held → HasBegun sheet.form sheet.zone sheet.gtids sheet.width l had has sheet.before
 listing-left sheet l later had has held list = listing-broken sheet l later had has has held list ([], held, refl, Appends-nil has)
 
 -- not even the name was held
-pub listing-unbegun : (zone : TimeZone) (gtids : Bool) (width : ℕ) (l : LogList) (had : Option (List ℕ)) (before : List ℕ) → HasBegun zone gtids width l had had before
-listing-unbegun zone gtids width l had before = ([], inl refl, ([], before ++ [], refl, Appends-nil had))
+pub listing-unbegun : (form : Form) (zone : TimeZone) (gtids : Bool) (width : ℕ) (l : LogList) (had : Option (List ℕ)) (before : List ℕ) → HasBegun form zone gtids width l had had before
+listing-unbegun form zone gtids width l had before = ([], inl refl, ([], before ++ [], refl, Appends-nil had))
 
 -- no unit is wanted that is left
 pub listing-end : (sheet : Sheet) (l : LogList) (later : List Shown) (had has : Option (List ℕ)) (held : List ℕ) → IsListing sheet l later had has held → later ≡ []
-    → HasListed sheet.zone sheet.gtids sheet.width l had has sheet.before held
+    → HasListed sheet.form sheet.zone sheet.gtids sheet.width l had has sheet.before held
 listing-end sheet l later had has held list none =
     let all_done : list.done ≡ l.units = sym (append-nil list.done) ∙ ap (λ (ss : List Shown). list.done ++ ss) (sym none) ∙ list.chosen in
-    let lines_are = subst (λ (ss : List Shown). AreLines sheet.zone sheet.gtids sheet.width ss list.lines) all_done list.lines_are in
-    (name_line l.name ++ list.lines, (list.lines, lines_are, refl), (list.written, list.appended, list.text))
+    let lines_are = subst (λ (ss : List Shown). AreLines sheet.form sheet.zone sheet.gtids sheet.width l.name ss list.lines) all_done list.lines_are in
+    (name_above sheet.form l.name ++ list.lines, (list.lines, lines_are, refl), (list.written, list.appended, list.text))
 
 -- ---- the numbers
 
@@ -245,10 +249,15 @@ counting-end old new l later left count none zero =
     let over : count.gone ≡ l.passed_over = omega (arith, zero, count.over) in
     subst (λ (n : ℕ). CountsLog old new (so_far l l.units n)) over (subst (λ (ss : List Shown). CountsLog old new (so_far l ss count.gone)) done count.counts)
 
--- the last lines
-pub totals-are : (totals : Totals) (ls : List LogList) → AreTotals totals ls → totals_text totals ≡ totals_lines ls
+-- the last lines, as text
+text-totals-are : (totals : Totals) (ls : List LogList) → AreTotals totals ls → totals_text totals ≡ totals_lines ls
 unfolding totals_lines
-totals-are totals ls are = rw (are.units_are, are.refused_are, are.rows_are, are.passed_over_are, are.damaged_are) refl
+text-totals-are totals ls are = rw (are.units_are, are.refused_are, are.rows_are, are.passed_over_are, are.damaged_are) refl
+
+-- and in each form
+pub totals-are : (form : Form) (totals : Totals) (ls : List LogList) → AreTotals totals ls → totals_put form totals ≡ totals_of form ls
+totals-are Text totals ls are = text-totals-are totals ls are
+totals-are Json totals ls are = rw (are.units_are, are.refused_are, are.rows_are, are.passed_over_are, are.damaged_are) refl
 
 -- ---- which units are listed
 
@@ -324,16 +333,16 @@ is-concern : {A : Type 0} (w : Wanted) (log : List ℕ) (unit : Unit A) (concern
 is-concern w log unit concern same is = ap (concern_of w log (facts_told unit)) (sym same) ∙ sym is
 
 -- the line of a wanted unit was appended
-pub listing-wanted : {A B : Type 0} (before : List ℕ) (gtids : Bool) (column : TimeColumn B) (w : Wanted) (log : List ℕ) (place : ℕ → ℕ) (l : LogList) (left rest : List Facts)
+pub listing-wanted : {A B : Type 0} (before : List ℕ) (form : Form) (gtids : Bool) (column : TimeColumn B) (w : Wanted) (log : List ℕ) (place : ℕ → ℕ) (l : LogList) (left rest : List Facts)
     → (had has : Option (List ℕ)) (held more : List ℕ) (unit : Unit A) (concern : Concern)
-    → IsListing (record { zone = plain_zone column.zone; gtids = gtids; width = length column.heading.items; before = before }) l (listed_of w log place left) had has held
+    → IsListing (record { form = form; zone = plain_zone column.zone; gtids = gtids; width = length column.heading.items; before = before }) l (listed_of w log place left) had has held
     → left ≡ facts_told unit ∷ rest → changes_told unit.groups ≡ changes_of log (facts_told unit) → is_before unit.start w.stop ≡ true
-    → concern ≡ concern_of w log (facts_told unit) (changes_told unit.groups) → is_wanted concern ≡ true → PutsLine column gtids (shown_told log place unit) held more
-    → IsListing (record { zone = plain_zone column.zone; gtids = gtids; width = length column.heading.items; before = before }) l (listed_of w log place rest) had has more
-listing-wanted before gtids column w log place l left rest had has held more unit concern list first same earlier is wanted (line, shows, grown) =
+    → concern ≡ concern_of w log (facts_told unit) (changes_told unit.groups) → is_wanted concern ≡ true → PutsLineIn form column gtids l.name (shown_told log place unit) held more
+    → IsListing (record { form = form; zone = plain_zone column.zone; gtids = gtids; width = length column.heading.items; before = before }) l (listed_of w log place rest) had has more
+listing-wanted before form gtids column w log place l left rest had has held more unit concern list first same earlier is wanted (line, shows, grown) =
     let s : Shown = shown_told log place unit in
     let chosen = wanted-first w log place (facts_told unit) left rest s first (told-is-shown log place unit same) earlier (ap is_wanted (is-concern w log unit concern same is) ∙ wanted) in
-    listing-more (record { zone = plain_zone column.zone; gtids = gtids; width = length column.heading.items; before = before }) l (listed_of w log place left) (listed_of w log place rest) had has held more line s
+    listing-more (record { form = form; zone = plain_zone column.zone; gtids = gtids; width = length column.heading.items; before = before }) l (listed_of w log place left) (listed_of w log place rest) had has held more line s
     list chosen shows grown
 
 -- a unit isn't wanted

@@ -1,5 +1,5 @@
 -- How bytes of a log are printed for people: control characters, and bytes that aren't UTF-8, are written as escapes.
-use Rattle.std.specs.Prelude.{ℕ, zero, suc, ◌-◌, ◌/◌, ◌%◌, ◌==◌, ◌&&◌, ◌||◌, Bool, nat_le, nat_lt, false, if◌then◌else◌, List, [], ◌∷◌, ◌++◌, length, Option, Some, None, unwrap_or, codes, ◌*◌, encode_utf8}
+use Rattle.std.specs.Prelude.{ℕ, zero, suc, ◌+◌, ◌-◌, ◌/◌, ◌%◌, ◌==◌, ◌&&◌, ◌||◌, Bool, nat_le, nat_lt, false, if◌then◌else◌, List, [], ◌∷◌, ◌++◌, length, Option, Some, None, unwrap_or, codes, ◌*◌, encode_utf8}
 use Rattle.std.specs.Char.{is_control}
 use Rattle.std.specs.List.{flat_map}
 use Rattle.bstr.specs.Utf8.{decoded}
@@ -89,6 +89,18 @@ char_columns c =
 abbrev pub columns_of : Mark → ℕ
 columns_of (Character c) = char_columns c
 columns_of (Byte byte) = 4
+
+-- of a name between backticks
+abbrev pub quoted_columns : Mark → ℕ
+quoted_columns (Character c) = if c == 96 then 2 else char_columns c
+quoted_columns (Byte byte) = 4
+
+abbrev pub all_quoted : List Mark → ℕ
+all_quoted [] = 0
+all_quoted (mark ∷ marks) = quoted_columns mark + all_quoted marks
+
+abbrev pub name_columns : List ℕ → ℕ
+name_columns name = 2 + all_quoted (marks name)
 
 -- the beginning of a text in at most this many columns and characters; two points follow where that isn't all
 abbrev pub beginning : ℕ → ℕ → List Mark → List ℕ

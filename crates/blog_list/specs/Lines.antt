@@ -2,12 +2,13 @@
 use Rattle.std.specs.Prelude.{ℕ, ◌+◌, ◌-◌, ◌==◌, ◌&&◌, Bool, true, false, if◌then◌else◌, List, [], ◌∷◌, ◌++◌, length, replicate, take, drop, min, Option, Some, None, Result, Ok, Err, bytes_eq, codes}
 use Rattle.std.specs.Option.{option_map_or}
 use Rattle.std.specs.Result.{is_err, result_ok}
-use Rattle.std.specs.List.{flat_map, sum_by}
+use Rattle.std.specs.List.{sum_by}
 use Rattle.std.specs.Fmt.{decimal}
 use Rattle.hex.specs.Hex.{encode_lower}
 use Rattle.blog_trans.specs.Changes.{TableCount}
 use Rattle.blog_units.specs.Units.{Id}
-use Rattle.blog_list.specs.Escapes.{beginning, escaped, marks, quoted_table}
+use Rattle.blog_list.specs.Escapes.{beginning, escaped, marks}
+use Rattle.blog_list.specs.Tables.{counts_text}
 
 -- Why a unit can't be undone: the name and the position of a fault; and of the event there the text, where it is a statement, or
 -- else what it is, where that is known.
@@ -78,37 +79,24 @@ id_column false id = []
 id_column true None = []
 id_column true (Some id) = id_text id ++ codes "  "
 
--- words and a number of rows, left out where there are none
-abbrev pub rows_text : List ℕ → ℕ → List ℕ
-rows_text words n = if n == 0 then [] else words ++ decimal n
-
--- the rows of a table
-abbrev pub count_text : TableCount → List ℕ
-count_text c =
-    quoted_table c.table.schema c.table.name
-    ++ (rows_text (codes " inserts ") c.inserts ++ (rows_text (codes " updates ") c.updates ++ rows_text (codes " deletes ") c.deletes))
-
--- those of a further table
-abbrev pub next_count : TableCount → List ℕ
-next_count c = codes "; " ++ count_text c
-
-abbrev pub counts_text : List TableCount → List ℕ
-counts_text [] = codes "no rows"
-counts_text (c ∷ cs) = count_text c ++ flat_map next_count cs
-
 -- a fault, with its position where it has one
 unfoldable pub fault_text : List ℕ → Option ℕ → List ℕ
 fault_text name pos = name ++ option_map_or (λ pos. codes " at " ++ decimal pos) pos []
 
--- the same, and the beginning of the text of a statement, or what an event is
-abbrev pub refusal_text : Refusal → List ℕ
-refusal_text r =
-    fault_text r.name r.pos ++ (option_map_or (λ text. codes ": " ++ beginning 60 240 (marks text)) r.statement []
-    ++ option_map_or (λ words. codes ": " ++ words) r.event [])
+-- what explains a fault: a colon and the beginning of a text, in this room, in which two points fit too
+abbrev pub explained : ℕ → List ℕ → List ℕ
+explained room text = codes ": " ++ beginning (room - 4) 240 (marks text)
 
-abbrev pub changes_text : Result (List TableCount) Refusal → List ℕ
-changes_text (Ok counts) = counts_text counts
-changes_text (Err refusal) = refusal_text refusal
+-- a fault, and the beginning of the text of a statement, or of what an event is, in this room
+abbrev pub refusal_text : ℕ → Refusal → List ℕ
+refusal_text room r =
+    let fault = fault_text r.name r.pos in
+    let left = room - length fault in
+    fault ++ (option_map_or (explained left) r.statement [] ++ option_map_or (explained left) r.event [])
+
+abbrev pub changes_text : ℕ → Result (List TableCount) Refusal → List ℕ
+changes_text room (Ok counts) = counts_text room counts
+changes_text room (Err refusal) = refusal_text room refusal
 
 -- ---- the lines
 
@@ -116,9 +104,13 @@ changes_text (Err refusal) = refusal_text refusal
 unfoldable pub positions_text : ℕ → ℕ → List ℕ
 positions_text start stop = padded start ++ (codes " " ++ (padded stop ++ codes "  "))
 
--- what is behind it
-unfoldable pub rest_text : Bool → Shown → List ℕ
-rest_text gtids s = codes "  " ++ (thread_text s.thread ++ (codes "  " ++ (id_column gtids s.id ++ (changes_text s.changes ++ codes "\n"))))
+-- what is behind it, with this room for what a unit changes
+unfoldable pub rest_text : Bool → ℕ → Shown → List ℕ
+rest_text gtids room s = codes "  " ++ (thread_text s.thread ++ (codes "  " ++ (id_column gtids s.id ++ (changes_text room s.changes ++ codes "\n"))))
+
+-- how many columns of 119 are left beside the other columns, where that of the times has this width
+abbrev pub room_beside : ℕ → ℕ
+room_beside width = 63 - (width - 19)
 
 -- a text, and blanks up to this width
 abbrev pub in_column : ℕ → List ℕ → List ℕ
@@ -126,7 +118,7 @@ in_column width text = text ++ replicate (width - length text) 32
 
 -- the line of a unit, with ids or without, with this text of its time in a column of this width
 unfoldable pub unit_line : Bool → ℕ → List ℕ → Shown → List ℕ
-unit_line gtids width time s = positions_text s.start s.stop ++ (in_column width time ++ rest_text gtids s)
+unit_line gtids width time s = positions_text s.start s.stop ++ (in_column width time ++ rest_text gtids (room_beside width) s)
 
 -- the line above the units of a log: its name, where that is shown
 unfoldable pub name_line : Option (List ℕ) → List ℕ

@@ -1,4 +1,5 @@
 -- What only contracts of code need: its structs as values, and running states.
+pub mod Counted
 pub mod Held
 pub mod Json
 pub mod MarksView

@@ -1,31 +1,49 @@
-//! The beginning of a statement's text.
+//! The beginning of a statement's text in a string of JSON.
 
+ghost use Rattle.std.specs.Prelude.{◌≡◌, ◌++◌, OnOk};
+ghost use Rattle.bstr.specs.Utf8.{lossy_chars};
+ghost use Rattle.blog_list.specs.Json.{json_beginning, json_columns, without_control};
+
+use crate::json_text::put_char;
+use crate::texts::put_text;
 use bstr::ByteSlice;
-use std::fmt;
+use std::alloc::{AllocError, Allocator};
 use unicode_width::UnicodeWidthChar;
 
-/// The beginning of a text on one line, in at most this many columns and characters. Control characters are printed as spaces,
-/// and what is no character as U+FFFD.
-#[derive(Clone, Copy, Debug)]
-pub(crate) struct Beginning<'t> {
-    pub(crate) text: &'t [u8],
-    pub(crate) columns: usize,
-    pub(crate) characters: usize,
+/// Returns a blank for a control character, and any other character as it is.
+fn without_control(c: char) -> char
+    ensures { result ≡ without_control c }
+{
+    if c.is_control() { ' ' } else { c }
 }
 
-impl<'t> fmt::Display for Beginning<'t> {
-    fn fmt<W: fmt::Write>(&self, f: &mut fmt::Formatter<W>) -> fmt::Result {
-        let mut width = 0_usize;
-        let mut left = self.characters;
-        for c in self.text.chars() {
-            let shown = if c.is_control() { ' ' } else { c };
-            width = width.saturating_add(shown.width().unwrap_or(0));
-            if width > self.columns || left == 0 {
-                return f.write_str("..");
-            }
-            left -= 1;
-            f.write_char(shown)?;
+/// Returns how many columns of a terminal that takes.
+fn columns_of(c: char) -> usize
+    ensures { result ≡ json_columns c }
+{
+    without_control(c).width().unwrap_or(0)
+}
+
+/// Appends the beginning of a text in at most this many columns of a terminal and characters, as part of a string of JSON.
+/// Control characters are blanks, and what is no character is U+FFFD. Two points follow if that isn't all.
+pub(crate) fn put_beginning<A: Allocator>(
+    out: &mut Vec<u8, A>,
+    text: &[u8],
+    columns: usize,
+    characters: usize,
+) -> Result<(), AllocError>
+    ensures { OnOk result (out.new.items ≡ out.old.items ++ json_beginning columns characters (lossy_chars text.now)) }
+{
+    let mut left = columns;
+    let mut more = characters;
+    for c in text.chars() {
+        let width = columns_of(c);
+        if width > left || more == 0 {
+            return put_text(out, b"..");
         }
-        Ok(())
+        left -= width;
+        more -= 1;
+        put_char(out, without_control(c))?;
     }
+    Ok(())
 }

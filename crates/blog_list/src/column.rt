@@ -1,8 +1,9 @@
 //! The column of times in a list.
 
-ghost use Rattle.std.specs.Prelude.{◌≡◌, ◌++◌, IfOk, OnOk, replicate};
+ghost use Rattle.std.specs.Prelude.{◌≡◌, ◌≤◌, ◌++◌, IfOk, OnOk, length, replicate};
 ghost use Rattle.jiff.specs.Words.{plain_zone};
 ghost use Rattle.blog_list.specs.Columns.{IsHeading, IsPadded, IsSeasonsHeading, IsTimeColumn, PutsTime, heading, heading_of_two};
+ghost use Rattle.blog_list.specs.Lines.{room_beside};
 
 use crate::escapes::put_escaped;
 use crate::texts::put_text;
@@ -12,6 +13,9 @@ use std::alloc::{AllocError, Allocator};
 
 /// How many columns `YYYY-MM-DD hh:mm:ss` has.
 const TIME_COLUMNS: usize = 19;
+
+/// How many of the 119 columns of a line are left for what a unit changes, beside its positions, a time and its thread.
+const CHANGES_COLUMNS: usize = 63;
 
 /// Some winter and some summer, which is which by the hemisphere, after the last change of a zone's rules that is known:
 /// 2100-01-01 and 2100-07-01.
@@ -38,6 +42,14 @@ impl<'z, A: Allocator + Copy> TimeColumn<'z, A> {
         ensures { result ≡ self.now.zone }
     {
         self.zone
+    }
+
+    /// How many columns a line has left for what a unit changes.
+    pub(crate) fn room(&self) -> usize
+        ensures room { result ≡ room_beside (length self.now.heading.items) }
+        ensures most { result ≤ 63 }
+    {
+        CHANGES_COLUMNS.saturating_sub(self.heading.len().saturating_sub(TIME_COLUMNS))
     }
 
     /// Appends the heading, and blanks where it is narrower than the times.

@@ -1,8 +1,9 @@
 //! Bytes of a log for people: escaped, so that no control character reaches a terminal.
 
-ghost use Rattle.std.specs.Prelude.{◌≡◌, ◌≤◌, ◌++◌, ◌∷◌, [], OnOk, true, false, encode_utf8, length};
+ghost use Rattle.std.specs.Prelude.{◌≡◌, ◌≤◌, ◌-◌, ◌++◌, ◌∷◌, [], OnOk, true, false, encode_utf8, length};
 ghost use Rattle.std.specs.List.{flat_map};
-ghost use Rattle.blog_list.specs.Escapes.{beginning, byte_escape, char_columns, char_shown, columns_of, escaped, is_layout, layout_escape, marks, quoted, quoted_mark, quoted_table, shown};
+ghost use Rattle.std.specs.Option.{SomeIff};
+ghost use Rattle.blog_list.specs.Escapes.{beginning, byte_escape, char_columns, char_shown, columns_of, escaped, is_layout, layout_escape, marks, name_columns, quoted, quoted_columns, quoted_mark, quoted_table, shown};
 ghost use Rattle.blog_list.specs.code.Plain.{is_plain, plain_len};
 
 use crate::marks::{Mark, Marks};
@@ -162,6 +163,27 @@ fn columns_of(mark: Mark) -> usize
         Mark::Character(c) => char_columns(c),
         Mark::Byte(_) => 4,
     }
+}
+
+/// How many columns of a terminal a mark of a name takes, between backticks.
+fn quoted_columns(mark: Mark) -> usize
+    ensures { result ≡ quoted_columns mark }
+{
+    match mark {
+        Mark::Character('`') => 2,
+        _ => columns_of(mark),
+    }
+}
+
+/// Returns how many columns of these are left beside a name between backticks, if it fits.
+pub(crate) fn left_beside_name(columns: usize, name: &[u8]) -> Option<usize>
+    ensures { SomeIff result (name_columns name.now ≤ columns) (columns - name_columns name.now) }
+{
+    let mut left = columns.checked_sub(2)?;
+    for mark in Marks::new(name) {
+        left = left.checked_sub(quoted_columns(mark))?;
+    }
+    Some(left)
 }
 
 /// Appends the beginning of a text, escaped, in at most this many columns of a terminal and characters. Two points follow if

@@ -1,16 +1,21 @@
 //! Units as lines of JSON.
 
-ghost use Rattle.std.specs.Prelude.{◌≡◌, ◌++◌, OnOk, option_map};
+ghost use Rattle.std.specs.Prelude.{◌≡◌, ◌++◌, OnOk, option_copied, option_map};
 ghost use Rattle.jiff.specs.Words.{plain_zone};
+ghost use Rattle.blog_event.specs.code.LogView.{log_bytes};
+ghost use Rattle.blog_request.specs.Wanted.{changes_told};
 ghost use Rattle.blog_trans.specs.Changes.{counts_of};
 ghost use Rattle.blog_trans.specs.Groups.{groups};
 ghost use Rattle.blog_trans.specs.code.IndexView.{index_bytes, index_selection, table_counted};
 ghost use Rattle.blog_units.specs.code.UnitsView.{id_told};
-ghost use Rattle.blog_list.specs.code.Json.{PutsJsonTime, json_count, json_counts, json_damaged, json_gtid, json_id, json_name, json_tables, json_thread, json_totals};
+ghost use Rattle.blog_list.specs.Json.{json_changes, json_count, json_counts, json_damaged, json_event, json_gtid, json_id, json_log, json_name, json_position, json_refusal, json_statement, json_tables, json_thread, json_totals};
+ghost use Rattle.blog_list.specs.Shown.{changes_shown, refusal_of};
+ghost use Rattle.blog_list.specs.code.Json.{PutsJsonTime};
+ghost use Rattle.blog_list.specs.code.Told.{PutsJsonLine, shown_told, source_place};
 
-use crate::beginning::Beginning;
+use crate::beginning::put_beginning;
 use crate::fault_events::{name_in, statement_of, words_of};
-use crate::json_text::{put_lossy, put_str, put_string, put_visible};
+use crate::json_text::{put_lossy, put_str, put_string};
 use crate::lines::put_id;
 use crate::texts::put_text;
 use crate::times::rfc_3339_text;
@@ -29,6 +34,7 @@ const TEXT_COLUMNS: usize = 1000;
 const TEXT_CHARACTERS: usize = 4000;
 
 /// Appends the line of a unit, with positions of the server's log, and with the log's name, if there is one.
+#[tactic(auto, unfolding(crate::specs::Json::json_line))]
 pub(crate) fn put_unit<A: Allocator + Copy, B: Allocator>(
     global: Global,
     out: &mut Vec<u8, A>,
@@ -37,22 +43,35 @@ pub(crate) fn put_unit<A: Allocator + Copy, B: Allocator>(
     log: &Log<'_>,
     name: Option<&[u8]>,
     unit: &Unit<'_, B>,
-) -> Result<(), AllocError> {
+) -> Result<(), AllocError>
+    ensures { OnOk result (PutsJsonLine (plain_zone zone.entry) (option_copied name.entry) (shown_told (log_bytes log.now) (source_place source.now) unit.now) out.old.items out.new.items) }
+{
     put_text(out, b"{")?;
-    if let Some(name) = name {
-        put_name(global, out, b"\"log\":", b",\"log_hex\":\"", name)?;
-        put_text(out, b",")?;
-    }
+    put_log_name(global, out, name)?;
     put_numbered(out, b"\"start\":", u64::from(source.place(unit.start)))?;
     put_numbered(out, b",\"stop\":", u64::from(source.place(unit.stop)))?;
     put_time(out, zone, unit.time)?;
     put_thread(out, unit.thread)?;
     put_gtid(global, out, unit.id)?;
-    match &unit.groups {
-        Ok(groups) => put_tables(global, out, groups)?,
-        Err(fault) => put_refusal(global, out, source, log, fault, unit.stop)?,
-    }
+    put_changes(global, out, source, log, unit)?;
     put_text(out, b"}\n")
+}
+
+/// Appends the name of a log, if there is one.
+fn put_log_name<A: Allocator>(
+    global: Global,
+    out: &mut Vec<u8, A>,
+    name: Option<&[u8]>,
+) -> Result<(), AllocError>
+    ensures { OnOk result (out.new.items ≡ out.old.items ++ json_log (option_copied name.entry)) }
+{
+    match name {
+        Some(name) => {
+            put_name(global, out, b"\"log\":", b",\"log_hex\":\"", name)?;
+            put_text(out, b",")
+        }
+        None => Ok(()),
+    }
 }
 
 /// Appends when a unit was. No character of a time needs an escape.
@@ -111,6 +130,22 @@ fn put_id_string<A: Allocator>(
     let mut text = Vec::new(global);
     put_id(&mut text, id)?;
     put_string(out, &text)
+}
+
+/// Appends what a unit changes, or why it can't be undone.
+fn put_changes<A: Allocator, B: Allocator>(
+    global: Global,
+    out: &mut Vec<u8, A>,
+    source: &Source<B>,
+    log: &Log<'_>,
+    unit: &Unit<'_, B>,
+) -> Result<(), AllocError>
+    ensures { OnOk result (out.new.items ≡ out.old.items ++ json_changes (changes_shown (log_bytes log.now) (source_place source.now) unit.now.stop (changes_told unit.now.groups))) }
+{
+    match &unit.groups {
+        Ok(groups) => put_tables(global, out, groups),
+        Err(fault) => put_refusal(out, source, log, fault, unit.stop),
+    }
 }
 
 /// Appends the numbers of rows by table.
@@ -175,7 +210,7 @@ fn put_count<A: Allocator>(
 
 /// Appends a name as text, and in hexadecimal digits if it isn't UTF-8, each after the name of its field. `hex_field` ends in
 /// the opening quote of the digits, and `field` doesn't end in a quote.
-#[tactic(auto, unfolding(crate::specs::code::Json::json_name))]
+#[tactic(auto, unfolding(crate::specs::Json::json_name))]
 fn put_name<A: Allocator>(
     global: Global,
     out: &mut Vec<u8, A>,
@@ -199,33 +234,56 @@ fn put_name<A: Allocator>(
 
 /// Appends why a unit can't be undone that stops at a position.
 fn put_refusal<A: Allocator, B: Allocator>(
-    global: Global,
     out: &mut Vec<u8, A>,
     source: &Source<B>,
     log: &Log<'_>,
     fault: &Fault,
     stop: u32,
-) -> Result<(), AllocError> {
+) -> Result<(), AllocError>
+    ensures { OnOk result (out.new.items ≡ out.old.items ++ json_refusal (refusal_of (log_bytes log.now) (source_place source.now) stop fault.now)) }
+{
     put_text(out, b",\"fault\":")?;
-    put_visible(out, name_in(log, fault, stop))?;
-    if let Some(position) = source.at_place(fault).at() {
-        put_numbered(out, b",\"position\":", u64::from(position))?;
+    put_str(out, name_in(log, fault, stop))?;
+    put_position(out, source.at_place(fault).at())?;
+    put_statement(out, statement_of(log, fault, stop))?;
+    put_event(out, words_of(log, fault, stop))
+}
+
+/// Appends the position of a fault, if it has one.
+fn put_position<A: Allocator>(out: &mut Vec<u8, A>, position: Option<u32>) -> Result<(), AllocError>
+    ensures { OnOk result (out.new.items ≡ out.old.items ++ json_position position) }
+{
+    match position {
+        Some(pos) => put_numbered(out, b",\"position\":", u64::from(pos)),
+        None => Ok(()),
     }
-    if let Some(text) = statement_of(log, fault, stop) {
-        let beginning = Beginning {
-            text,
-            columns: TEXT_COLUMNS,
-            characters: TEXT_CHARACTERS,
-        };
-        let shown = format!(in global; "{beginning}")?;
-        put_text(out, b",\"statement\":")?;
-        put_visible(out, shown.as_str())?;
+}
+
+/// Appends the beginning of the text of a statement, if there is one.
+fn put_statement<A: Allocator>(out: &mut Vec<u8, A>, text: Option<&[u8]>) -> Result<(), AllocError>
+    ensures { OnOk result (out.new.items ≡ out.old.items ++ json_statement (option_copied text.entry)) }
+{
+    match text {
+        Some(text) => {
+            put_text(out, b",\"statement\":\"")?;
+            put_beginning(out, text, TEXT_COLUMNS, TEXT_CHARACTERS)?;
+            put_text(out, b"\"")
+        }
+        None => Ok(()),
     }
-    if let Some(words) = words_of(log, fault, stop) {
-        put_text(out, b",\"event\":")?;
-        put_visible(out, words)?;
+}
+
+/// Appends what an event is, if that is known.
+fn put_event<A: Allocator>(out: &mut Vec<u8, A>, words: Option<&str>) -> Result<(), AllocError>
+    ensures { OnOk result (out.new.items ≡ out.old.items ++ json_event (option_copied words.entry)) }
+{
+    match words {
+        Some(words) => {
+            put_text(out, b",\"event\":")?;
+            put_str(out, words)
+        }
+        None => Ok(()),
     }
-    Ok(())
 }
 
 /// Appends the last lines.

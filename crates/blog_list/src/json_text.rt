@@ -4,7 +4,8 @@ ghost use Rattle.std.specs.Prelude.{◌≡◌, ◌≤◌, ◌++◌, OnOk, false,
 ghost use Rattle.std.specs.List.{flat_map, list_any, prefix_len};
 ghost use Rattle.bstr.specs.Utf8.{lossy_chars};
 ghost use Rattle.std.specs.Simd.Lanes.{mask_l};
-ghost use Rattle.blog_list.specs.code.Json.{is_escaped, is_high_control, is_literal, json_byte, json_char, json_control, json_string, may_begin};
+ghost use Rattle.blog_list.specs.Json.{is_high_control, json_char, json_control, json_string};
+ghost use Rattle.blog_list.specs.code.Json.{is_escaped, is_literal, json_byte, may_begin};
 
 use crate::texts::{put_byte, put_text};
 use bstr::ByteSlice;
@@ -111,7 +112,7 @@ fn may_have_high_control(text: &[u8]) -> bool
 }
 
 /// Appends a character of a string.
-fn put_char<A: Allocator>(out: &mut Vec<u8, A>, c: char) -> Result<(), AllocError>
+pub(crate) fn put_char<A: Allocator>(out: &mut Vec<u8, A>, c: char) -> Result<(), AllocError>
     ensures { OnOk result (out.new.items ≡ out.old.items ++ json_char c) }
 {
     if is_high_control(c) {
@@ -147,7 +148,7 @@ fn put_escaped<A: Allocator>(out: &mut Vec<u8, A>, text: &[u8]) -> Result<(), Al
 }
 
 /// Appends a text as a string, in which no byte begins a control character from U+007F on.
-pub(crate) fn put_visible<A: Allocator>(out: &mut Vec<u8, A>, text: &str) -> Result<(), AllocError>
+fn put_visible<A: Allocator>(out: &mut Vec<u8, A>, text: &str) -> Result<(), AllocError>
     ensures { list_any may_begin text.now ≡ false → OnOk result (out.new.items ≡ out.old.items ++ json_string text.now) }
 {
     put_text(out, b"\"")?;

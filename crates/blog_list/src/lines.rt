@@ -1,31 +1,24 @@
 //! Units as lines of text.
 
 ghost use Rattle.std.specs.Prelude.{◌≡◌, ◌++◌, ◌≤◌, ◌-◌, OnOk, codes, option_copied, option_map, string_bytes};
-ghost use Rattle.std.specs.Fmt.{decimal};
 ghost use Rattle.blog_event.specs.code.LogView.{log_bytes};
-ghost use Rattle.blog_trans.specs.Changes.{counts_of};
-ghost use Rattle.blog_trans.specs.Groups.{groups};
-ghost use Rattle.blog_trans.specs.code.IndexView.{index_bytes, index_selection, table_counted};
 ghost use Rattle.blog_units.specs.code.UnitsView.{id_told};
-ghost use Rattle.blog_list.specs.Lines.{changes_text, count_text, counts_text, fault_text, header, id_column, id_text, is_unknown, name_line, next_count, padded, positions_text, refusal_text, rest_text, rows_text, tag_text, thread_text, unit_line};
+ghost use Rattle.blog_list.specs.Lines.{changes_text, explained, fault_text, header, id_column, id_text, is_unknown, name_line, positions_text, refusal_text, rest_text, tag_text, thread_text, unit_line};
 ghost use Rattle.blog_list.specs.Shown.{changes_shown, refusal_of};
 ghost use Rattle.blog_list.specs.code.Told.{PutsLine, shown_told, source_place};
 ghost use Rattle.blog_request.specs.Wanted.{changes_told};
 
 use crate::column::TimeColumn;
-use crate::escapes::{put_beginning, put_escaped, put_table};
+use crate::escapes::{put_beginning, put_escaped};
 use crate::fault_events::{name_in, statement_of, words_of};
+use crate::tables::put_rows;
 use crate::texts::{put_number, put_padded, put_server, put_text};
 use blog_event::{Fault, Log};
 use blog_source::Source;
-use blog_trans::{Index, TableCount};
 use blog_units::{GlobalId, Unit};
 use std::alloc::{AllocError, Allocator};
 
-/// How many columns of a statement's text are printed.
-const TEXT_COLUMNS: usize = 60;
-
-/// The most characters of it: many of them can be in no column.
+/// The most characters of a statement's text: many of them can be in no column.
 const TEXT_CHARACTERS: usize = 240;
 
 /// Appends the line above all others, with a heading of global transaction ids or without.
@@ -78,7 +71,7 @@ pub(crate) fn put_unit<A: Allocator + Copy>(
 {
     put_positions(out, source.place(unit.start), source.place(unit.stop))?;
     times.put_time(out, unit.time)?;
-    put_rest(out, gtids, source, log, unit)
+    put_rest(out, gtids, times.room(), source, log, unit)
 }
 
 /// Appends where a unit starts and stops.
@@ -96,22 +89,24 @@ fn put_positions<A: Allocator>(
     put_text(out, b"  ")
 }
 
-/// Appends what the line of a unit has behind its time.
+/// Appends what the line of a unit has behind its time, with this room for what it changes.
 #[tactic(auto, unfolding(crate::specs::Lines::rest_text))]
-fn put_rest<A: Allocator>(
+fn put_rest<A: Allocator + Copy>(
     out: &mut Vec<u8, A>,
     gtids: bool,
+    room: usize,
     source: &Source<A>,
     log: &Log<'_>,
     unit: &Unit<'_, A>,
 ) -> Result<(), AllocError>
-    ensures { OnOk result (out.new.items ≡ out.old.items ++ rest_text gtids (shown_told (log_bytes log.now) (source_place source.now) unit.now)) }
+    requires { room ≤ 63 }
+    ensures { OnOk result (out.new.items ≡ out.old.items ++ rest_text gtids room (shown_told (log_bytes log.now) (source_place source.now) unit.now)) }
 {
     put_text(out, b"  ")?;
     put_thread(out, unit.thread)?;
     put_text(out, b"  ")?;
     put_id_column(out, gtids, unit.id)?;
-    put_changes(out, source, log, unit)?;
+    put_changes(out, room, source, log, unit)?;
     put_text(out, b"\n")
 }
 
@@ -180,41 +175,56 @@ fn put_tag<A: Allocator>(out: &mut Vec<u8, A>, tag: &[u8]) -> Result<(), AllocEr
     put_text(out, b":")
 }
 
-/// Appends what a unit changes, or why it can't be undone.
-fn put_changes<A: Allocator>(
+/// Appends what a unit changes, or why it can't be undone, in this room.
+fn put_changes<A: Allocator + Copy>(
     out: &mut Vec<u8, A>,
+    room: usize,
     source: &Source<A>,
     log: &Log<'_>,
     unit: &Unit<'_, A>,
 ) -> Result<(), AllocError>
-    ensures { OnOk result (out.new.items ≡ out.old.items ++ changes_text (changes_shown (log_bytes log.now) (source_place source.now) unit.now.stop (changes_told unit.now.groups))) }
+    requires { room ≤ 63 }
+    ensures { OnOk result (out.new.items ≡ out.old.items ++ changes_text room (changes_shown (log_bytes log.now) (source_place source.now) unit.now.stop (changes_told unit.now.groups))) }
 {
     match &unit.groups {
-        Ok(groups) => put_rows(out, groups),
-        Err(fault) => put_refusal(out, source, log, fault, unit.stop),
+        Ok(groups) => put_rows(out, room, groups),
+        Err(fault) => put_refusal(out, room, source, log, fault, unit.stop),
     }
 }
 
-/// Appends why a unit can't be undone that stops at a position.
+/// Appends why a unit can't be undone that stops at a position, in this room.
 fn put_refusal<A: Allocator>(
     out: &mut Vec<u8, A>,
+    room: usize,
     source: &Source<A>,
     log: &Log<'_>,
     fault: &Fault,
     stop: u32,
 ) -> Result<(), AllocError>
-    ensures { OnOk result (out.new.items ≡ out.old.items ++ refusal_text (refusal_of (log_bytes log.now) (source_place source.now) stop fault.now)) }
+    ensures { OnOk result (out.new.items ≡ out.old.items ++ refusal_text room (refusal_of (log_bytes log.now) (source_place source.now) stop fault.now)) }
 {
+    let before = out.len();
     put_fault(out, name_in(log, fault, stop), source.at_place(fault).at())?;
+    let left = room.saturating_sub(out.len() - before);
     if let Some(text) = statement_of(log, fault, stop) {
-        put_text(out, b": ")?;
-        put_beginning(out, text, TEXT_COLUMNS, TEXT_CHARACTERS)?;
+        put_explained(out, left, text)?;
     }
     if let Some(words) = words_of(log, fault, stop) {
-        put_text(out, b": ")?;
-        put_text(out, words.as_bytes())?;
+        put_explained(out, left, words.as_bytes())?;
     }
     Ok(())
+}
+
+/// Appends a colon and the beginning of a text that explains a fault, in this room.
+fn put_explained<A: Allocator>(
+    out: &mut Vec<u8, A>,
+    room: usize,
+    text: &[u8],
+) -> Result<(), AllocError>
+    ensures { OnOk result (out.new.items ≡ out.old.items ++ explained room text.now) }
+{
+    put_text(out, b": ")?;
+    put_beginning(out, text, room.saturating_sub(4), TEXT_CHARACTERS)
 }
 
 /// Appends the name of a fault, and its position, if it has one.
@@ -234,43 +244,4 @@ fn put_fault<A: Allocator>(
         }
         None => Ok(()),
     }
-}
-
-/// Appends the numbers of rows by table.
-fn put_rows<A: Allocator, B: Allocator>(
-    out: &mut Vec<u8, A>,
-    index: &Index<'_, '_, B>,
-) -> Result<(), AllocError>
-    ensures { OnOk result (out.new.items ≡ out.old.items ++ counts_text (counts_of (groups (index_bytes index.now) (index_selection index.now)))) }
-{
-    if index.tables() == 0 {
-        return put_text(out, b"no rows");
-    }
-    put_count(out, &index.table(0))?;
-    for n in 1..index.tables() {
-        put_text(out, b"; ")?;
-        put_count(out, &index.table(n))?;
-    }
-    Ok(())
-}
-
-/// Appends the numbers of a table's rows.
-fn put_count<A: Allocator>(out: &mut Vec<u8, A>, count: &TableCount<'_>) -> Result<(), AllocError>
-    ensures { OnOk result (out.new.items ≡ out.old.items ++ count_text (table_counted count.now)) }
-{
-    put_table(out, count.schema, count.table)?;
-    put_some(out, b" inserts ", count.inserts)?;
-    put_some(out, b" updates ", count.updates)?;
-    put_some(out, b" deletes ", count.deletes)
-}
-
-/// Appends words and a number, where it isn't 0.
-fn put_some<A: Allocator>(out: &mut Vec<u8, A>, words: &[u8], n: u64) -> Result<(), AllocError>
-    ensures { OnOk result (out.new.items ≡ out.old.items ++ rows_text words.now n) }
-{
-    if n == 0 {
-        return Ok(());
-    }
-    put_text(out, words)?;
-    put_number(out, n)
 }

@@ -13,14 +13,13 @@ ghost use Rattle.blog_source.specs.code.SourceView.{damaged_of, log_of};
 ghost use Rattle.blog_request.specs.Wanted.{is_wanted};
 ghost use Rattle.blog_units.specs.Units.{facts_of, units};
 ghost use Rattle.blog_list.specs.Columns.{IsHeading};
-ghost use Rattle.blog_list.specs.Lines.{LogList, header, name_line, totals_lines};
+ghost use Rattle.blog_list.specs.Lines.{LogList};
 ghost use Rattle.blog_list.specs.Lists.{Lists};
 ghost use Rattle.blog_list.specs.Shown.{last_whole, log_list};
-ghost use Rattle.blog_list.specs.Texts.{AppendsLog, AppendsLogBeginning};
-ghost use Rattle.blog_list.specs.declared.listing.Form.TheVariants.{Text};
+ghost use Rattle.blog_list.specs.Texts.{AppendsLog, AppendsLogBeginning, header_of, name_above, totals_of};
 ghost use Rattle.blog_list.specs.code.Held.{HasBegun, HasListed, HasWritten, has_no_memory};
-ghost use Rattle.blog_list.specs.code.Told.{PutsLine, end_listed, listed, shown_told, source_place};
-ghost use Rattle.blog_list.specs.code.Totals.{AreTotals, CountsLog, totals_text};
+ghost use Rattle.blog_list.specs.code.Told.{PutsLineIn, end_listed, listed, shown_told, source_place};
+ghost use Rattle.blog_list.specs.code.Totals.{AreTotals, CountsLog, totals_put};
 ghost use Rattle.blog_list.specs.code.WriterView.{form_of, gtids_of, heading_of, zone_of};
 
 use crate::column::TimeColumn;
@@ -76,8 +75,8 @@ impl<'z, A: Allocator + Copy> ListWriter<'z, A> {
     pub fn write_header<O: Write>(&self, writer: &mut Watched<O>) -> Result<(), RunFault>
         ensures fault { IfErr result (λ e. (e ≡ RunFault.Log OutOfMemory) ⊎ (e ≡ RunFault.Write)) }
         ensures mark { has_failed writer.new ≡ (has_failed writer.old || is_write_fault result) }
-        ensures text { form_of self.now ≡ Text → OnOk result (Appends (O.contents (device_of writer.old)) (O.contents (device_of writer.new)) (header (gtids_of self.now) (heading_of self.now))) }
-        ensures beginning { form_of self.now ≡ Text → OnErr result (AppendsBeginning (O.contents (device_of writer.old)) (O.contents (device_of writer.new)) (header (gtids_of self.now) (heading_of self.now))) }
+        ensures text { OnOk result (Appends (O.contents (device_of writer.old)) (O.contents (device_of writer.new)) (header_of (form_of self.now) (gtids_of self.now) (heading_of self.now))) }
+        ensures beginning { OnErr result (AppendsBeginning (O.contents (device_of writer.old)) (O.contents (device_of writer.new)) (header_of (form_of self.now) (gtids_of self.now) (heading_of self.now))) }
     {
         let mut text = Vec::new(self.alloc);
         self.put_header(&mut text)?;
@@ -101,8 +100,8 @@ impl<'z, A: Allocator + Copy> ListWriter<'z, A> {
         ensures refused { IsSome (opening_fault (log_of source.now)) → writer.new ≡ writer.old }
         ensures lists { Lists (log_of source.now) result }
         ensures mark { has_failed writer.new ≡ (has_failed writer.old || is_write_fault result) }
-        ensures text { form_of self.now ≡ Text → OnOk result (AppendsLog (zone_of self.now) (gtids_of self.now) (length (heading_of self.now)) (listed (option_copied name.entry) source.now wanted.now) (O.contents (device_of writer.old)) (O.contents (device_of writer.new))) }
-        ensures beginning { form_of self.now ≡ Text → OnErr result (AppendsLogBeginning (zone_of self.now) (gtids_of self.now) (length (heading_of self.now)) (listed (option_copied name.entry) source.now wanted.now) (O.contents (device_of writer.old)) (O.contents (device_of writer.new))) }
+        ensures text { OnOk result (AppendsLog (form_of self.now) (zone_of self.now) (gtids_of self.now) (length (heading_of self.now)) (listed (option_copied name.entry) source.now wanted.now) (O.contents (device_of writer.old)) (O.contents (device_of writer.new))) }
+        ensures beginning { OnErr result (AppendsLogBeginning (form_of self.now) (zone_of self.now) (gtids_of self.now) (length (heading_of self.now)) (listed (option_copied name.entry) source.now wanted.now) (O.contents (device_of writer.old)) (O.contents (device_of writer.new))) }
         ensures counted { OnOk result (CountsLog totals.old totals.new (listed (option_copied name.entry) source.now wanted.now)) }
         ensures end { IfOk result (λ end. end ≡ end_listed source.now wanted.now) }
     {
@@ -125,8 +124,8 @@ impl<'z, A: Allocator + Copy> ListWriter<'z, A> {
     ) -> Result<(), RunFault>
         ensures fault { IfErr result (λ e. (e ≡ RunFault.Log OutOfMemory) ⊎ (e ≡ RunFault.Write)) }
         ensures mark { has_failed writer.new ≡ (has_failed writer.old || is_write_fault result) }
-        ensures text { form_of self.now ≡ Text → (ls : List LogList) → AreTotals totals.now ls → OnOk result (Appends (O.contents (device_of writer.old)) (O.contents (device_of writer.new)) (totals_lines ls)) }
-        ensures beginning { form_of self.now ≡ Text → (ls : List LogList) → AreTotals totals.now ls → OnErr result (AppendsBeginning (O.contents (device_of writer.old)) (O.contents (device_of writer.new)) (totals_lines ls)) }
+        ensures text { (ls : List LogList) → AreTotals totals.now ls → OnOk result (Appends (O.contents (device_of writer.old)) (O.contents (device_of writer.new)) (totals_of (form_of self.now) ls)) }
+        ensures beginning { (ls : List LogList) → AreTotals totals.now ls → OnErr result (AppendsBeginning (O.contents (device_of writer.old)) (O.contents (device_of writer.new)) (totals_of (form_of self.now) ls)) }
     {
         let mut text = Vec::new(self.alloc);
         self.put_totals(&mut text, totals)?;
@@ -146,8 +145,8 @@ impl<'z, A: Allocator + Copy> ListWriter<'z, A> {
     ) -> Result<Option<bool>, RunFault>
         ensures fault { IfErr result (λ e. (e ≡ RunFault.Log OutOfMemory) ⊎ (e ≡ RunFault.Write)) }
         ensures mark { has_failed writer.new ≡ (has_failed writer.old || is_write_fault result) }
-        ensures text { form_of self.now ≡ Text → OnOk result (AppendsLog (zone_of self.now) (gtids_of self.now) (length (heading_of self.now)) (log_list (option_copied name.entry) wanted.now (log_bytes log.now) (source_place source.now) (damaged_of source.now)) (O.contents (device_of writer.old)) (O.contents (device_of writer.new))) }
-        ensures beginning { form_of self.now ≡ Text → OnErr result (AppendsLogBeginning (zone_of self.now) (gtids_of self.now) (length (heading_of self.now)) (log_list (option_copied name.entry) wanted.now (log_bytes log.now) (source_place source.now) (damaged_of source.now)) (O.contents (device_of writer.old)) (O.contents (device_of writer.new))) }
+        ensures text { OnOk result (AppendsLog (form_of self.now) (zone_of self.now) (gtids_of self.now) (length (heading_of self.now)) (log_list (option_copied name.entry) wanted.now (log_bytes log.now) (source_place source.now) (damaged_of source.now)) (O.contents (device_of writer.old)) (O.contents (device_of writer.new))) }
+        ensures beginning { OnErr result (AppendsLogBeginning (form_of self.now) (zone_of self.now) (gtids_of self.now) (length (heading_of self.now)) (log_list (option_copied name.entry) wanted.now (log_bytes log.now) (source_place source.now) (damaged_of source.now)) (O.contents (device_of writer.old)) (O.contents (device_of writer.new))) }
         ensures counted { OnOk result (CountsLog totals.old totals.new (log_list (option_copied name.entry) wanted.now (log_bytes log.now) (source_place source.now) (damaged_of source.now))) }
         ensures end { IfOk result (λ whole. whole ≡ last_whole wanted.now.stop (map facts_of (units (log_bytes log.now)))) }
     {
@@ -170,8 +169,8 @@ impl<'z, A: Allocator + Copy> ListWriter<'z, A> {
     ) -> Result<Option<bool>, RunFault>
         ensures fault { IfErr result (λ e. (e ≡ RunFault.Log OutOfMemory) ⊎ (e ≡ RunFault.Write)) }
         ensures mark { has_failed writer.new ≡ (has_failed writer.old || is_write_fault result) }
-        ensures text { form_of self.now ≡ Text → OnOk result (HasListed (zone_of self.now) (gtids_of self.now) (length (heading_of self.now)) (log_list (option_copied name.entry) wanted.now (log_bytes log.now) (source_place source.now) (damaged_of source.now)) (O.contents (device_of writer.old)) (O.contents (device_of writer.new)) text.old.items text.new.items) }
-        ensures beginning { form_of self.now ≡ Text → OnErr result (HasBegun (zone_of self.now) (gtids_of self.now) (length (heading_of self.now)) (log_list (option_copied name.entry) wanted.now (log_bytes log.now) (source_place source.now) (damaged_of source.now)) (O.contents (device_of writer.old)) (O.contents (device_of writer.new)) text.old.items) }
+        ensures text { OnOk result (HasListed (form_of self.now) (zone_of self.now) (gtids_of self.now) (length (heading_of self.now)) (log_list (option_copied name.entry) wanted.now (log_bytes log.now) (source_place source.now) (damaged_of source.now)) (O.contents (device_of writer.old)) (O.contents (device_of writer.new)) text.old.items text.new.items) }
+        ensures beginning { OnErr result (HasBegun (form_of self.now) (zone_of self.now) (gtids_of self.now) (length (heading_of self.now)) (log_list (option_copied name.entry) wanted.now (log_bytes log.now) (source_place source.now) (damaged_of source.now)) (O.contents (device_of writer.old)) (O.contents (device_of writer.new)) text.old.items) }
         ensures counted { OnOk result (CountsLog totals.old totals.new (log_list (option_copied name.entry) wanted.now (log_bytes log.now) (source_place source.now) (damaged_of source.now))) }
         ensures end { IfOk result (λ whole. whole ≡ last_whole wanted.now.stop (map facts_of (units (log_bytes log.now)))) }
     {
@@ -199,7 +198,7 @@ impl<'z, A: Allocator + Copy> ListWriter<'z, A> {
 
     /// Appends the line above all others, if the form has one.
     pub(crate) fn put_header(&self, out: &mut Vec<u8, A>) -> Result<(), AllocError>
-        ensures { form_of self.now ≡ Text → OnOk result (out.new.items ≡ out.old.items ++ header (gtids_of self.now) (heading_of self.now)) }
+        ensures { OnOk result (out.new.items ≡ out.old.items ++ header_of (form_of self.now) (gtids_of self.now) (heading_of self.now)) }
     {
         match self.style.form {
             Form::Text => lines::put_header(out, &self.times, self.style.gtids),
@@ -209,7 +208,7 @@ impl<'z, A: Allocator + Copy> ListWriter<'z, A> {
 
     /// Appends the line with a log's name, if there is one and the form has such a line.
     fn put_name(&self, out: &mut Vec<u8, A>, name: Option<&[u8]>) -> Result<(), AllocError>
-        ensures { form_of self.now ≡ Text → OnOk result (out.new.items ≡ out.old.items ++ name_line (option_copied name.entry)) }
+        ensures { OnOk result (out.new.items ≡ out.old.items ++ name_above (form_of self.now) (option_copied name.entry)) }
     {
         match self.style.form {
             Form::Text => lines::put_name(out, name),
@@ -226,14 +225,14 @@ impl<'z, A: Allocator + Copy> ListWriter<'z, A> {
         name: Option<&[u8]>,
         unit: &Unit<'_, A>,
     ) -> Result<(), AllocError>
-        ensures { form_of self.now ≡ Text → OnOk result (PutsLine self.now.times (gtids_of self.now) (shown_told (log_bytes log.now) (source_place source.now) unit.now) out.old.items out.new.items) }
+        ensures { OnOk result (PutsLineIn (form_of self.now) self.now.times (gtids_of self.now) (option_copied name.entry) (shown_told (log_bytes log.now) (source_place source.now) unit.now) out.old.items out.new.items) }
     {
         match self.style.form {
             Form::Text => lines::put_unit(out, &self.times, self.style.gtids, source, log, unit),
             Form::Json => json::put_unit(
                 self.global,
                 out,
-                self.style.zone,
+                self.times.zone(),
                 source,
                 log,
                 name,
@@ -244,7 +243,7 @@ impl<'z, A: Allocator + Copy> ListWriter<'z, A> {
 
     /// Appends the last lines.
     pub(crate) fn put_totals(&self, out: &mut Vec<u8, A>, totals: &Totals) -> Result<(), AllocError>
-        ensures { form_of self.now ≡ Text → OnOk result (out.new.items ≡ out.old.items ++ totals_text totals.now) }
+        ensures { OnOk result (out.new.items ≡ out.old.items ++ totals_put (form_of self.now) totals.now) }
     {
         match self.style.form {
             Form::Text => totals::put_totals(out, totals),

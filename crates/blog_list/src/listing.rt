@@ -12,7 +12,6 @@ ghost use Rattle.blog_units.specs.Units.{facts_of, units};
 ghost use Rattle.blog_list.specs.Lists.{Lists};
 ghost use Rattle.blog_list.specs.Shown.{last_whole, log_list};
 ghost use Rattle.blog_list.specs.Texts.{AppendsList, AppendsListBeginning};
-ghost use Rattle.blog_list.specs.declared.listing.Form.TheVariants.{Text};
 ghost use Rattle.blog_list.specs.code.Told.{end_listed, listed, source_place};
 
 use crate::list_end::early_end;
@@ -72,8 +71,8 @@ pub fn list<A: Allocator + Copy, O: Write>(
     ensures refused { IsSome (opening_fault (log_of source.now)) → writer.new ≡ writer.old }
     ensures lists { Lists (log_of source.now) result }
     ensures mark { has_failed writer.new ≡ (has_failed writer.old || is_write_fault result) }
-    ensures text { style.now.form ≡ Text → OnOk result (AppendsList (plain_zone style.now.zone) style.now.gtids (listed None source.now wanted.now ∷ []) (O.contents (device_of writer.old)) (O.contents (device_of writer.new))) }
-    ensures beginning { style.now.form ≡ Text → OnErr result (AppendsListBeginning (plain_zone style.now.zone) style.now.gtids (listed None source.now wanted.now ∷ []) (O.contents (device_of writer.old)) (O.contents (device_of writer.new))) }
+    ensures text { OnOk result (AppendsList style.now.form (plain_zone style.now.zone) style.now.gtids (listed None source.now wanted.now ∷ []) (O.contents (device_of writer.old)) (O.contents (device_of writer.new))) }
+    ensures beginning { OnErr result (AppendsListBeginning style.now.form (plain_zone style.now.zone) style.now.gtids (listed None source.now wanted.now ∷ []) (O.contents (device_of writer.old)) (O.contents (device_of writer.new))) }
     ensures end { IfOk result (λ end. end ≡ end_listed source.now wanted.now) }
 {
     let log = match open_log(source, style.seed) {
@@ -100,8 +99,8 @@ fn list_opened<A: Allocator + Copy, O: Write>(
 ) -> Result<Option<bool>, RunFault>
     ensures fault { IfErr result (λ e. (e ≡ RunFault.Log OutOfMemory) ⊎ (e ≡ RunFault.Write)) }
     ensures mark { has_failed writer.new ≡ (has_failed writer.old || is_write_fault result) }
-    ensures text { style.now.form ≡ Text → OnOk result (AppendsList (plain_zone style.now.zone) style.now.gtids (log_list None wanted.now (log_bytes log.now) (source_place source.now) (damaged_of source.now) ∷ []) (O.contents (device_of writer.old)) (O.contents (device_of writer.new))) }
-    ensures beginning { style.now.form ≡ Text → OnErr result (AppendsListBeginning (plain_zone style.now.zone) style.now.gtids (log_list None wanted.now (log_bytes log.now) (source_place source.now) (damaged_of source.now) ∷ []) (O.contents (device_of writer.old)) (O.contents (device_of writer.new))) }
+    ensures text { OnOk result (AppendsList style.now.form (plain_zone style.now.zone) style.now.gtids (log_list None wanted.now (log_bytes log.now) (source_place source.now) (damaged_of source.now) ∷ []) (O.contents (device_of writer.old)) (O.contents (device_of writer.new))) }
+    ensures beginning { OnErr result (AppendsListBeginning style.now.form (plain_zone style.now.zone) style.now.gtids (log_list None wanted.now (log_bytes log.now) (source_place source.now) (damaged_of source.now) ∷ []) (O.contents (device_of writer.old)) (O.contents (device_of writer.new))) }
     ensures end { IfOk result (λ whole. whole ≡ last_whole wanted.now.stop (map facts_of (units (log_bytes log.now)))) }
 {
     let list = ListWriter::new(global, alloc, style)?;

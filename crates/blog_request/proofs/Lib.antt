@@ -1,1 +1,4 @@
+mod Among
+mod Cuts
+mod Numbers
 mod Ranges

@@ -1,2 +1,4 @@
+pub mod Ids
 pub mod Passing
 pub mod Wanted
+pub mod code

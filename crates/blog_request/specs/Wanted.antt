@@ -1,5 +1,5 @@
 -- Which units of a log are wanted.
-use Rattle.std.specs.Prelude.{ℕ, ◌==◌, ◌&&◌, ◌||◌, Bool, true, false, nat_le, nat_lt, if◌then◌else◌, List, Option, Result, Ok, Err}
+use Rattle.std.specs.Prelude.{ℕ, ◌==◌, ◌&&◌, ◌||◌, Bool, true, false, map, nat_le, nat_lt, if◌then◌else◌, List, Option, Result, Ok, Err}
 use Rattle.std.specs.Option.{option_map_or}
 use Rattle.std.specs.List.{list_any}
 use Rattle.blog_event.specs.declared.fault.Fault.{Fault}
@@ -11,6 +11,8 @@ use Rattle.blog_trans.specs.code.IndexView.{index_bytes, index_selection}
 use Rattle.blog_units.specs.Units.{Facts}
 use Rattle.blog_choice.specs.Choice.{Choice, chooses, chooses_all, is_nil}
 use Rattle.blog_choice.specs.code.Views.{choice_value}
+use Rattle.blog_request.specs.Ids.{is_of_ids}
+use Rattle.blog_request.specs.code.IdsView.{ids_value}
 use Rattle.blog_request.specs.Passing.{is_passed_over, unit_events}
 use Rattle.blog_request.specs.declared.wanted.Concern.{Concern}
 use Rattle.blog_request.specs.declared.wanted.Concern.TheVariants.{Wanted as IsWanted, PassedOver, Other}
@@ -37,10 +39,11 @@ changes_told (Err fault) = Err fault
 abbrev pub has_chosen : Choice → List TableCount → Bool
 has_chosen choice counts = list_any (λ c. chooses choice c.table.schema c.table.name) counts
 
--- a unit with these facts starts within the wanted positions, and is of the wanted times and threads
+-- a unit with these facts starts within the wanted positions, and is of the wanted times, threads and ids
 abbrev pub is_in_range : Wanted → Facts → Bool
 is_in_range w u =
-    (((is_from u.start w.start && is_before u.start w.stop) && is_from u.time w.from_time) && is_before u.time w.to_time) && is_of_threads w.threads.now u.thread
+    ((((is_from u.start w.start && is_before u.start w.stop) && is_from u.time w.from_time) && is_before u.time w.to_time) && is_of_threads w.threads.now u.thread)
+    && is_of_ids (map ids_value w.gtids.now) u.id
 
 -- by its tables: it changes a chosen one; it is refused for a statement, and passed over; or it is refused, and may change one
 abbrev pub by_tables : Choice → List ℕ → Facts → Result (List TableCount) Fault → Concern

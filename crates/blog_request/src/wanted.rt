@@ -1,20 +1,23 @@
 //! Which units are wanted.
 
-ghost use Rattle.std.specs.Prelude.{◌≡◌};
+ghost use Rattle.std.specs.Prelude.{◌≡◌, map, option_map};
 ghost use Rattle.blog_event.specs.code.LogView.{log_bytes};
 ghost use Rattle.blog_trans.specs.Changes.{counts_of};
 ghost use Rattle.blog_trans.specs.Groups.{groups};
 ghost use Rattle.blog_trans.specs.code.IndexView.{index_bytes, index_selection, table_counted};
-ghost use Rattle.blog_units.specs.code.UnitsView.{facts_told};
+ghost use Rattle.blog_units.specs.code.UnitsView.{facts_told, id_told};
 ghost use Rattle.blog_choice.specs.code.ChosenView.{names_choice};
 ghost use Rattle.blog_choice.specs.code.Views.{choice_value};
+ghost use Rattle.blog_request.specs.Ids.{is_of_ids};
+ghost use Rattle.blog_request.specs.code.IdsView.{ids_value};
 ghost use Rattle.blog_request.specs.Wanted.{by_tables, changes_told, concern_of, has_chosen, is_before, is_from, is_in_range, is_of_threads, is_wanted, is_wanted_unit};
 
+use crate::ids::GlobalIds;
 use crate::passing::is_passed_over;
 use blog_choice::{ChosenNames, TableChoice};
 use blog_event::{Fault, Log};
 use blog_trans::Index;
-use blog_units::Unit;
+use blog_units::{GlobalId, Unit};
 use std::alloc::Allocator;
 
 /// Which units of a log are wanted: those that meet each condition that is given.
@@ -30,6 +33,9 @@ pub struct Wanted<'w> {
     pub to_time: Option<u32>,
     /// Those of these threads of the server, by the first Query event; of any thread if there are none.
     pub threads: &'w [u32],
+    /// Those whose global transaction id is among these; any if there are none. A unit without an id, or with one that isn't
+    /// known, is among none.
+    pub gtids: &'w [GlobalIds<'w>],
     /// Those that change a chosen table. Those that can't be undone are wanted too, since which tables they change isn't
     /// known, but for statements that name none of the chosen tables.
     pub choice: TableChoice<'w>,
@@ -82,7 +88,7 @@ impl Wanted<'_> {
         }
     }
 
-    /// Whether a unit starts within the wanted positions, and is of the wanted times and threads.
+    /// Whether a unit starts within the wanted positions, and is of the wanted times, threads and ids.
     fn has_in_range<A: Allocator>(&self, unit: &Unit<'_, A>) -> bool
         ensures { result ≡ is_in_range self.now (facts_told unit.now) }
     {
@@ -91,6 +97,7 @@ impl Wanted<'_> {
             && is_from(unit.time, self.from_time)
             && is_before(unit.time, self.to_time)
             && is_of_threads(self.threads, unit.thread)
+            && is_of_ids(self.gtids, unit.id)
     }
 }
 
@@ -133,6 +140,19 @@ fn is_of_threads(threads: &[u32], thread: Option<u32>) -> bool
     }
     match thread {
         Some(thread) => threads.contains(&thread),
+        None => false,
+    }
+}
+
+/// Whether a global transaction id is among those that are asked for, or none is asked for.
+fn is_of_ids(asked: &[GlobalIds<'_>], id: Option<GlobalId<'_>>) -> bool
+    ensures { result ≡ is_of_ids (map ids_value asked.now) (option_map id_told id.entry) }
+{
+    if asked.is_empty() {
+        return true;
+    }
+    match id {
+        Some(id) => asked.iter().any(|ids| ids.has(&id)),
         None => false,
     }
 }

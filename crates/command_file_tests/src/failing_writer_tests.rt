@@ -13,6 +13,9 @@ use testkit::devices::{ALL, Failure, KINDS, SlowWriter};
 /// The most bytes that standard output takes a call.
 const STEP: usize = 7;
 
+const WRITE_FAILED: &[u8] =
+    b"binlog: write failed: see whether the disk is full, or the program that reads the output has ended\n";
+
 /// Whether a run with these arguments ends with a failed write, which it tells; and what was written.
 fn fails(
     rt: &HostRuntime,
@@ -31,7 +34,7 @@ fn fails(
         &mut output,
         &mut errors,
     );
-    let told = errors.device().starts_with(b"binlog: write failed: ");
+    let told = errors.device().as_slice() == WRITE_FAILED;
     let is_failure = status == ExitCode::FAILURE && output.device().failed_calls == 1;
     Ok((told && is_failure, output))
 }
@@ -120,8 +123,13 @@ fn a_long_line_is_cut(rt: HostRuntime) -> Result<(), Fail> {
         name.push('a')?;
     }
     let outcome = run_arguments(&rt, &["plain", name.as_str()])?;
-    assert!(rt; outcome.begins_refusal(1, "binlog: cannot open the log aaa"));
-    assert_eq!(rt; outcome.errors().len(), 4608);
+    let mut line = String::from_str(rt.alloc(), "binlog: cannot open the log ")?;
+    for _ in 0..4579 {
+        line.push('a')?;
+    }
+    line.push('\n')?;
+    assert_eq!(rt; line.len(), 4608);
+    assert!(rt; outcome.is_refusal(1, line.as_str()));
     Ok(())
 }
 
@@ -168,11 +176,11 @@ fn wrong_arguments_are_told_without_control_characters(rt: HostRuntime) -> Resul
     let cases: [(&[&str], &str); 6] = [
         (
             &["list", "-j", "4\nbinlog: done\x1b[2J", "a"],
-            "error: invalid value '4\\nbinlog: done\\x1b[2J' for '--start-position <POS>': not a position: ",
+            "error: invalid value '4\\nbinlog: done\\x1b[2J' for '--start-position <POS>': not a position: decimal digits, 0 to 4294967295\n\n",
         ),
         (
             &["sql", "--rewrite-db", "\u{202e}\u{9b}\r", "a"],
-            "error: invalid value '\\u{202e}\\xc2\\x9b\\r' for '--rewrite-db <FROM:TO>': not two names of databases ",
+            "error: invalid value '\\u{202e}\\xc2\\x9b\\r' for '--rewrite-db <FROM:TO>': not two names of databases with a colon between them, such as shop:scratch, of 1 to 255 bytes each\n\n",
         ),
         (
             &["plain", "a", "b\nc\x7f"],
@@ -197,16 +205,24 @@ fn wrong_arguments_are_told_without_control_characters(rt: HostRuntime) -> Resul
     Ok(())
 }
 
-#[test]
-fn a_failed_write_of_sql_is_told(rt: HostRuntime) -> Result<(), Fail> {
-    let log = path_of(&rt, "unwritten-sql")?;
-    fs::write(&rt, log.as_path(), PLAIN.as_slice())?;
-    let arguments = ["sql", log.as_str()];
-    let printed = run_arguments(&rt, arguments.as_slice())?;
+/// Runs the program with these arguments, which writes a text. Each call fails in turn.
+fn each_call_of_a_text_fails(rt: &HostRuntime, arguments: &[&str]) -> Result<(), Fail> {
+    let printed = run_arguments(rt, arguments)?;
     let text = printed.output();
-    let calls = text.len().div_ceil(STEP);
-    assert!(rt; calls > 50);
-    each_call_fails(&rt, arguments.as_slice(), text, calls as u64)?;
+    if text.is_empty() || !printed.is_done(text) {
+        return Err(Fail::new(format_args!("{arguments:?}")));
+    }
+    each_call_fails(rt, arguments, text, text.len().div_ceil(STEP) as u64)
+}
+
+#[test]
+fn a_failed_write_of_a_text_is_told(rt: HostRuntime) -> Result<(), Fail> {
+    let log = path_of(&rt, "unwritten-text")?;
+    fs::write(&rt, log.as_path(), PLAIN.as_slice())?;
+    each_call_of_a_text_fails(&rt, &["sql", log.as_str()])?;
+    each_call_of_a_text_fails(&rt, &["list", "--utc", log.as_str()])?;
+    each_call_of_a_text_fails(&rt, &["--version"])?;
+    each_call_of_a_text_fails(&rt, &["list", "--help"])?;
     fs::remove_file(&rt, log.as_path())?;
     Ok(())
 }

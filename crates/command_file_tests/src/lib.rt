@@ -3,7 +3,15 @@
 #![tactic(auto)]
 
 #[cfg(test)]
+mod failing_files;
+#[cfg(test)]
+mod failing_reader_tests;
+#[cfg(test)]
 mod failing_writer_tests;
+#[cfg(test)]
+mod file_line_tests;
+#[cfg(test)]
+mod limit_tests;
 #[cfg(test)]
 mod log_file_tests;
 #[cfg(test)]

@@ -18,7 +18,8 @@ const REQUESTS: usize = 200;
 /// A heap with room for each of these runs, in bytes.
 const ROOM: usize = 1 << 21;
 
-const OUT_OF_MEMORY: &str = "binlog: OutOfMemory: ";
+const OUT_OF_MEMORY: &str =
+    "binlog: OutOfMemory: run it where one and a half times the log's size is free in memory\n";
 
 /// Runs the program with these arguments. All that it takes is given back. Answers also whether its request of this number was
 /// refused.
@@ -61,7 +62,7 @@ fn refuse_in_turn(
         if !refused {
             return Ok((outcome, number - 1));
         }
-        if !outcome.begins_refusal(1, OUT_OF_MEMORY) || fs::exists(rt, file)? {
+        if !outcome.is_refusal(1, OUT_OF_MEMORY) || fs::exists(rt, file)? {
             return Err(Fail::new(format_args!("request {number}: {arguments:?}")));
         }
     }

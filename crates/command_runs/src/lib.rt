@@ -1,6 +1,8 @@
 //! Runs of `binlog` in tests, over files in the folder for temporary files and writers in memory.
 #![tactic(auto)]
 
+pub mod large_logs;
+
 use binlog_command::{Process, command};
 use blog_device::Watched;
 use sample_logs::small::{PLAIN, SUMMED};

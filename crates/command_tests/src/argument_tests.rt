@@ -12,13 +12,17 @@ const USAGE: &str = "
 Usage: binlog plain [-r FILE [--force]] LOG
        binlog list [-d NAME] [-T NAME] [-j POS] [--stop-position POS]
                    [--start-datetime TIME] [--stop-datetime TIME]
-                   [--utc | --time-zone NAME] [--json] LOG
+                   [--utc | --time-zone NAME] [--json] LOG..
        binlog split [--size BYTES] [-r FILE [--force]] LOG
        binlog sql [--each-transaction] [--keep-times] [--size BYTES]
                   [--rewrite-db FROM:TO].. [-r FILE [--force]] LOG
 
 For more information, try '--help'.
 ";
+
+/// The same where `plain` was given.
+const PLAIN_USAGE: &str =
+    "\n\nUsage: binlog plain [-r FILE [--force]] LOG\n\nFor more information, try '--help'.\n";
 
 /// Lines of the help.
 static HELP_LINES: [&str; 11] = [
@@ -28,7 +32,7 @@ static HELP_LINES: [&str; 11] = [
     "                  [--rewrite-db FROM:TO].. [-r FILE [--force]] LOG",
     "Commands:",
     "  plain  Checks every checksum of LOG and writes the same log without checksums.",
-    "  list   Lists the units of LOG: its transactions, and what stands between them and can't be undone.",
+    "  list   Lists the units of each LOG: its transactions, and what stands between them and can't be undone.",
     "  split  Cuts each statement of LOG into statements of at most BYTES bytes: their rows events, and the table",
     "  sql    Prints LOG as SQL that makes its changes on a server, in one transaction: all of them, or after any",
     "  help   Print this message or the help of the given subcommand(s)",
@@ -111,10 +115,14 @@ fn a_command_given_twice_is_an_error(rt: HostRuntime) -> Result<(), Fail> {
     let log = path_of(&rt, "twice")?;
     let result = path_of(&rt, "not-made-twice")?;
     fs::write(&rt, log.as_str(), PLAIN.as_slice())?;
-    for command in ["plain", "list", "split", "sql"] {
+    for command in ["plain", "split", "sql"] {
         check_given_twice(&rt, command, log.as_str(), result.as_str())?;
     }
     let name = log.as_str();
+    // a list takes several logs, so this is the name of one
+    let absent =
+        "binlog: cannot open the log list: No such file or directory (os error 2): see its name and its folder\n";
+    assert!(rt; run_arguments(&rt, &["list", name, "list"])?.is_refusal(1, absent));
     let line = format!(in rt.alloc(); "error: unexpected argument '{name}' found\n")?;
     let arguments = ["plain", "-r", result.as_str(), "plain", log.as_str()];
     check_unmade(&rt, arguments.as_slice(), line.as_str(), result.as_str())?;
@@ -173,23 +181,36 @@ fn help_and_version_are_written(rt: HostRuntime) -> Result<(), Fail> {
 
 #[test]
 fn wrong_arguments_end_in_two(rt: HostRuntime) -> Result<(), Fail> {
-    let cases = [
-        &[] as &[&str],
-        &["plain"],
-        &["plain", "a", "b"],
-        &["plain", "--nothing", "a"],
+    check_wrong(
+        &rt,
         &["other", "a"],
-        &["a"],
+        "error: unrecognized subcommand 'other'",
+    )?;
+    check_wrong(&rt, &["a"], "error: unrecognized subcommand 'a'")?;
+    let cases: [(&[&str], &str); 3] = [
+        (
+            &["plain"],
+            "error: the following required arguments were not provided:\n  <LOG>",
+        ),
+        (&["plain", "a", "b"], "error: unexpected argument 'b' found"),
+        (
+            &["plain", "--nothing", "a"],
+            "error: unexpected argument '--nothing' found\n\n  tip: to pass '--nothing' as a value, use '-- --nothing'",
+        ),
     ];
-    for arguments in cases {
+    for (arguments, line) in cases {
+        let wanted = format!(in rt.alloc(); "{line}{PLAIN_USAGE}")?;
         assert!(rt;
-            run_arguments(&rt, arguments)?.begins_refusal(2, "error: "),
+            run_arguments(&rt, arguments)?.is_refusal(2, wanted.as_str()),
             "{arguments:?}"
         );
     }
     let not_text = run_given(&rt, Err(io::Error::from(io::ErrorKind::InvalidData)));
-    assert!(rt; not_text.begins_refusal(2, "binlog: the arguments are not UTF-8: "));
+    let line = "binlog: the arguments are not UTF-8: give names in UTF-8\n";
+    assert!(rt; not_text.is_refusal(2, line));
     let no_memory = run_given(&rt, Err(io::Error::from(io::ErrorKind::OutOfMemory)));
-    assert!(rt; no_memory.begins_refusal(1, "binlog: OutOfMemory: "));
+    let line =
+        "binlog: OutOfMemory: run it where one and a half times the log's size is free in memory\n";
+    assert!(rt; no_memory.is_refusal(1, line));
     Ok(())
 }

@@ -4,11 +4,17 @@
 #[cfg(test)]
 mod argument_tests;
 #[cfg(test)]
+mod checksum_tests;
+#[cfg(test)]
+mod large_log_tests;
+#[cfg(test)]
 mod line_tests;
 #[cfg(test)]
 mod list_tests;
 #[cfg(test)]
 mod plain_tests;
+#[cfg(test)]
+mod size_tests;
 #[cfg(test)]
 mod split_tests;
 #[cfg(test)]

@@ -5,6 +5,7 @@ use blog_device::{RunFault, Watched};
 use blog_event::Fault;
 use blog_split::SplitFault;
 use blog_sum::SumFault;
+use list_run::ListFault;
 use std::alloc::Global;
 use std::test::Fail;
 
@@ -40,13 +41,17 @@ static FAULTS: [(Fault, &str); 18] = [
     (Fault::BadBody { pos: 5 }, "BadBody at 5: the event is damaged: copy the log from the server again"),
     (Fault::UnknownEvent { pos: 5 }, "UnknownEvent at 5: the type of the event is unknown: choose a range without it"),
     (Fault::TooLong { pos: 0 }, "TooLong at 0: the log has more than 4294967295 bytes: use another tool"),
-    (Fault::OutOfMemory, "OutOfMemory: run it where twice the log's size is free in memory"),
+    (Fault::OutOfMemory, "OutOfMemory: run it where one and a half times the log's size is free in memory"),
 ];
 
 #[test]
 fn each_fault_of_a_log_has_its_line(rt: HostRuntime) -> Result<(), Fail> {
     for (fault, line) in &FAULTS {
-        check(&rt, &Failure::List(RunFault::Log(*fault)), line)?;
+        check(
+            &rt,
+            &Failure::List(None, ListFault::Run(RunFault::Log(*fault))),
+            line,
+        )?;
         check(
             &rt,
             &Failure::NewLog(NewLogFault::Run(RunFault::Log(*fault))),
@@ -94,21 +99,26 @@ fn logs_that_are_not_cut_have_their_lines(rt: HostRuntime) -> Result<(), Fail> {
     )
 }
 
+/// A list of one log that ends early for this fault.
+fn early_end(fault: Fault) -> Failure<'static, Global> {
+    Failure::List(None, ListFault::EndsEarly(SumFault::Log(fault)))
+}
+
 #[test]
 fn logs_that_end_early_have_their_lines(rt: HostRuntime) -> Result<(), Fail> {
     check(
         &rt,
-        &Failure::EndsEarly(SumFault::Log(Fault::CutEvent { pos: 5 })),
+        &early_end(Fault::CutEvent { pos: 5 }),
         "CutEvent at 5: the log ends inside an event: copy it from the server again, once it is closed",
     )?;
     check(
         &rt,
-        &Failure::EndsEarly(SumFault::Log(Fault::Unended { pos: 5 })),
+        &early_end(Fault::Unended { pos: 5 }),
         "Unended at 5: the log ends inside a transaction: copy it from the server again, once it is closed",
     )?;
     for (fault, line) in &FAULTS {
         if !matches!(fault, Fault::CutEvent { .. } | Fault::Unended { .. }) {
-            check(&rt, &Failure::EndsEarly(SumFault::Log(*fault)), line)?;
+            check(&rt, &early_end(*fault), line)?;
         }
     }
     Ok(())
@@ -119,7 +129,11 @@ fn other_failures_have_their_lines(rt: HostRuntime) -> Result<(), Fail> {
     let read = "read failed: see the log's disk, and try again";
     let write =
         "write failed: see whether the disk is full, or the program that reads the output has ended";
-    check(&rt, &Failure::List(RunFault::Read), read)?;
+    check(
+        &rt,
+        &Failure::List(None, ListFault::Run(RunFault::Read)),
+        read,
+    )?;
     check(
         &rt,
         &Failure::NewLog(NewLogFault::Run(RunFault::Write)),
@@ -135,7 +149,7 @@ fn other_failures_have_their_lines(rt: HostRuntime) -> Result<(), Fail> {
         &Failure::NewLog(NewLogFault::Sums(SumFault::WrongSum { pos: 5 })),
         "WrongSum at 5: the event isn't what the server wrote: copy the log from the server again",
     )?;
-    let memory = "OutOfMemory: run it where twice the log's size is free in memory";
+    let memory = "OutOfMemory: run it where one and a half times the log's size is free in memory";
     check(
         &rt,
         &Failure::Arguments(ArgumentsFault::OutOfMemory),

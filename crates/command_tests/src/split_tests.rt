@@ -5,7 +5,7 @@ use command_runs::{path_of, run_arguments, run_log};
 use sample_logs::builder::{BEGIN, XID, build, insert, map_of};
 use sample_logs::logs::insert_and_drop;
 use sample_logs::small::{INSERT_ONE_ROW, SUMMED};
-use sample_logs::summed::{CLOSED, IN_USE};
+use sample_logs::summed::IN_USE;
 use std::alloc::AllocError;
 use std::fs;
 use std::test::Fail;
@@ -66,8 +66,12 @@ fn a_cut_log_is_written_to_a_file(rt: HostRuntime) -> Result<(), Fail> {
     let kept = run_log(&rt, "to-file", log.as_slice(), arguments.as_slice())?;
     let written = fs::read(&rt, result.as_path())?;
     fs::remove_file(&rt, result.as_path())?;
+    let is_there = format!(in rt.alloc();
+        "binlog: the result file is there: {}: give another name, or --force\n",
+        result.as_str()
+    )?;
     assert!(rt; outcome.is_done(b""));
-    assert!(rt; kept.begins_refusal(1, "binlog: the result file is there: "));
+    assert!(rt; kept.is_refusal(1, is_there.as_str()));
     assert_eq!(rt; written.as_slice(), cut.as_slice());
     Ok(())
 }
@@ -78,36 +82,38 @@ fn logs_that_are_not_cut_are_told(rt: HostRuntime) -> Result<(), Fail> {
     let cases = [
         (
             dropped.as_slice(),
-            "binlog: Statement at 259: the log can't be undone as a whole: ",
+            "Statement at 259: the log can't be undone as a whole: cut the log that flashback writes of a range",
         ),
         (
             IN_USE.as_slice(),
-            "binlog: Statement at 567: the log can't be undone as a whole: ",
+            "Statement at 567: the log can't be undone as a whole: cut the log that flashback writes of a range",
         ),
-        (&SUMMED[..SUMMED.len() - 1], "binlog: CutEvent at 120: "),
-        (&INSERT_ONE_ROW[..200], "binlog: CutEvent at 196: "),
-        (b"no log", "binlog: NotABinlog at 0: "),
+        (
+            &SUMMED[..SUMMED.len() - 1],
+            "CutEvent at 120: the log ends inside an event, or is damaged: copy it from the server again",
+        ),
+        (
+            &INSERT_ONE_ROW[..200],
+            "CutEvent at 196: the log ends inside an event, or is damaged: copy it from the server again",
+        ),
+        (
+            b"no log",
+            "NotABinlog at 0: the file is no binary log, or an encrypted one: give a binary log",
+        ),
     ];
     for (log, line) in cases {
         let outcome = run_log(&rt, "not-cut", log, &["split"])?;
-        assert!(rt; outcome.begins_refusal(1, line), "{line}");
+        let line = format!(in rt.alloc(); "binlog: {line}\n")?;
+        assert!(rt; outcome.is_refusal(1, line.as_str()), "{line}");
     }
     Ok(())
 }
 
-/// A server's log is cut as it is: the same is written as for its plain log.
-#[test]
-fn logs_with_checksums_are_cut(rt: HostRuntime) -> Result<(), Fail> {
-    let plain = run_log(&rt, "closed", CLOSED.as_slice(), &["plain"])?;
-    for size in ["8000000", "1024"] {
-        let arguments = ["split", "--size", size];
-        let of_plain = run_log(&rt, "closed-plain", plain.output(), arguments.as_slice())?;
-        let of_source = run_log(&rt, "closed", CLOSED.as_slice(), arguments.as_slice())?;
-        assert!(rt; of_plain.output().len() > 500);
-        assert!(rt; of_source.is_done(of_plain.output()), "{size}");
-    }
-    Ok(())
-}
+const CUT_EVENT: &str =
+    "binlog: CutEvent at 120: the log ends inside an event, or is damaged: copy it from the server again\n";
+
+const WRONG_SUM: &str =
+    "binlog: WrongSum at 120: the event isn't what the server wrote: copy the log from the server again\n";
 
 /// One byte of a log with checksums is changed, each in turn: nothing is written.
 #[test]
@@ -117,42 +123,39 @@ fn damaged_logs_are_not_cut(rt: HostRuntime) -> Result<(), Fail> {
         let byte = log.get_mut(at).ok_or("a short log")?;
         *byte ^= 1;
         let outcome = run_log(&rt, "damaged", log.as_slice(), &["split"])?;
-        assert!(rt; outcome.begins_refusal(1, "binlog: "), "{at}");
+        // the size of the event
+        let line = if matches!(at, 129 | 132) {
+            CUT_EVENT
+        } else {
+            WRONG_SUM
+        };
+        assert!(rt; outcome.is_refusal(1, line), "{at}");
     }
     Ok(())
 }
 
 #[test]
 fn wrong_sizes_end_in_two(rt: HostRuntime) -> Result<(), Fail> {
-    let cases = [
-        (
-            ["split", "--size", "+4", "a"],
-            "error: invalid value '+4' for '--size <BYTES>': not a number of bytes: ",
-        ),
-        (
-            ["split", "--size", "4294967296", "a"],
-            "error: invalid value '4294967296' for '--size <BYTES>': not a number of bytes: ",
-        ),
-        (["split", "--size", "8MB", "a"], "error: invalid value "),
-        (["split", "--json", "4", "a"], "error: "),
-    ];
-    for (arguments, line) in cases {
-        let outcome = run_arguments(&rt, arguments.as_slice())?;
-        assert!(rt; outcome.begins_refusal(2, line), "{arguments:?}");
+    for size in ["+4", "4294967296", "8MB"] {
+        check_size(&rt, "split", size)?;
     }
+    let outcome = run_arguments(&rt, &["split", "--json", "4", "a"])?;
+    assert!(rt; outcome.begins_refusal(2, "error: unexpected argument '--json' found\n\n"));
     Ok(())
 }
 
-/// How a size is reported that is none.
-pub(crate) const NO_SIZE: &str = "not a number of bytes: decimal digits, 1024 to 4294967295";
+/// Checks that this command reports this size as none.
+pub(crate) fn check_size(rt: &HostRuntime, command: &str, size: &str) -> Result<(), Fail> {
+    let line = format!(in rt.alloc();
+        "error: invalid value '{size}' for '--size <BYTES>': not a number of bytes: decimal digits, 1024 to 4294967295"
+    )?;
+    check_wrong(rt, &[command, "--size", size, "a"], line.as_str())
+}
 
 #[test]
 fn sizes_below_the_least_are_wrong(rt: HostRuntime) -> Result<(), Fail> {
     for size in ["0", "1", "1023"] {
-        let line = format!(in rt.alloc();
-            "error: invalid value '{size}' for '--size <BYTES>': {NO_SIZE}"
-        )?;
-        check_wrong(&rt, &["split", "--size", size, "a"], line.as_str())?;
+        check_size(&rt, "split", size)?;
     }
     Ok(())
 }

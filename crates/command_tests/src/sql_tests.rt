@@ -1,13 +1,13 @@
 //! Runs of `sql`. The lines that are expected were made from the bytes of the log by another program.
 
 use crate::argument_tests::check_wrong;
-use crate::split_tests::{NO_SIZE, whole};
+use crate::split_tests::{check_size, whole};
 use command_runs::{path_of, run_arguments, run_log};
 use console::VERSION;
 use sample_logs::builder::{BEGIN, COMMIT, Part, XID, build, insert, map_of};
 use sample_logs::logs::{insert_and_drop, two_transactions};
 use sample_logs::small::{INSERT_ONE_ROW, SUMMED};
-use sample_logs::summed::{CLOSED, IN_USE};
+use sample_logs::summed::IN_USE;
 use std::fs;
 use std::process::Abort;
 use std::test::Fail;
@@ -283,10 +283,7 @@ fn statements_are_cut(rt: HostRuntime) -> Result<(), Fail> {
 #[test]
 fn sizes_below_the_least_are_wrong(rt: HostRuntime) -> Result<(), Fail> {
     for size in ["0", "1", "1023"] {
-        let line = format!(in rt.alloc();
-            "error: invalid value '{size}' for '--size <BYTES>': {NO_SIZE}"
-        )?;
-        check_wrong(&rt, &["sql", "--size", size, "a"], line.as_str())?;
+        check_size(&rt, "sql", size)?;
     }
     Ok(())
 }
@@ -303,24 +300,14 @@ fn sql_is_written_to_a_file(rt: HostRuntime) -> Result<(), Fail> {
     let written = fs::read(&rt, result.as_path())?;
     let printed = run_log(&rt, "sql-to-file", log, &["sql"])?;
     fs::remove_file(&rt, result.as_path())?;
+    let is_there = format!(in rt.alloc();
+        "binlog: the result file is there: {}: give another name, or --force\n",
+        result.as_str()
+    )?;
     assert!(rt; outcome.is_done(b""));
-    assert!(rt; kept.begins_refusal(1, "binlog: the result file is there: "));
+    assert!(rt; kept.is_refusal(1, is_there.as_str()));
     assert!(rt; again.is_done(b""));
     assert!(rt; printed.is_done(written.as_slice()));
-    Ok(())
-}
-
-/// A server's log is printed as it is: the same is printed as for its plain log.
-#[test]
-fn logs_with_checksums_are_printed(rt: HostRuntime) -> Result<(), Fail> {
-    let plain = run_log(&rt, "closed", CLOSED.as_slice(), &["plain"])?;
-    for size in ["8000000", "1024"] {
-        let arguments = ["sql", "--size", size];
-        let of_plain = run_log(&rt, "closed-plain", plain.output(), arguments.as_slice())?;
-        let of_source = run_log(&rt, "closed", CLOSED.as_slice(), arguments.as_slice())?;
-        assert!(rt; of_plain.output().len() > 1000);
-        assert!(rt; of_source.is_done(of_plain.output()), "{size}");
-    }
     Ok(())
 }
 
@@ -330,19 +317,29 @@ fn logs_that_are_not_printed_are_told(rt: HostRuntime) -> Result<(), Fail> {
     let cases = [
         (
             dropped.as_slice(),
-            "binlog: Statement at 259: the log can't be undone as a whole: ",
+            "Statement at 259: the log can't be undone as a whole: cut the log that flashback writes of a range",
         ),
         (
             IN_USE.as_slice(),
-            "binlog: Statement at 567: the log can't be undone as a whole: ",
+            "Statement at 567: the log can't be undone as a whole: cut the log that flashback writes of a range",
         ),
-        (&SUMMED[..SUMMED.len() - 1], "binlog: CutEvent at 120: "),
-        (&INSERT_ONE_ROW[..200], "binlog: CutEvent at 196: "),
-        (b"no log", "binlog: NotABinlog at 0: "),
+        (
+            &SUMMED[..SUMMED.len() - 1],
+            "CutEvent at 120: the log ends inside an event, or is damaged: copy it from the server again",
+        ),
+        (
+            &INSERT_ONE_ROW[..200],
+            "CutEvent at 196: the log ends inside an event, or is damaged: copy it from the server again",
+        ),
+        (
+            b"no log",
+            "NotABinlog at 0: the file is no binary log, or an encrypted one: give a binary log",
+        ),
     ];
     for (log, line) in cases {
         let outcome = run_log(&rt, "not-printed", log, &["sql"])?;
-        assert!(rt; outcome.begins_refusal(1, line), "{line}");
+        let line = format!(in rt.alloc(); "binlog: {line}\n")?;
+        assert!(rt; outcome.is_refusal(1, line.as_str()), "{line}");
     }
     Ok(())
 }
@@ -368,13 +365,9 @@ fn wrong_schemas_end_in_two(rt: HostRuntime) -> Result<(), Fail> {
         let line = format!(in rt.alloc();
             "error: invalid value '{value}' for '--rewrite-db <FROM:TO>': not two names of databases with a colon between them, such as shop:scratch, of 1 to 255 bytes each"
         )?;
-        let outcome = run_arguments(&rt, &["sql", "--rewrite-db", value, "a"])?;
-        assert!(rt; outcome.begins_refusal(2, line.as_str()), "{value}");
+        check_wrong(&rt, &["sql", "--rewrite-db", value, "a"], line.as_str())?;
     }
-    let arguments = ["sql", "--size", "8MB", "a"];
-    let outcome = run_arguments(&rt, arguments.as_slice())?;
-    assert!(rt; outcome.begins_refusal(2, "error: invalid value '8MB' for '--size <BYTES>'"));
-    Ok(())
+    check_size(&rt, "sql", "8MB")
 }
 
 /// The first line has the version of the programs.

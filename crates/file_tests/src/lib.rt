@@ -11,3 +11,5 @@ mod naming_tests;
 mod refused_call_tests;
 #[cfg(test)]
 mod refusing_files;
+#[cfg(test)]
+mod same_file_tests;

@@ -3,8 +3,8 @@
 ghost use Rattle.std.specs.Prelude.{◌≡◌};
 ghost use Rattle.result_file.specs.Ways.{way_of};
 
+use crate::file_id::{FileId, are_same};
 use std::fs::Metadata;
-use std::os::unix::fs::MetadataExt;
 use std::rt::Files;
 use std::{fs, io};
 
@@ -78,7 +78,7 @@ pub fn look<R: Files>(rt: &R, path: &str, log: &str) -> io::Result<Found> {
         Err(cause) => return Err(cause),
     };
     let log = fs::metadata(rt, log)?;
-    if are_same(&meant, &log) {
+    if are_same(&FileId::of(&meant), &FileId::of(&log)) {
         return Ok(Found::Log);
     }
     Ok(found_by(&named, &meant))
@@ -95,9 +95,4 @@ fn found_by(named: &Metadata, meant: &Metadata) -> Found {
     } else {
         Found::File
     }
-}
-
-/// Whether two names are of one file, by its device and its number there.
-fn are_same(one: &Metadata, other: &Metadata) -> bool {
-    one.dev() == other.dev() && one.ino() == other.ino()
 }

@@ -3,6 +3,7 @@
 #![tactic(auto)]
 
 mod fault;
+mod file_id;
 mod found;
 mod names;
 mod naming;
@@ -10,6 +11,7 @@ mod noted;
 mod whole_file;
 
 pub use fault::FileFault;
+pub use file_id::{FileId, are_same, first_repeated};
 pub use found::{Found, Refusal, Way, way_to};
 pub use names::{folder_of, temporary_name};
 pub use noted::Noted;

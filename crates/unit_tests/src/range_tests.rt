@@ -1,9 +1,7 @@
 //! The range of each unit: it is undone where the unit can be, and refused by the unit's fault where it can't.
 
-use crate::parts::{MAP, ONE, PAYLOAD, ROLLBACK};
-use blog_event::Log;
-use blog_flash::{Mode, Selection, answer};
-use blog_units::Units;
+use list_calls::parts::{MAP, ONE, PAYLOAD, ROLLBACK};
+use list_calls::undoing::undo_each;
 use sample_logs::builder::{BEGIN, DROP_TABLE, GTID, Part, XID, build};
 use sample_logs::logs::{
     extra_bytes, longer_format, map_alone, map_twice, newer_server, nine_columns, no_changes,
@@ -15,28 +13,6 @@ use sample_logs::summed::{CLOSED_PLAIN, IN_USE_PLAIN};
 use std::alloc::AllocError;
 use std::process::Abort;
 use std::test::Fail;
-
-/// Undoes the range of each unit of a log. Answers how many can be undone and how many can't.
-pub fn undo_each(rt: &(impl AllocGlobal + Abort), bytes: &[u8]) -> Result<(usize, usize), Fail> {
-    let log = Log::open(bytes)?;
-    let mut undone = 0_usize;
-    let mut refused = 0_usize;
-    for unit in Units::new(rt.alloc(), &log) {
-        let sel = Selection {
-            start: unit.start,
-            stop: Some(unit.stop),
-            database: None,
-            table: None,
-        };
-        let answer = answer(rt.alloc(), bytes, Mode::Flashback, &sel);
-        assert_eq!(rt; answer.err(), unit.groups.as_ref().err().copied());
-        match unit.groups {
-            Ok(_) => undone = undone.wrapping_add(1),
-            Err(_) => refused = refused.wrapping_add(1),
-        }
-    }
-    Ok((undone, refused))
-}
 
 /// Checks how many units of a log can be undone and how many can't.
 fn check_each(

@@ -1,9 +1,9 @@
 //! Which events each unit of a log has, and what is told of it.
 
-use crate::parts::{INSERTED_NONE, MAP, ONE, PAYLOAD, ROLLBACK, TWO};
 use blog_event::{Fault, Log};
 use blog_trans::{Index, Selection, index};
 use blog_units::{GlobalId, Unit, Units};
+use list_calls::parts::{INSERTED_NONE, MAP, ONE, PAYLOAD, ROLLBACK, TWO};
 use sample_logs::builder::{
     ANONYMOUS_GTID, BEGIN, COMMIT, DROP_TABLE, GTID, PREVIOUS_GTIDS, Part, ROTATE, ROWS_QUERY, XID,
     build,

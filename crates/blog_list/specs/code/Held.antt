@@ -5,6 +5,7 @@ use Rattle.jiff.specs.Types.{TimeZone}
 use Rattle.blog_device.specs.Devices.{AppendsBeginning}
 use Rattle.blog_event.specs.declared.fault.Fault.{Fault}
 use Rattle.blog_event.specs.declared.fault.Fault.TheVariants.{OutOfMemory}
+use Rattle.blog_list.specs.declared.listing.Form.{Form}
 use Rattle.blog_list.specs.Lines.{LogList}
 use Rattle.blog_list.specs.Texts.{IsLogBegun, IsLogText}
 
@@ -13,12 +14,12 @@ abbrev pub HasWritten : Option (List ℕ) → Option (List ℕ) → List ℕ →
 HasWritten old new before after = (part : List ℕ) × Appends old new part × (part ++ after ≡ before)
 
 -- what is listed of a log is held or written behind what was held before
-abbrev pub HasListed : TimeZone → Bool → ℕ → LogList → Option (List ℕ) → Option (List ℕ) → List ℕ → List ℕ → Type 0
-HasListed zone gtids width l old new before after = (text : List ℕ) × IsLogText zone gtids width l text × HasWritten old new (before ++ text) after
+abbrev pub HasListed : Form → TimeZone → Bool → ℕ → LogList → Option (List ℕ) → Option (List ℕ) → List ℕ → List ℕ → Type 0
+HasListed form zone gtids width l old new before after = (text : List ℕ) × IsLogText form zone gtids width l text × HasWritten old new (before ++ text) after
 
 -- no more is written than what was held before, and a beginning of what is listed of a log
-abbrev pub HasBegun : TimeZone → Bool → ℕ → LogList → Option (List ℕ) → Option (List ℕ) → List ℕ → Type 0
-HasBegun zone gtids width l old new before = (text : List ℕ) × IsLogBegun zone gtids width l text × AppendsBeginning old new (before ++ text)
+abbrev pub HasBegun : Form → TimeZone → Bool → ℕ → LogList → Option (List ℕ) → Option (List ℕ) → List ℕ → Type 0
+HasBegun form zone gtids width l old new before = (text : List ℕ) × IsLogBegun form zone gtids width l text × AppendsBeginning old new (before ++ text)
 
 -- memory was refused
 abbrev pub has_no_memory : {X : Type 0} → Result X Fault → Bool

@@ -4,7 +4,10 @@ use Rattle.blog_event.specs.declared.fault.Fault.{Fault}
 use Rattle.blog_trans.specs.Changes.{TableCount}
 use Rattle.blog_request.specs.declared.wanted.Concern.{Concern}
 use Rattle.blog_request.specs.declared.wanted.Concern.TheVariants.{Wanted as IsWanted, PassedOver, Other}
+use Rattle.blog_list.specs.declared.listing.Form.{Form}
+use Rattle.blog_list.specs.declared.listing.Form.TheVariants.{Text, Json}
 use Rattle.blog_list.specs.declared.totals.Totals.{Totals}
+use Rattle.blog_list.specs.Json.{json_totals}
 use Rattle.blog_list.specs.Lines.{LogList, at_most, line_unless_0, numbered, rows_of, sum_damaged, sum_passed_over, sum_refused, sum_rows, sum_units}
 
 -- a unit with these changes is counted
@@ -38,7 +41,12 @@ pub record AreTotals (totals : Totals) (ls : List LogList) : Type 0 where
 abbrev pub CountsLog : Totals → Totals → LogList → Type 0
 CountsLog old new l = (before : List LogList) → AreTotals old before → AreTotals new (before ++ l ∷ [])
 
--- the last lines
+-- the last lines, as text
 abbrev pub totals_text : Totals → List ℕ
 totals_text t = numbered (codes "units ") t.units ++ (numbered (codes ", not undoable ") t.refused ++ (numbered (codes ", rows ") t.rows ++ (codes "\n"
     ++ (line_unless_0 (codes "statements passed over ") t.passed_over ++ line_unless_0 (codes "damaged events passed over ") t.damaged))))
+
+-- in a form
+abbrev pub totals_put : Form → Totals → List ℕ
+totals_put Text t = totals_text t
+totals_put Json t = json_totals t

@@ -4,7 +4,7 @@ use Rattle.blog_trans.specs.Changes.{TableCount, counts_of}
 use Rattle.blog_trans.specs.Groups.{groups}
 use Rattle.blog_trans.specs.code.IndexView.{index_bytes, index_selection, table_counted}
 use Rattle.blog_trans.proofs.Turns.{drop-at}
-use Rattle.blog_list.specs.code.Json.{json_next}
+use Rattle.blog_list.specs.Json.{json_next}
 use Rattle.blog_list.proofs.Growing.{both-parts, next-part}
 use Rattle.blog_list.proofs.json.put_counts.Goals as goal
 

@@ -3,7 +3,7 @@ use Rattle.std.specs.List.{flat_map}
 use Rattle.blog_trans.specs.Changes.{counts_of}
 use Rattle.blog_trans.specs.Groups.{groups}
 use Rattle.blog_trans.specs.code.IndexView.{index_bytes, index_selection}
-use Rattle.blog_list.specs.code.Json.{json_counts, json_next}
+use Rattle.blog_list.specs.Json.{json_counts, json_next}
 use Rattle.blog_list.proofs.json.put_counts.Given as goal
 
 -- the tables are left from number n on

@@ -1,7 +1,7 @@
 use Rattle.std.specs.List.{flat_map}
 use Rattle.std.proofs.Common.{◌≡◌, ◌++◌, ◌∷◌}
 use Rattle.bstr.specs.Utf8.{lossy_chars}
-use Rattle.blog_list.specs.code.Json.{json_char}
+use Rattle.blog_list.specs.Json.{json_char}
 use Rattle.blog_list.proofs.json_text.put_lossy.Given as goal
 
 -- the characters are left

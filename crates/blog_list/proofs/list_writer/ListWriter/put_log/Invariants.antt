@@ -5,7 +5,6 @@ use Rattle.blog_device.specs.Watched.{device_of, has_failed}
 use Rattle.blog_source.specs.code.SourceView.{damaged_of}
 use Rattle.blog_units.specs.Units.{facts_of, units}
 use Rattle.blog_units.specs.code.UnitsView.{units_left, units_log}
-use Rattle.blog_list.specs.declared.listing.Form.TheVariants.{Text}
 use Rattle.blog_list.specs.Shown.{log_list, passed_over_of}
 use Rattle.blog_list.specs.code.Told.{source_place}
 use Rattle.blog_list.specs.code.WriterView.{form_of, gtids_of, heading_of, zone_of}
@@ -20,8 +19,7 @@ invariant-loop-unit g l = record {
   finite : (goal.iterator-loop-unit g).is_finite l.unit-iterator;
   same : units_log l.unit-iterator ≡ l.log;
   mark : has_failed l.writer ≡ has_failed l.fn.writer;
-  list : form_of l.self ≡ Text
-      → IsListing (record { zone = zone_of l.self; gtids = gtids_of l.self; width = length (heading_of l.self); before = l.fn.text.items })
+  list : IsListing (record { form = form_of l.self; zone = zone_of l.self; gtids = gtids_of l.self; width = length (heading_of l.self); before = l.fn.text.items })
       (log_list (option_copied l.name) l.wanted (log_bytes l.log) (source_place l.source) (damaged_of l.source))
       (listed_of l.wanted (log_bytes l.log) (source_place l.source) (units_left l.unit-iterator))
       (g.O.Write.contents (device_of l.fn.writer)) (g.O.Write.contents (device_of l.writer)) l.text.items;

@@ -1,0 +1,45 @@
+//! The size of `split` and `sql`, where it isn't given.
+
+use command_runs::large_logs::long_texts;
+use command_runs::{run_arguments, run_log};
+use std::process::Abort;
+use std::test::Fail;
+
+#[test]
+fn the_help_has_the_sizes(rt: HostRuntime) -> Result<(), Fail> {
+    for command in ["split", "sql"] {
+        let help = run_arguments(&rt, &[command, "--help"])?;
+        assert!(rt; help.is_done(help.output()));
+        let text = str::from_utf8(help.output())?;
+        let wanted =
+            "The most bytes of a statement, headers included, from 1024 on; 8000000 if it isn't given";
+        assert!(rt; text.contains(wanted), "{command}");
+    }
+    Ok(())
+}
+
+/// How many statements a log has as SQL.
+fn statements(rt: &HostRuntime, log: &[u8]) -> Result<usize, Fail> {
+    let outcome = run_log(rt, "uncut-sql", log, &["sql"])?;
+    if !outcome.is_done(outcome.output()) {
+        return Err(Fail::new("the run isn't done"));
+    }
+    let text = str::from_utf8(outcome.output())?;
+    // one has the format description
+    Ok(text.matches("BINLOG '\n").count().wrapping_sub(1))
+}
+
+/// A statement of 8,000,000 bytes is whole, and one of 8,000,001 is cut: two rows events of 3,999,981 bytes, and a map.
+#[test]
+fn statements_are_cut_at_the_size_in_the_help(rt: HostRuntime) -> Result<(), Fail> {
+    let least = long_texts(&rt, b"t", 2, 3_999_945)?;
+    assert_eq!(rt; least.len(), 8_000_186);
+    assert!(rt; run_log(&rt, "at-size", &least, &["split"])?.is_done(&least));
+    assert_eq!(rt; statements(&rt, &least)?, 1);
+    let more = long_texts(&rt, b"t2", 2, 3_999_945)?;
+    let cut = run_log(&rt, "over-size", &more, &["split"])?;
+    // one map more
+    assert_eq!(rt; cut.output().len(), more.len().wrapping_add(39));
+    assert_eq!(rt; statements(&rt, &more)?, 2);
+    Ok(())
+}

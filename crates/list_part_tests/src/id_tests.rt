@@ -1,0 +1,191 @@
+//! Lists of the units whose global transaction ids are asked for.
+
+use blog_choice::TableChoice;
+use blog_device::Watched;
+use blog_list::{Style, list};
+use blog_request::{GlobalIds, Wanted};
+use list_calls::lists::TEXT;
+use list_calls::sources::source_of;
+use sample_logs::builder::{ANONYMOUS_GTID, BEGIN, GTID, Part, XID, build};
+use sample_logs::summed::IN_USE_PLAIN;
+use server_logs::tagged;
+use std::process::Abort;
+use std::test::Fail;
+
+/// The units with these ids, or all if there are none.
+fn of_ids<'c>(gtids: &'c [GlobalIds<'c>]) -> Wanted<'c> {
+    Wanted {
+        start: None,
+        stop: None,
+        from_time: None,
+        to_time: None,
+        threads: &[],
+        gtids,
+        choice: TableChoice {
+            database: None,
+            tables: &[],
+            excluded: &[],
+        },
+    }
+}
+
+/// The list of the units whose ids these texts spell, or of all if there are none: with ids, and without its header.
+fn list_of(rt: &(impl AllocGlobal + Abort), bytes: &[u8], texts: &[&str]) -> Result<String, Fail> {
+    let mut asked = Vec::new(rt.alloc());
+    for text in texts {
+        asked.push(GlobalIds::read(text.as_bytes()).expect(rt, "ids"))?;
+    }
+    let wanted = of_ids(asked.as_slice());
+    let style = Style {
+        gtids: true,
+        ..TEXT
+    };
+    let mut output = Watched::new(Vec::new(rt.alloc()));
+    let source = source_of(rt, bytes)?;
+    let answer = list(
+        rt.alloc(),
+        rt.alloc(),
+        &source,
+        &wanted,
+        &style,
+        &mut output,
+    );
+    assert_eq!(rt; answer, Ok(None));
+    let text = str::from_utf8(output.device().as_slice())?;
+    let (_, lines) = text.split_once("rows\n").expect(rt, "a header");
+    Ok(String::from_str(rt.alloc(), lines)?)
+}
+
+/// Checks the list of the units whose ids these texts spell.
+fn check(
+    rt: &(impl AllocGlobal + Abort),
+    bytes: &[u8],
+    texts: &[&str],
+    lines: &str,
+) -> Result<(), Fail> {
+    assert_eq!(rt; list_of(rt, bytes, texts)?.as_str(), lines);
+    Ok(())
+}
+
+#[test]
+fn ids_choose_units(rt: HostRuntime) -> Result<(), Fail> {
+    let third =
+        "       670        943  2026-11-21 03:02:00          16  283c105d-e730-11f1-97ff-02fc00000001:10  `shop`.`items` inserts 1\n";
+    let fourth =
+        "       943       1294  2026-11-21 03:03:00          16  283c105d-e730-11f1-97ff-02fc00000001:11  `shop`.`orders` inserts 1\n";
+    let last =
+        "      1760       1925  2026-11-21 03:06:00          16  283c105d-e730-11f1-97ff-02fc00000001:14  Statement at 1833: truncate table t2\n";
+    let one = format!(in rt.alloc(); "{third}units 1, not undoable 0, rows 1\n")?;
+    let text = "283c105d-e730-11f1-97ff-02fc00000001:10";
+    check(&rt, &IN_USE_PLAIN, &[text], one.as_str())?;
+    let two = format!(in rt.alloc(); "{third}{fourth}units 2, not undoable 0, rows 2\n")?;
+    let text = "283C105D-E730-11F1-97FF-02FC00000001:10-11";
+    check(&rt, &IN_USE_PLAIN, &[text], two.as_str())?;
+    let end = format!(in rt.alloc(); "{last}units 1, not undoable 1, rows 0\n")?;
+    let text = "283c105d-e730-11f1-97ff-02fc00000001:14-20";
+    check(&rt, &IN_USE_PLAIN, &[text], end.as_str())?;
+    let both = format!(in rt.alloc(); "{third}{last}units 2, not undoable 1, rows 1\n")?;
+    let texts = [
+        "283c105d-e730-11f1-97ff-02fc00000001:14",
+        "283c105d-e730-11f1-97ff-02fc00000001:10",
+    ];
+    check(&rt, &IN_USE_PLAIN, &texts, both.as_str())
+}
+
+const NONE: &str = "units 0, not undoable 0, rows 0\n";
+
+#[test]
+fn ids_of_others_choose_no_unit(rt: HostRuntime) -> Result<(), Fail> {
+    for text in [
+        "283c105d-e730-11f1-97ff-02fc00000002:1-20",
+        "283c105d-e730-11f1-97ff-02fc00000001:1-7",
+        "283c105d-e730-11f1-97ff-02fc00000001:15-20",
+        "283c105d-e730-11f1-97ff-02fc00000001:tag1:1-20",
+        "00000000-0000-0000-0000-000000000000:1-20",
+    ] {
+        check(&rt, &IN_USE_PLAIN, &[text], NONE)?;
+    }
+    Ok(())
+}
+
+#[test]
+fn an_id_with_a_tag_chooses_its_unit(rt: HostRuntime) -> Result<(), Fail> {
+    let line =
+        "       198        464  2026-11-26 00:52:14          18  9dc90577-e933-11f1-9db2-02fc00000001:tag1:1  `d`.`t` inserts 1
+units 1, not undoable 0, rows 1
+";
+    check(&rt, &tagged::TAGGED, &[], line)?;
+    let text = "9dc90577-e933-11f1-9db2-02fc00000001:tag1:1-4";
+    check(&rt, &tagged::TAGGED, &[text], line)?;
+    for text in [
+        "9dc90577-e933-11f1-9db2-02fc00000001:1-9",
+        "9dc90577-e933-11f1-9db2-02fc00000001:tag:1-9",
+        "9dc90577-e933-11f1-9db2-02fc00000001:tag11:1-9",
+        "9dc90577-e933-11f1-9db2-02fc00000001:tag1:2-9",
+    ] {
+        check(&rt, &tagged::TAGGED, &[text], NONE)?;
+    }
+    Ok(())
+}
+
+#[test]
+fn units_whose_id_is_not_known_are_not_chosen(rt: HostRuntime) -> Result<(), Fail> {
+    let bytes = build(
+        &rt,
+        &[GTID, BEGIN, XID, ANONYMOUS_GTID, BEGIN, XID, BEGIN, XID],
+    )?;
+    let text = "00000000-0000-0000-0000-000000000000:1-18446744073709551615";
+    check(&rt, &bytes, &[text], NONE)
+}
+
+/// A Gtid event of this server, number and tag.
+fn gtid_of(rt: &impl AllocGlobal, server: u8, number: u64, tag: &[u8]) -> Result<Vec<u8>, Fail> {
+    let mut body = Vec::new(rt.alloc());
+    body.push(1)?;
+    for n in 0..16u8 {
+        body.push(server.wrapping_mul(n).wrapping_add(n / 2))?;
+    }
+    body.extend_from_slice(&number.to_le_bytes())?;
+    if !tag.is_empty() {
+        body.push(42)?;
+        body.extend_from_slice(tag)?;
+    }
+    Ok(body)
+}
+
+/// Ids of many servers, with the ends of ranges as numbers, with and without tags. Each is listed with a text.
+#[test]
+fn the_text_of_an_id_chooses_its_unit_alone(rt: HostRuntime) -> Result<(), Fail> {
+    let mut bodies = Vec::new(rt.alloc());
+    for server in [0, 1, 16, 171, 255] {
+        for number in [1, 9, 10, 4_294_967_296, 18_446_744_073_709_551_615] {
+            for tag in ["", "_", "a", "tag1", "abcdefghijklmnopqrstuvwxyz_12345"] {
+                bodies.push(gtid_of(&rt, server, number, tag.as_bytes())?)?;
+            }
+        }
+    }
+    let mut parts = Vec::new(rt.alloc());
+    for body in &bodies {
+        parts.push(Part::Other {
+            kind: 33,
+            flags: 0,
+            body: body.as_slice(),
+        })?;
+        parts.push(BEGIN)?;
+        parts.push(XID)?;
+    }
+    let bytes = build(&rt, parts.as_slice())?;
+    let all = list_of(&rt, &bytes, &[])?;
+    let mut units = 0_usize;
+    for line in all.lines() {
+        let Some(shown) = line.strip_suffix("  no rows") else {
+            continue;
+        };
+        let (_, text) = shown.rsplit_once("  ").expect(&rt, "an id");
+        let lines = format!(in rt.alloc(); "{line}\nunits 1, not undoable 0, rows 0\n")?;
+        check(&rt, &bytes, &[text], lines.as_str())?;
+        units = units.wrapping_add(1);
+    }
+    assert_eq!(rt; units, bodies.len());
+    Ok(())
+}
