@@ -68,17 +68,17 @@ man_examples() {
     sed -n 's/^\.Dl \$ //p' "man/$1.1" | sed "s/\\\\-/-/g; s/\\\\(aq/'/g"
 }
 
-# The folder in which an example, or those of a man page, run: binlog.000042 has checksums for binlog, and none for
-# flashback; to list there is plain.000042, and to cut undo.binlog, which undoes it. Its transaction that deletes begins at 842 and stops at 1143, where the pages
-# have 4021 and 9144.
+# The folder in which an example, or those of a man page, run: binlog.000042 has checksums for binlog, and none for flashback; to
+# list there is binlog.000041 too, and to cut undo.binlog, which undoes the plain log. Where the pages have 4021 and 9144, the transaction
+# that deletes begins at 811 and stops at 1215, and in the plain log at 842 and at 1143.
 begin_folder() {
     rm -rf "$work/here"
     mkdir "$work/here"
     case $1 in
         flashback*) cp "$work/logs/plain" "$work/here/binlog.000042" ;;
         "binlog list"*)
-            cp "$work/logs/plain" "$work/here/plain.000041"
-            cp "$work/logs/plain" "$work/here/plain.000042"
+            cp examples/mysql/crc32_closed.binlog "$work/here/binlog.000041"
+            cp examples/mysql/crc32_closed.binlog "$work/here/binlog.000042"
             ;;
         "binlog split"* | "binlog sql"*) cp "$work/logs/undo" "$work/here/undo.binlog" ;;
         binlog*) cp examples/mysql/crc32_closed.binlog "$work/here/binlog.000042" ;;
@@ -97,7 +97,11 @@ written() {
 # an example, what it prints, the log that it writes, and its status; of a help the first line alone
 run_example() {
     echo "\$ $1"
-    command=$(printf '%s\n' "$1" | sed 's/-j 4021/-j 842/; s/--stop-position 9144/--stop-position 1143/')
+    case $1 in
+        flashback*) start=842 stop=1143 ;;
+        *) start=811 stop=1215 ;;
+    esac
+    command=$(printf '%s\n' "$1" | sed "s/-j 4021/-j $start/; s/--stop-position 9144/--stop-position $stop/")
     status=0
     (cd "$work/here" && sh -c "$command") > "$work/output" 2>&1 || status=$?
     case $1 in
@@ -111,7 +115,7 @@ run_example() {
 
 # each example of a help begins anew, those of a man page go on where the last one stopped
 run_examples() {
-    for page in flashback binlog "binlog plain" "binlog list" "binlog split" "binlog sql"; do
+    for page in flashback binlog "binlog list" "binlog undo" "binlog redo" "binlog plain" "binlog split" "binlog sql"; do
         echo "## $page --help"
         help_examples $page > "$work/commands"
         while read -r command; do
@@ -235,14 +239,14 @@ pages_are_sound() {
 }
 
 options_agree() {
-    for page in flashback binlog "binlog plain" "binlog list" "binlog split" "binlog sql"; do
+    for page in flashback binlog "binlog list" "binlog undo" "binlog redo" "binlog plain" "binlog split" "binlog sql"; do
         help_options $page > "$work/options"
         completed $page | cmp -s "$work/options" - || differs "completion of $page has other options than its help"
     done
     for page in flashback binlog; do
         {
             help_options "$page"
-            [ "$page" = flashback ] || { help_options binlog plain && help_options binlog list && help_options binlog split && help_options binlog sql; }
+            [ "$page" = flashback ] || { help_options binlog list && help_options binlog undo && help_options binlog redo; help_options binlog plain && help_options binlog split && help_options binlog sql; }
         } | LC_ALL=C sort -u > "$work/options"
         man_options "$page" | cmp -s "$work/options" - || differs "$page.1 has other options than its help"
     done

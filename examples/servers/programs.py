@@ -41,11 +41,11 @@ class Programs:
     def undo(self, log, result, *options):
         self._run(self.flashback, "-B", *options, "-r", result, log)
 
-    def command(self, name, log):
+    def command(self, name, log, *options):
         """What a command of binlog prints for a log."""
         if name not in self.commands:
             raise NotTried(f"binlog has no command {name}")
-        return self._run(self.binlog, name, log)
+        return self._run(self.binlog, name, *options, log)
 
 
 class Report:

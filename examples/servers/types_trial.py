@@ -60,7 +60,7 @@ def try_own_log(server, programs, report, kept, tables):
             tables.go_and_return(report, "1: by mysqlbinlog", lambda: apply_log(server, undo), lambda: apply_log(server, redo))
         by_sql(server, programs, report, tables, "1: by binlog sql", undo, redo)
         tables.go_and_return(report, "1: by binlog undo and binlog redo",
-                             lambda: apply_sql(server, programs.command("undo", tables.log)),
+                             lambda: apply_sql(server, programs.command("undo", tables.log, "--anyway")),
                              lambda: apply_sql(server, programs.command("redo", tables.log)))
 
 
@@ -83,7 +83,7 @@ def make_logs(server, programs, kept, log, undo, redo):
         of_both = [server.folder / f"both.{kind}" for kind in ("undo", "redo")]
         programs.undo(plain, of_both[0], "-d", BOTH)
         programs.undo(of_both[0], of_both[1])
-        kept[BOTH] = Kept(*(path.read_bytes() for path in of_both))
+        kept[BOTH] = Kept(*(path.read_bytes() for path in (*of_both, log)))
 
 
 def try_log_of_mysql(server, programs, report, kept, tables):
@@ -92,7 +92,10 @@ def try_log_of_mysql(server, programs, report, kept, tables):
         with report.trial(title):
             raise NotTried("no log of MySQL is there")
         return
-    undo, redo = (server.folder / f"both.{kind}" for kind in ("undo", "redo"))
-    for path, log in zip((undo, redo), kept[BOTH]):
-        path.write_bytes(log)
+    undo, redo, log = (server.folder / f"both.{kind}" for kind in ("undo", "redo", "log"))
+    for path, made in zip((undo, redo, log), kept[BOTH]):
+        path.write_bytes(made)
     by_sql(server, programs, report, tables, title, undo, redo)
+    tables.go_and_return(report, "4: MySQL's log, by binlog undo and binlog redo",
+                         lambda: apply_sql(server, programs.command("undo", log, "--anyway", "-d", BOTH)),
+                         lambda: apply_sql(server, programs.command("redo", log, "-d", BOTH)))

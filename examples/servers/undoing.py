@@ -8,7 +8,7 @@ from server import MARIADB
 from tables import BOTH, name_of
 
 Undo = namedtuple("Undo", "before after undo")
-Kept = namedtuple("Kept", "undo redo")
+Kept = namedtuple("Kept", "undo redo log")
 
 
 # MariaDB 10.11 gives these another sum after a SELECT or FLUSH TABLES, though the rows are the same

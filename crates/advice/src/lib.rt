@@ -1,9 +1,12 @@
 //! What to do about each fault, in one sentence for people.
 #![tactic(auto)]
 
+mod schemas;
+
 use blog_device::RunFault;
 use blog_event::Fault;
 use blog_sum::SumFault;
+pub use schemas::no_schema;
 
 const OUT_OF_MEMORY: &str = "run it where one and a half times the log's size is free in memory";
 

@@ -1,4 +1,2 @@
-pub mod Request
 pub mod Status
 pub mod Runs
-pub mod Zones

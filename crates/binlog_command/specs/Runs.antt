@@ -1,6 +1,6 @@
 -- What a run does to the bytes of its devices. Of a device that does not tell its bytes these definitions say that there
 -- are such bytes.
-use Rattle.std.specs.Prelude.{◌≡◌, ◌⊎◌, ◌<◌, ℕ, Bool, true, false, List, [], ◌∷◌, length, ⊤, String, Vec, Option, None, Some, option_map, Result, Ok, Err}
+use Rattle.std.specs.Prelude.{◌≡◌, ◌⊎◌, ◌<◌, ℕ, Bool, true, false, List, [], ◌∷◌, length, ⊤, String, Vec, Option, None, Some, Result, Ok, Err}
 use Rattle.std.specs.Io.KnownBytes.{Keeps, Appends}
 use Rattle.blog_event.specs.declared.fault.Fault.{Fault}
 use Rattle.blog_event.specs.declared.fault.Fault.TheVariants.{TooLong, OutOfMemory as NoMemory}
@@ -14,25 +14,26 @@ use Rattle.blog_source.specs.Plain.{plain_log}
 use Rattle.blog_source.specs.declared.reading.Reading.{Reading}
 use Rattle.blog_source.specs.Found.{found_of, source_refusal}
 use Rattle.blog_source.specs.Handed.{handed_log}
-use Rattle.blog_source.specs.Places.{place_of}
 use Rattle.blog_source.specs.code.SourceView.{damaged_of, end_of, fault_of, log_of}
 use Rattle.blog_source.specs.declared.source.Source.{Source}
-use Rattle.blog_event.specs.Fault.{name_of, position_of}
 use Rattle.blog_event.specs.Opening.{opening_fault}
 use Rattle.jiff.specs.Types.{TimeZone}
 use Rattle.list_run.specs.Listed.{ListsLogs, MayFollow}
 use Rattle.list_run.specs.declared.fault.ListFault.{ListFault}
 use Rattle.list_run.specs.declared.given.GivenLog.{GivenLog}
 use Rattle.blog_request.specs.declared.wanted.Wanted.{Wanted}
-use Rattle.binlog_command.specs.Request.{HasTask, asks_for_list}
-use Rattle.binlog_command.specs.Zones.{IsZoneOf}
-use Rattle.binlog_command.specs.declared.list_arguments.ListTask.{ListTask}
+use Rattle.binlog_arguments.specs.Request.{HasPartWriting, HasTask, asks_for_list, asks_for_part}
+use Rattle.binlog_arguments.specs.declared.undo_arguments.PartTask.{PartTask}
+use Rattle.undo_run.specs.Parts.{CanBe, IsPlaced, OfOpened, WritesPart, part_report}
+use Rattle.undo_run.specs.declared.fault.PartFault.{PartFault}
+use Rattle.binlog_arguments.specs.Zones.{IsZoneOf}
+use Rattle.binlog_arguments.specs.declared.list_arguments.ListTask.{ListTask}
 use Rattle.binlog_command.specs.declared.commands.Failure.{Failure}
-use Rattle.binlog_command.specs.declared.commands.Failure.TheVariants.{NewLog as NoNewLog, List as NoList}
+use Rattle.binlog_command.specs.declared.commands.Failure.TheVariants.{NewLog as NoNewLog, List as NoList, Part as NoPart}
 use Rattle.binlog_command.specs.declared.commands.NewLogFault.{NewLogFault}
 use Rattle.binlog_command.specs.declared.commands.NewLogFault.TheVariants.{Run, Sums, Split as Cut, NoSchema}
-use Rattle.binlog_command.specs.declared.arguments.Making.{Making}
-use Rattle.binlog_command.specs.declared.arguments.Making.TheVariants.{Plain, Changes}
+use Rattle.binlog_arguments.specs.declared.arguments.Making.{Making}
+use Rattle.binlog_arguments.specs.declared.arguments.Making.TheVariants.{Plain, Changes}
 use Rattle.blog_split.specs.declared.fault.SplitFault.{SplitFault}
 use Rattle.blog_split.specs.declared.fault.SplitFault.TheVariants.{Log as OfLog, TooLong as TooLongCut}
 use Rattle.blog_run.specs.Writing.{CanBeWritten, end_of_text, lacks, text_of}
@@ -41,15 +42,11 @@ use Rattle.blog_run.specs.declared.fault.WritingFault.{WritingFault}
 use Rattle.blog_run.specs.declared.fault.WritingFault.TheVariants as writing
 use Rattle.blog_trans.specs.Acceptance.{IsAccepted, IsRefusal, fault}
 use Rattle.blog_trans.specs.Groups.{groups}
-use Rattle.blog_trans.specs.Selection.{all}
+use Rattle.blog_trans.specs.Selection.{all, selection_of}
 
 -- this log was read, and it isn't whole: this is its first fault
 abbrev pub RefusesSums : Option (List ℕ) → Option (List ℕ) → SumFault → Type 0
 RefusesSums old new fault = (log : List ℕ) × ReadsLog old new log × (sum_fault log ≡ Some fault)
-
--- a fault of the log that a source hands out, which was read up to an end, at its place in the server's log
-abbrev pub IsPlaced : List ℕ → ℕ → Fault → Fault → Type 0
-IsPlaced handed end inner fault = (name_of fault ≡ name_of inner) × (position_of fault ≡ option_map (place_of handed end) (position_of inner))
 
 -- the log that a source hands out is refused, or memory was: this is the fault at its place
 abbrev pub RefusesHanded : List ℕ → ℕ → Fault → Type 0
@@ -142,6 +139,33 @@ is_failed_write (Err (Run Write)) = true
 is_failed_write (Err (Sums fault)) = false
 is_failed_write (Err (Cut fault)) = false
 is_failed_write (Err (NoSchema text)) = false
+
+-- ---- parts of logs
+
+-- the arguments ask for `undo` or `redo`, where there are any
+abbrev pub may_report : {A B E : Type 0} → Result (Vec (String A) B) E → Bool
+may_report (Ok arguments) = asks_for_part arguments.items
+may_report (Err error) = false
+
+-- the outcome is that of writing a part of a log, of which this holds
+abbrev pub OfPart : {A : Type 0} → (Result (Vec ℕ A) (PartFault A) → Type 0) → Result Unit (Failure A) → Type 0
+OfPart P (Ok done) = (told : Vec ℕ _) × P (Ok told)
+OfPart P (Err (NoPart fault)) = P (Err fault)
+OfPart P (Err failure) = ⊥
+
+-- a task's part is written, as it is written at this time
+abbrev pub WritesTask : {A : Type 0} → PartTask A → ℕ → Option (List ℕ) → Option (List ℕ) → Option (List ℕ) → Option (List ℕ) → Result Unit (Failure A) → Type 0
+WritesTask task now old new had has result = (how : Writing) × HasPartWriting task now how
+    × OfPart (WritesPart how task.sql.log.now (selection_of task.part) old new had has) result
+
+-- this is reported of a task's part, of the log that was read
+abbrev pub IsToldOf : {A : Type 0} → Writing → PartTask A → Option (List ℕ) → Option (List ℕ) → List ℕ → Type 0
+IsToldOf how task old new told = OfOpened (selection_of task.part) old new
+    (λ bytes. CanBe how (selection_of task.part) bytes × (told ≡ part_report how task.sql.log.now (selection_of task.part) bytes))
+
+-- and it is written
+abbrev pub TellsPart : {A : Type 0} → PartTask A → ℕ → Option (List ℕ) → Option (List ℕ) → Option (List ℕ) → Option (List ℕ) → Type 0
+TellsPart task now old new had has = (how : Writing) × HasPartWriting task now how × ((told : List ℕ) × IsToldOf how task old new told × Appends had has told)
 
 -- ---- lists
 

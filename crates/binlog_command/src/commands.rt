@@ -3,26 +3,28 @@
 ghost use Rattle.std.specs.Prelude.{◌≡◌, ◌↔◌, ◌⊎◌, ◌≤◌, ◌||◌, IfErr, IsErr, IsOk, IsSome, None, OnErr, false, true};
 ghost use Rattle.std.specs.Process.{exit_status};
 ghost use Rattle.blog_device.specs.Watched.{device_of, has_failed};
-ghost use Rattle.binlog_command.specs.Request.{HasShortMaking, HasSqlOptions, as_sql, asks_for_list};
+ghost use Rattle.binlog_arguments.specs.Request.{HasShortMaking, HasSqlOptions, as_sql, asks_for_list, asks_for_part};
 ghost use Rattle.blog_sql.specs.Changed.{HaveShortNames};
 ghost use Rattle.blog_run.specs.Writing.{HasShortWriting, is_before_writing, is_failed_writing};
 ghost use Rattle.blog_sql.specs.declared.options.SqlOptions.{SqlOptions};
 ghost use Rattle.binlog_command.specs.Status.{status_of};
 ghost use Rattle.blog_source.specs.code.SourceView.{end_of, log_of};
-ghost use Rattle.binlog_command.specs.Runs.{OpensWhole, WritesSource, MayFollowList, OfNewLog, WritesNewLog, is_failed_read, is_failed_write, may_list};
+ghost use Rattle.binlog_command.specs.Runs.{OpensWhole, WritesSource, MayFollowList, OfNewLog, WritesNewLog, is_failed_read, is_failed_write, may_list, may_report};
 ghost use Rattle.blog_device.specs.Devices.{is_read_fault, is_write_fault};
-ghost use Rattle.binlog_command.specs.declared.commands.Failure.TheVariants.{Arguments, List, NewLog, ResultFile};
+ghost use Rattle.binlog_command.specs.declared.commands.Failure.TheVariants.{Arguments, List, NewLog, Part, ResultFile};
 ghost use Rattle.blog_event.specs.declared.fault.Fault.TheVariants.{OutOfMemory};
 ghost use Rattle.list_run.specs.declared.fault.ListFault.TheVariants.{Run as OfRun};
 ghost use Rattle.blog_device.specs.declared.fault.RunFault.TheVariants.{Log as OfLog};
 ghost use Rattle.binlog_command.specs.declared.commands.NewLogFault.TheVariants.{Run, Sums};
-ghost use Rattle.binlog_command.specs.declared.arguments.Making.TheVariants as made;
+ghost use Rattle.binlog_arguments.specs.declared.arguments.Making.TheVariants as made;
 
-use crate::arguments::{ArgumentsFault, Asked, Making, NewLogTask, read_arguments};
 use crate::list_runs::run_list;
 use crate::log_file::{LogFault, open_log};
+use crate::part_runs::run_part;
 use crate::schemas::no_schema;
-use crate::sql_arguments::SqlTask;
+use binlog_arguments::{
+    ArgumentsFault, Asked, Making, NewLogTask, PartTask, SqlTask, read_arguments,
+};
 use blog_device::{RunFault, Watched, put, read_log};
 use blog_event::Fault;
 use blog_run::{Writing, WritingFault, write_changes};
@@ -37,6 +39,7 @@ use std::io;
 use std::io::{Read, Write};
 use std::process::ExitCode;
 use std::rt::{Env, Files};
+use undo_run::PartFault;
 
 /// What the program knows of its own process.
 #[derive(Clone, Copy, Debug)]
@@ -66,6 +69,8 @@ pub enum Failure<'a, A: Allocator> {
     NewLog(NewLogFault<A>),
     /// The log of the first path is that of the second.
     GivenTwice(&'a str, &'a str),
+    /// The part of a log isn't written.
+    Part(PartFault<A>),
     /// The list isn't whole. The path is that of the log for which it isn't, where several are listed.
     List(Option<&'a str>, ListFault),
 }
@@ -132,6 +137,14 @@ impl<'a, A: Allocator> From<NewLogFault<A>> for Failure<'a, A> {
     }
 }
 
+impl<'a, A: Allocator> From<PartFault<A>> for Failure<'a, A> {
+    ghost from_gives = { λ fault failure. failure ≡ Part fault };
+
+    fn from(fault: PartFault<A>) -> Failure<'a, A> {
+        Failure::Part(fault)
+    }
+}
+
 impl<'a, A: Allocator> From<FileFault<'a, A>> for Failure<'a, A> {
     ghost from_gives = { λ fault failure. failure ≡ ResultFile fault };
 
@@ -158,7 +171,8 @@ impl<A: Allocator> From<SumFault> for NewLogFault<A> {
 
 /// Does what the arguments ask for, and answers the exit status: 0 where it is done, 1 where the log is
 /// refused or something failed, 2 where the arguments are wrong. `arguments` is the system's answer, which
-/// begins with the program's name. Where the status isn't 0 the reason is printed to `errors`.
+/// begins with the program's name. Where the status isn't 0 the reason is printed to `errors`. So is the report of a part of a log that
+/// is written to `output`.
 ///
 /// Memory is taken from `alloc`; the parser of the arguments takes it from the system.
 pub fn command<R: Files + Env + AllocGlobal, A: Allocator + Copy, O: Write, E: Write>(
@@ -171,9 +185,9 @@ pub fn command<R: Files + Env + AllocGlobal, A: Allocator + Copy, O: Write, E: W
 ) -> ExitCode
     ensures status { exit_status result ≤ 2 }
 
-    // Nothing is printed where all is done, and nothing is written where the arguments are wrong
-    // or aren't there.
-    ensures quiet { exit_status result ≡ 0 → errors.new ≡ errors.old }
+    // Nothing is printed where all is done, but for the report of a part of a log; and nothing is written where the arguments are
+    // wrong or aren't there.
+    ensures quiet { may_report arguments ≡ false → exit_status result ≡ 0 → errors.new ≡ errors.old }
     ensures unwritten { exit_status result ≡ 2 → output.new ≡ output.old }
     ensures unread { IsErr arguments → (1 ≤ exit_status result) × (output.new ≡ output.old) }
 
@@ -188,7 +202,7 @@ pub fn command<R: Files + Env + AllocGlobal, A: Allocator + Copy, O: Write, E: W
             return report(outcome, errors);
         }
     };
-    let outcome = carry_out(rt, alloc, process, arguments.as_slice(), output);
+    let outcome = carry_out(rt, alloc, process, arguments.as_slice(), output, errors);
     report(outcome, errors)
 }
 
@@ -209,13 +223,15 @@ fn report<A: Allocator, E: Write>(
     }
 }
 
-fn carry_out<'a, R: Files + Env + AllocGlobal, A: Allocator + Copy, O: Write>(
+fn carry_out<'a, R: Files + Env + AllocGlobal, A: Allocator + Copy, O: Write, E: Write>(
     rt: &R,
     alloc: A,
     process: Process,
     arguments: &'a [String],
     output: &mut Watched<O>,
+    errors: &mut Watched<E>,
 ) -> Result<(), Failure<'a, A>>
+    ensures quiet { asks_for_part arguments.now ≡ false → errors.new ≡ errors.old }
     ensures unwritten { IfErr result (λ f. status_of f ≡ 2 → output.new ≡ output.old) }
     ensures refused { OnErr result (asks_for_list arguments.now ≡ false → has_failed output.new ≡ false → output.new ≡ output.old) }
     ensures begun { IfErr result (λ f. has_failed output.new ≡ false → (output.new ≡ output.old) ⊎ MayFollowList f) }
@@ -235,6 +251,11 @@ fn carry_out<'a, R: Files + Env + AllocGlobal, A: Allocator + Copy, O: Write>(
             run_sql(rt, alloc, process, &mut reader, &task, output)?
         }
         Asked::List(task) => run_list(rt, alloc, process.seed, &task, output)?,
+        Asked::Part(task) => {
+            check_part_output(process, &task)?;
+            let mut reader = open_log(rt, task.sql.log)?;
+            run_part(rt, alloc, process, &mut reader, &task, output, errors)?
+        }
     }
     Ok(())
 }
@@ -248,6 +269,25 @@ fn check_output<'a, A: Allocator>(
     ensures status { IfErr result (λ f. status_of f ≡ 1) }
 {
     if process.writes_to_terminal && task.result_file.is_none() {
+        Err(Failure::Terminal)
+    } else {
+        Ok(())
+    }
+}
+
+/// Neither is a part of a log that is written as one.
+fn check_part_output<'a, A: Allocator>(
+    process: Process,
+    task: &PartTask<'a, A>,
+) -> Result<(), Failure<'a, A>>
+    ensures refused { IsErr result ↔ (process.writes_to_terminal ≡ true) × (task.now.as_log ≡ true) × (task.now.dry_run ≡ false) × (task.now.sql.result_file ≡ None) }
+    ensures status { IfErr result (λ f. status_of f ≡ 1) }
+{
+    if process.writes_to_terminal
+        && task.as_log
+        && !task.dry_run
+        && task.sql.result_file.is_none()
+    {
         Err(Failure::Terminal)
     } else {
         Ok(())

@@ -1,8 +1,8 @@
 //! The lines on standard error.
 
-use crate::arguments::ArgumentsFault;
 use crate::commands::{Failure, NewLogFault};
 use crate::log_file::LogFault;
+use binlog_arguments::ArgumentsFault;
 use blog_device::{RunFault, Watched, put};
 use blog_event::Fault;
 use blog_split::SplitFault;
@@ -12,6 +12,7 @@ use result_file::FileFault;
 use std::alloc::Allocator;
 use std::fmt;
 use std::io::Write;
+use undo_run::PartFault;
 
 impl<A: Allocator> Failure<'_, A> {
     /// Prints the failure. What can't be printed is dropped.
@@ -50,6 +51,7 @@ impl<A: Allocator> fmt::Display for Failure<'_, A> {
                 f,
                 "the log is given twice: {path} is {same}: give it once"
             ),
+            Failure::Part(fault) => print_part_fault(f, fault),
             Failure::List(_, ListFault::Run(RunFault::Write)) => print_run_fault(
                 f,
                 &RunFault::Write,
@@ -67,6 +69,25 @@ impl<A: Allocator> fmt::Display for Failure<'_, A> {
             Failure::NewLog(NewLogFault::Split(SplitFault::TooLong)) => f.write_str(CUT_TOO_LONG),
             Failure::NewLog(NewLogFault::NoSchema(text)) => f.write_str(text.as_str()),
         }
+    }
+}
+
+/// Why a part of a log isn't written.
+fn print_part_fault<W: fmt::Write, A: Allocator>(
+    f: &mut fmt::Formatter<W>,
+    fault: &PartFault<A>,
+) -> fmt::Result {
+    match fault {
+        PartFault::Run(fault) => print_run_fault(f, fault),
+        PartFault::Sums(fault) => write!(f, "{fault}: {}", advice::of_sums(fault)),
+        PartFault::NoEventAt(pos) => {
+            let fault = Fault::NoEventAt { pos: *pos };
+            write!(f, "{fault}: {}", advice::of_log(&fault))
+        }
+        PartFault::Log(fault) => write!(f, "{fault}: {}", advice::of_log(fault)),
+        PartFault::NothingSelected => f.write_str(NOTHING_SELECTED),
+        PartFault::TooLong => f.write_str(CUT_TOO_LONG),
+        PartFault::NoSchema(text) => f.write_str(text.as_str()),
     }
 }
 
@@ -153,7 +174,7 @@ fn print_file_fault<W: fmt::Write, A: Allocator>(
         ),
         FileFault::NamesTaken(path) => write!(
             f,
-            "the temporary names beside the result file are taken: {path}: remove old files .NAME.NUMBER.tmp there"
+            "the temporary names beside the result file are taken: {path}: remove old files .NAME.PROCESS.NUMBER.tmp there"
         ),
         FileFault::OutOfMemory => {
             let fault = Fault::OutOfMemory;
@@ -189,6 +210,9 @@ const TERMINAL: &str =
 
 const ENCRYPTED: &str =
     "fetch it from its server by mysqlbinlog --read-from-remote-server --raw, which decrypts it";
+
+const NOTHING_SELECTED: &str =
+    "NothingSelected: no row of these tables is changed in this range: see binlog list";
 
 const CUT_TOO_LONG: &str =
     "TooLong: cut so small the log would have more than 4294967295 bytes: give a larger --size";

@@ -7,8 +7,8 @@ ghost use Rattle.list_run.specs.Listed.{has_failed_write};
 ghost use Rattle.binlog_command.specs.Status.{status_of};
 
 use crate::commands::Failure;
-use crate::list_arguments::ListTask;
 use crate::log_file::open_logs;
+use binlog_arguments::ListTask;
 use blog_device::Watched;
 use blog_list::Style;
 use list_run::{GivenLog, list_logs};

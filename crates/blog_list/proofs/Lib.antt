@@ -1,9 +1,4 @@
 mod Ending
 mod Growing
-mod JsonBytes
-mod JsonLanes
-mod Largest
-mod Marking
 mod OnTheWay
-mod Plain
 mod Whole

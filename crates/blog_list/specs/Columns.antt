@@ -5,7 +5,7 @@ use Rattle.jiff.specs.Types.{TimeZone}
 use Rattle.jiff.specs.Words.{IsInfoAt, abbreviation_text, plain_zone, zone_name}
 use Rattle.jiff_tz.specs.declared.info.OffsetInfo.{OffsetInfo}
 use Rattle.blog_list.specs.declared.column.TimeColumn.{TimeColumn}
-use Rattle.blog_list.specs.Escapes.{escaped}
+use Rattle.blog_text.specs.Escapes.{escaped}
 use Rattle.blog_list.specs.Times.{IsTimeText, instant}
 
 -- the heading of this name, escaped

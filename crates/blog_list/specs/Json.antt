@@ -1,42 +1,18 @@
 -- A list as JSON (RFC 8259): texts as strings, the object of a unit, and those of the totals.
-use Rattle.std.specs.Prelude.{ℕ, ◌-◌, ◌==◌, ◌&&◌, ◌||◌, Bool, nat_le, nat_lt, if◌then◌else◌, List, [], ◌∷◌, ◌++◌, Option, Some, None, false, unwrap_or, Result, Ok, Err, codes, encode_utf8}
+use Rattle.std.specs.Prelude.{ℕ, ◌-◌, ◌==◌, ◌&&◌, Bool, nat_le, nat_lt, if◌then◌else◌, List, [], ◌∷◌, ◌++◌, Option, Some, None, false, unwrap_or, Result, Ok, Err, codes}
 use Rattle.std.specs.Char.{is_control}
 use Rattle.std.specs.List.{flat_map}
 use Rattle.std.specs.Str.{is_utf8}
 use Rattle.bstr.specs.Utf8.{lossy_chars}
-use Rattle.hex.specs.Hex.{encode_lower, encode_upper}
+use Rattle.hex.specs.Hex.{encode_upper}
 use Rattle.unicode_width.specs.Width.{char_width}
 use Rattle.blog_trans.specs.Changes.{TableCount}
 use Rattle.blog_units.specs.Units.{Id}
+use Rattle.blog_text.specs.JsonStrings.{json_char, json_string}
 use Rattle.blog_list.specs.declared.totals.Totals.{Totals}
 use Rattle.blog_list.specs.Lines.{LogList, Refusal, Shown, at_most, id_text, numbered, sum_damaged, sum_passed_over, sum_refused, sum_rows, sum_units}
 
--- ---- strings
-
--- a control character by its number
-abbrev pub json_control : ℕ → List ℕ
-json_control byte = codes "\\u00" ++ encode_lower (byte ∷ [])
-
--- a control character that JSON allows in a string: U+007F to U+009F
-abbrev pub is_high_control : ℕ → Bool
-is_high_control c = nat_le 0x7F c && nat_le c 0x9F
-
--- a character of a string
-abbrev pub json_char : ℕ → List ℕ
-json_char c =
-    if c == 0x22 then codes "\\\""
-    else if c == 0x5C then codes "\\\\"
-    else if c == 0x0A then codes "\\n"
-    else if c == 0x09 then codes "\\t"
-    else if c == 0x0D then codes "\\r"
-    else if c == 0x08 then codes "\\b"
-    else if c == 0x0C then codes "\\f"
-    else if nat_lt c 0x20 || is_high_control c then json_control c
-    else encode_utf8 c
-
--- bytes as a string, with U+FFFD for what is no character
-abbrev pub json_string : List ℕ → List ℕ
-json_string text = 34 ∷ (flat_map json_char (lossy_chars text) ++ 34 ∷ [])
+-- ---- parts of strings
 
 -- a name as text, and in hexadecimal digits if it isn't UTF-8, after the names of these members
 unfoldable pub json_name : List ℕ → List ℕ → List ℕ → List ℕ

@@ -1,11 +1,8 @@
 pub mod Columns
-pub mod Escapes
 pub mod Json
-pub mod Laws
 pub mod Lines
 pub mod Lists
 pub mod Shown
-pub mod Tables
 pub mod Texts
 pub mod Times
 pub mod code

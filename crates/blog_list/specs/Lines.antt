@@ -7,8 +7,8 @@ use Rattle.std.specs.Fmt.{decimal}
 use Rattle.hex.specs.Hex.{encode_lower}
 use Rattle.blog_trans.specs.Changes.{TableCount}
 use Rattle.blog_units.specs.Units.{Id}
-use Rattle.blog_list.specs.Escapes.{beginning, escaped, marks}
-use Rattle.blog_list.specs.Tables.{counts_text}
+use Rattle.blog_text.specs.Escapes.{beginning, escaped, marks}
+use Rattle.blog_text.specs.Tables.{counts_text}
 
 -- Why a unit can't be undone: the name and the position of a fault; and of the event there the text, where it is a statement, or
 -- else what it is, where that is known.

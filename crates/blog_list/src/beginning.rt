@@ -4,8 +4,7 @@ ghost use Rattle.std.specs.Prelude.{◌≡◌, ◌++◌, OnOk};
 ghost use Rattle.bstr.specs.Utf8.{lossy_chars};
 ghost use Rattle.blog_list.specs.Json.{json_beginning, json_columns, without_control};
 
-use crate::json_text::put_char;
-use crate::texts::put_text;
+use blog_text::{put_char, put_text};
 use bstr::ByteSlice;
 use std::alloc::{AllocError, Allocator};
 use unicode_width::UnicodeWidthChar;

@@ -5,9 +5,8 @@ ghost use Rattle.jiff.specs.Words.{plain_zone};
 ghost use Rattle.blog_list.specs.Columns.{IsHeading, IsPadded, IsSeasonsHeading, IsTimeColumn, PutsTime, heading, heading_of_two};
 ghost use Rattle.blog_list.specs.Lines.{room_beside};
 
-use crate::escapes::put_escaped;
-use crate::texts::put_text;
 use crate::times::{instant_of, time_text};
+use blog_text::{put_escaped, put_text};
 use jiff::tz::TimeZone;
 use std::alloc::{AllocError, Allocator};
 

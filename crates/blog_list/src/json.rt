@@ -15,13 +15,12 @@ ghost use Rattle.blog_list.specs.code.Told.{PutsJsonLine, shown_told, source_pla
 
 use crate::beginning::put_beginning;
 use crate::fault_events::{name_in, statement_of, words_of};
-use crate::json_text::{put_lossy, put_str, put_string};
 use crate::lines::put_id;
-use crate::texts::put_text;
 use crate::times::rfc_3339_text;
 use crate::totals::{Totals, put_numbered};
 use blog_event::{Fault, Log};
 use blog_source::Source;
+use blog_text::{put_lossy, put_str, put_string, put_text};
 use blog_trans::{Index, TableCount};
 use blog_units::{GlobalId, Unit};
 use jiff::tz::TimeZone;

@@ -4,23 +4,19 @@
 
 mod beginning;
 mod column;
-mod escapes;
 mod fault_events;
 mod json;
-mod json_text;
 mod laws;
 mod lines;
 mod list_end;
 mod list_writer;
 mod listing;
-mod marks;
 mod places;
-mod tables;
 mod texts;
 mod times;
 mod totals;
 
-pub use laws::{parts_are_a_list, short_texts_are_whole, shown_tables_fit};
+pub use laws::parts_are_a_list;
 pub use list_writer::ListWriter;
 pub use listing::{Form, Style, list};
 pub use times::{Side, TimeFault, rfc_3339_text, seconds_of, time_text};

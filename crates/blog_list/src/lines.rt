@@ -9,12 +9,11 @@ ghost use Rattle.blog_list.specs.code.Told.{PutsLine, shown_told, source_place};
 ghost use Rattle.blog_request.specs.Wanted.{changes_told};
 
 use crate::column::TimeColumn;
-use crate::escapes::{put_beginning, put_escaped};
 use crate::fault_events::{name_in, statement_of, words_of};
-use crate::tables::put_rows;
-use crate::texts::{put_number, put_padded, put_server, put_text};
+use crate::texts::{put_padded, put_server};
 use blog_event::{Fault, Log};
 use blog_source::Source;
+use blog_text::{put_beginning, put_escaped, put_number, put_rows, put_text};
 use blog_units::{GlobalId, Unit};
 use std::alloc::{AllocError, Allocator};
 

@@ -1,47 +1,11 @@
-//! Texts that grow at their end.
+//! Numbers and ids of servers, as lists have them.
 
-ghost use Rattle.std.specs.Prelude.{◌≡◌, ◌≤◌, ◌+◌, ◌-◌, ◌∷◌, ◌++◌, [], OnOk, codes, drop, length, take};
-ghost use Rattle.std.specs.Fmt.{decimal};
-ghost use Rattle.hex.specs.Hex.{encode_lower};
+ghost use Rattle.std.specs.Prelude.{◌≡◌, ◌≤◌, ◌+◌, ◌-◌, ◌++◌, OnOk, codes, drop, take};
 ghost use Rattle.blog_list.specs.Lines.{digits, hyphened, padded, server_text};
 
+use blog_text::{put_hex, put_text};
 use itoa::Buffer;
 use std::alloc::{AllocError, Allocator};
-
-/// Appends a text.
-pub(crate) fn put_text<A: Allocator>(out: &mut Vec<u8, A>, text: &[u8]) -> Result<(), AllocError>
-    ensures { OnOk result (out.new.items ≡ out.old.items ++ text.now) }
-{
-    out.extend_from_slice(text)
-}
-
-/// Appends a number in decimal digits.
-pub(crate) fn put_number<A: Allocator>(out: &mut Vec<u8, A>, n: u64) -> Result<(), AllocError>
-    ensures { OnOk result (out.new.items ≡ out.old.items ++ decimal n) }
-{
-    let mut buffer = Buffer::new();
-    put_text(out, buffer.format(n).as_bytes())
-}
-
-/// Appends a byte in two hexadecimal digits.
-pub(crate) fn put_byte<A: Allocator>(out: &mut Vec<u8, A>, byte: u8) -> Result<(), AllocError>
-    ensures { OnOk result (out.new.items ≡ out.old.items ++ encode_lower (byte ∷ [])) }
-{
-    let mut digits = [0; 2];
-    hex::encode_to_slice([byte].as_slice(), &mut digits).unwrap();
-    put_text(out, &digits)
-}
-
-/// Appends at most 16 bytes in hexadecimal digits.
-pub(crate) fn put_hex<A: Allocator>(out: &mut Vec<u8, A>, bytes: &[u8]) -> Result<(), AllocError>
-    requires { length bytes.now ≤ 16 }
-    ensures { OnOk result (out.new.items ≡ out.old.items ++ encode_lower bytes.now) }
-{
-    let mut digits = [0; 32];
-    let len = 2 * bytes.len();
-    hex::encode_to_slice(bytes, &mut digits[..len]).unwrap();
-    put_text(out, &digits[..len])
-}
 
 /// Appends a number in decimal digits, behind blanks up to ten columns.
 #[tactic(auto, unfolding(crate::specs::Lines::padded))]

@@ -8,8 +8,8 @@ ghost use Rattle.blog_list.specs.Lines.{at_most, line_unless_0, numbered, rows_o
 ghost use Rattle.blog_list.specs.code.Totals.{HasAdded, HasCounted, HasDamaged, totals_text};
 ghost use Rattle.blog_request.specs.Wanted.{changes_told};
 
-use crate::texts::{put_number, put_text};
 use blog_request::Concern;
+use blog_text::{put_number, put_text};
 use blog_trans::Index;
 use blog_units::Unit;
 use std::alloc::{AllocError, Allocator};

@@ -7,4 +7,4 @@ mod written;
 
 pub use fault::WritingFault;
 pub use writing::Writing;
-pub use written::write_changes;
+pub use written::{write_changes, write_groups};

@@ -5,7 +5,7 @@ ghost use Rattle.blog_device.specs.Watched.{device_of, has_failed};
 ghost use Rattle.blog_trans.specs.Selection.{selection_of};
 ghost use Rattle.blog_trans.specs.code.IndexView.{index_bytes, index_selection};
 ghost use Rattle.blog_sql.specs.Changed.{HasShortNames};
-ghost use Rattle.blog_run.specs.Writing.{HasShortWriting, HaveShortNamesIn, WritesChanges, WritesGroups, is_before_writing, is_failed_writing};
+ghost use Rattle.blog_run.specs.Writing.{HasShortWriting, WritesChanges, WritesGroups, is_before_writing, is_failed_writing};
 
 use crate::fault::WritingFault;
 use crate::writing::Writing;
@@ -64,8 +64,8 @@ fn write_sql<A: Allocator + Copy, B: Allocator, W: Write>(
     }
 }
 
-/// Writes the groups of an index, or what undoes them.
-fn write_groups<A: Allocator + Copy, B: Allocator, W: Write>(
+/// Writes the groups of an index, or what undoes them, as `write_changes` does. Fails with `Log` only where memory was refused.
+pub fn write_groups<A: Allocator + Copy, B: Allocator, W: Write>(
     alloc: A,
     writer: &mut Watched<W>,
     index: &Index<'_, '_, B>,

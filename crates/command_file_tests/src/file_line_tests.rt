@@ -52,7 +52,7 @@ fn what_is_there_already_has_its_line(rt: HostRuntime) -> Result<(), Fail> {
     check(
         &rt,
         FileFault::NamesTaken(PATH),
-        "the temporary names beside the result file are taken: a/undo: remove old files .NAME.NUMBER.tmp there",
+        "the temporary names beside the result file are taken: a/undo: remove old files .NAME.PROCESS.NUMBER.tmp there",
     )
 }
 

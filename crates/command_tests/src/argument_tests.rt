@@ -9,10 +9,14 @@ use std::{fs, io};
 /// What is printed after each wrong command.
 const USAGE: &str = "
 
-Usage: binlog plain [-r FILE [--force]] LOG
-       binlog list [-d NAME] [-T NAME] [-j POS] [--stop-position POS]
+Usage: binlog list [-d NAME] [-T NAME] [-j POS] [--stop-position POS]
                    [--start-datetime TIME] [--stop-datetime TIME]
                    [--utc | --time-zone NAME] [--json] LOG..
+       binlog undo --anyway [-j POS] [--stop-position POS] [-d NAME] [-T NAME]
+                   [--dry-run] [-r FILE [--force]] LOG
+       binlog redo [-j POS] [--stop-position POS] [-d NAME] [-T NAME]
+                   [--dry-run] [-r FILE [--force]] LOG
+       binlog plain [-r FILE [--force]] LOG
        binlog split [--size BYTES] [-r FILE [--force]] LOG
        binlog sql [--each-transaction] [--keep-times] [--size BYTES]
                   [--rewrite-db FROM:TO].. [-r FILE [--force]] LOG
@@ -25,13 +29,17 @@ const PLAIN_USAGE: &str =
     "\n\nUsage: binlog plain [-r FILE [--force]] LOG\n\nFor more information, try '--help'.\n";
 
 /// Lines of the help.
-static HELP_LINES: [&str; 11] = [
-    "Usage: binlog plain [-r FILE [--force]] LOG",
-    "       binlog list [-d NAME] [-T NAME] [-j POS] [--stop-position POS]",
+static HELP_LINES: [&str; 15] = [
+    "Usage: binlog list [-d NAME] [-T NAME] [-j POS] [--stop-position POS]",
+    "       binlog undo --anyway [-j POS] [--stop-position POS] [-d NAME] [-T NAME]",
+    "       binlog redo [-j POS] [--stop-position POS] [-d NAME] [-T NAME]",
+    "       binlog plain [-r FILE [--force]] LOG",
     "       binlog split [--size BYTES] [-r FILE [--force]] LOG",
     "                  [--rewrite-db FROM:TO].. [-r FILE [--force]] LOG",
     "Commands:",
     "  plain  Checks every checksum of LOG and writes the same log without checksums.",
+    "  undo   Prints SQL that undoes changes of LOG: it deletes what was inserted, inserts what was deleted, and updates",
+    "  redo   Prints SQL that makes changes of LOG once more, in their order: after an undo that was a mistake, or on a",
     "  list   Lists the units of each LOG: its transactions, and what stands between them and can't be undone.",
     "  split  Cuts each statement of LOG into statements of at most BYTES bytes: their rows events, and the table",
     "  sql    Prints LOG as SQL that makes its changes on a server, in one transaction: all of them, or after any",
@@ -52,7 +60,7 @@ pub(crate) fn check_wrong(rt: &HostRuntime, arguments: &[&str], line: &str) -> R
 #[test]
 fn a_missing_command_is_an_error(rt: HostRuntime) -> Result<(), Fail> {
     let line =
-        "error: 'binlog' requires a subcommand but one was not provided\n  [subcommands: plain, list, split, sql, help]";
+        "error: 'binlog' requires a subcommand but one was not provided\n  [subcommands: list, undo, redo, plain, split, sql, help]";
     check_wrong(&rt, &[], line)
 }
 
@@ -83,12 +91,12 @@ fn a_wrong_command_makes_no_file(rt: HostRuntime) -> Result<(), Fail> {
     let log = path_of(&rt, "kept")?;
     let result = path_of(&rt, "not-made")?;
     fs::write(&rt, log.as_str(), PLAIN.as_slice())?;
-    let missing = "error: unexpected argument '-r' found\n\nUsage: binlog plain ";
+    let missing = "error: unexpected argument '-r' found\n\nUsage: binlog list ";
     let arguments = ["-r", result.as_str(), log.as_str()];
     check_unmade(&rt, arguments.as_slice(), missing, result.as_str())?;
     let arguments = ["-r", result.as_str(), "plain", log.as_str()];
     check_unmade(&rt, arguments.as_slice(), missing, result.as_str())?;
-    let unknown = "error: unrecognized subcommand 'foo'\n\nUsage: binlog plain ";
+    let unknown = "error: unrecognized subcommand 'foo'\n\nUsage: binlog list ";
     let arguments = ["foo", "-r", result.as_str(), log.as_str()];
     check_unmade(&rt, arguments.as_slice(), unknown, result.as_str())?;
     let arguments = ["foo", "plain", "-r", result.as_str(), log.as_str()];
@@ -160,6 +168,14 @@ fn help_and_version_are_written(rt: HostRuntime) -> Result<(), Fail> {
         ),
         (&["plain", "--help"], "-r is the same as --result-file"),
         (&["list", "--help"], "-j is the same as --start-position"),
+        (
+            &["undo", "--help"],
+            "binlog undo --anyway --rewrite-db shop:scratch -j 4021 --stop-position 9144 binlog.000042 | mysql",
+        ),
+        (
+            &["redo", "--help"],
+            "binlog redo --rewrite-db shop:scratch -d shop binlog.000042 | mysql",
+        ),
         (
             &["split", "--help"],
             "binlog split [--size BYTES] [-r FILE [--force]] LOG",

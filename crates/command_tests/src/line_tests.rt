@@ -1,6 +1,7 @@
 //! What is printed for each failure, and what to do about it.
 
-use binlog_command::{ArgumentsFault, Failure, NewLogFault};
+use binlog_arguments::ArgumentsFault;
+use binlog_command::{Failure, NewLogFault};
 use blog_device::{RunFault, Watched};
 use blog_event::Fault;
 use blog_split::SplitFault;

@@ -1,6 +1,6 @@
 //! Time zones, from files below a folder for temporary files.
 
-use binlog_command::{Zone, zone_in};
+use binlog_arguments::{Zone, zone_in};
 use blog_list::{Side, TimeFault, seconds_of, time_text};
 use command_runs::path_of;
 use jiff::tz::TimeZone;

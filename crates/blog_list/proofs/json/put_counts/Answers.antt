@@ -5,7 +5,7 @@ use Rattle.blog_trans.specs.Groups.{groups}
 use Rattle.blog_trans.specs.code.IndexView.{index_bytes, index_selection, table_counted}
 use Rattle.blog_trans.proofs.Turns.{drop-at}
 use Rattle.blog_list.specs.Json.{json_next}
-use Rattle.blog_list.proofs.Growing.{both-parts, next-part}
+use Rattle.blog_text.proofs.Growing.{both-parts, next-part}
 use Rattle.blog_list.proofs.json.put_counts.Goals as goal
 
 pub loop-n-preserved : goal.loop-n-preserved

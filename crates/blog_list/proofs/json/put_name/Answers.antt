@@ -4,8 +4,9 @@ use Rattle.std.proofs.lemmas.Bool.{cond-false, cond-true, false_from_ne_true}
 use Rattle.std.proofs.lemmas.List.{append-nil}
 use Rattle.std.proofs.lemmas.Result.{on_ok_weaker}
 use Rattle.std.proofs.lemmas.Str.{IsUtf8-from_is_utf8, is_utf8-from_IsUtf8}
-use Rattle.blog_list.specs.Json.{json_name, json_string}
-use Rattle.blog_list.proofs.Growing.{both-parts}
+use Rattle.blog_text.specs.JsonStrings.{json_string}
+use Rattle.blog_list.specs.Json.{json_name}
+use Rattle.blog_text.proofs.Growing.{both-parts}
 use Rattle.blog_list.proofs.json.put_name.Goals as goal
 
 -- a name that is UTF-8 has no digits

@@ -2,7 +2,7 @@ use Rattle.std.proofs.Common.{Bor, List, Option, ℕ, ◌++◌, sym, ap, ◌∙�
 use Rattle.std.specs.Prelude.{option_copied}
 use Rattle.std.proofs.lemmas.Result.{on_ok_weaker}
 use Rattle.blog_list.specs.Json.{json_statement}
-use Rattle.blog_list.proofs.Growing.{both-parts}
+use Rattle.blog_text.proofs.Growing.{both-parts}
 use Rattle.blog_list.proofs.json.put_statement.Goals as goal
 
 pub returns-in_ok-put_beginning-in-Some : goal.returns-in_ok-put_beginning-in-Some

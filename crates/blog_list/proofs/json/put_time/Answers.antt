@@ -2,7 +2,7 @@ use Rattle.std.proofs.Common.{List, ℕ, ◌++◌, ap, ◌∙◌}
 use Rattle.std.specs.Prelude.{codes}
 use Rattle.std.proofs.lemmas.Result.{on_ok_weaker}
 use Rattle.blog_list.specs.Lines.{numbered}
-use Rattle.blog_list.proofs.Growing.{both-parts}
+use Rattle.blog_text.proofs.Growing.{both-parts}
 use Rattle.blog_list.proofs.json.put_time.Goals as goal
 
 pub returns : goal.returns

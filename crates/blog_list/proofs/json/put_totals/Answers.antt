@@ -1,6 +1,6 @@
 use Rattle.std.proofs.Common.{List, ℕ}
 use Rattle.std.proofs.lemmas.Result.{on_ok_weaker}
-use Rattle.blog_list.proofs.Growing.{both-parts}
+use Rattle.blog_text.proofs.Growing.{both-parts}
 use Rattle.blog_list.proofs.json.put_totals.Goals as goal
 
 pub returns : goal.returns

@@ -5,7 +5,7 @@ use Rattle.blog_event.specs.code.LogView.{log_bytes}
 use Rattle.blog_list.specs.Json.{json_line}
 use Rattle.blog_list.specs.Lines.{Shown, numbered}
 use Rattle.blog_list.specs.code.Told.{shown_told, source_place}
-use Rattle.blog_list.proofs.Growing.{both-parts}
+use Rattle.blog_text.proofs.Growing.{both-parts}
 use Rattle.blog_list.proofs.json.put_unit.Goals as goal
 
 pub returns : goal.returns

@@ -2,7 +2,8 @@ use Rattle.std.proofs.Common.{ℕ, List, ◌++◌, sym, ap, ◌∙◌}
 use Rattle.std.proofs.lemmas.Bool.{cond-true, cond-false}
 use Rattle.std.proofs.lemmas.Result.{on_ok_weaker}
 use Rattle.blog_list.specs.Lines.{header}
-use Rattle.blog_list.proofs.Growing.{both-parts, in-its-column}
+use Rattle.blog_text.proofs.Growing.{both-parts}
+use Rattle.blog_list.proofs.Growing.{in-its-column}
 use Rattle.blog_list.proofs.lines.put_header.Goals as goal
 
 pub returns-then-gtids : goal.returns-then-gtids

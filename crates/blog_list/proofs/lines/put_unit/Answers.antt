@@ -4,7 +4,8 @@ use Rattle.std.proofs.lemmas.Result.{on_ok_weaker}
 use Rattle.blog_event.specs.code.LogView.{log_bytes}
 use Rattle.blog_list.specs.Lines.{Shown, in_column, positions_text, rest_text, room_beside, unit_line}
 use Rattle.blog_list.specs.code.Told.{shown_told, source_place}
-use Rattle.blog_list.proofs.Growing.{both-parts, in-its-column}
+use Rattle.blog_text.proofs.Growing.{both-parts}
+use Rattle.blog_list.proofs.Growing.{in-its-column}
 use Rattle.blog_list.proofs.lines.put_unit.Goals as goal
 
 pub returns : goal.returns

@@ -1,0 +1,305 @@
+//! The texts of the help.
+
+/// What the program is for.
+pub const ABOUT: &str = "\
+Lists what can be undone of a MySQL binary log, and prints SQL that undoes it. Prepares logs for
+flashback, cuts large statements, and prints logs as SQL.";
+
+/// How it is called.
+pub const USAGE: &str = "\
+binlog list [-d NAME] [-T NAME] [-j POS] [--stop-position POS]
+                   [--start-datetime TIME] [--stop-datetime TIME]
+                   [--utc | --time-zone NAME] [--json] LOG..
+       binlog undo --anyway [-j POS] [--stop-position POS] [-d NAME] [-T NAME]
+                   [--dry-run] [-r FILE [--force]] LOG
+       binlog redo [-j POS] [--stop-position POS] [-d NAME] [-T NAME]
+                   [--dry-run] [-r FILE [--force]] LOG
+       binlog plain [-r FILE [--force]] LOG
+       binlog split [--size BYTES] [-r FILE [--force]] LOG
+       binlog sql [--each-transaction] [--keep-times] [--size BYTES]
+                  [--rewrite-db FROM:TO].. [-r FILE [--force]] LOG";
+
+/// Examples, and the exit status.
+pub const AFTER_HELP: &str = "\
+Examples:
+  binlog list binlog.000042
+      list the transactions of a log: where each starts and stops,
+      and which rows it changes, or why it can't be undone
+  binlog undo --anyway -j 4021 --stop-position 9144 binlog.000042 -r undo.sql
+      write SQL that undoes the transactions from one position to another
+  binlog plain binlog.000042 -r plain.000042
+      check every checksum of a log, and write the same log without checksums,
+      which flashback reads
+  binlog split undo.binlog -r parts.binlog
+      cut the large statements of a log, so that a server takes them
+  binlog sql undo.binlog | mysql
+      make the changes of a log on a server, all of them or none
+  binlog plain --help
+      what there is to know of a command
+
+Exit status: 0 done, 1 the log is refused or something failed, 2 the arguments are wrong.";
+
+/// What `plain` does.
+pub const PLAIN_ABOUT: &str = "\
+Checks every checksum of LOG and writes the same log without checksums.
+Nothing is written before the whole log was checked. A log that has no checksums is written as it is.
+Positions in the plain log are its own: look for them there, and not in LOG.";
+
+/// How `plain` is called.
+pub const PLAIN_USAGE: &str = "binlog plain [-r FILE [--force]] LOG";
+
+/// What there is to know of `plain`, with examples.
+pub const PLAIN_AFTER_HELP: &str = "\
+The plain log is binary, and isn't written to a terminal: use -r FILE or > FILE.
+FILE appears once the new log is whole, and only its owner may read it.
+
+Examples:
+  binlog plain binlog.000042 -r plain.000042
+      write to a file that isn't there yet; -r is the same as --result-file
+  binlog plain binlog.000042 > plain.000042
+      the same by the shell, which overwrites a file that is there
+  binlog plain binlog.000042 -r plain.000042 --force
+      replace a file that is there
+  binlog plain binlog.000042 -r plain.000042 && flashback --summary plain.000042
+      then count rows by table
+
+Exit status: 0 done, 1 the log is refused or something failed, 2 the arguments are wrong.";
+
+/// What `list` does.
+pub const LIST_ABOUT: &str = "\
+Lists the units of each LOG: its transactions, and what stands between them and can't be undone.
+A line says where a unit starts and stops, its local time, the thread of the connection that wrote it,
+and how many rows of each table it changes, or why it can't be undone. The heading names the time zone.
+The last line counts units, those that can't be undone, and the rows of the others.
+With several LOGs the lines of each stand below its name, and the last line counts all. -j is a position
+of the first LOG, and --stop-position one of the last.
+Each checksum of LOG is checked, if it has checksums. Positions are those of LOG, as mysqlbinlog shows them.
+binlog undo --anyway -j START --stop-position STOP undoes a unit, or more of them in a row. So does
+flashback -B, which takes no log with checksums: list the plain log of binlog plain for it, whose positions
+are its own.";
+
+/// How `list` is called.
+pub const LIST_USAGE: &str = "\
+binlog list [-d NAME] [-T [NAME.]NAME].. [--exclude-table [NAME.]NAME].. [--thread N]..
+                   [-j POS] [--stop-position POS] [--gtid GTID]..
+                   [--start-datetime TIME] [--stop-datetime TIME] [--utc | --time-zone NAME]
+                   [--show-gtid] [--skip-damaged] [--json] LOG..";
+
+/// What there is to know of `list`, with examples.
+pub const LIST_AFTER_HELP: &str = "\
+Positions are bytes from the start of the file, decimal, 0 to 4294967295.
+Times, printed and given, are local: those of this machine's time zone, which is TZ or that of
+/etc/localtime; or of the one that you give by --utc or --time-zone. If this machine's zone isn't
+found, they are in UTC. When clocks are set back, they show an hour twice: a TIME in it is the
+earlier one for --start-datetime, and the later one for --stop-datetime.
+Names are compared byte by byte. With -d or -T units that can't be undone are listed too, since what
+they change isn't known, but for statements that name no chosen table, such as ALTER TABLE of another.
+
+Examples:
+  binlog list binlog.000042
+      list all units
+  binlog list binlog.000041 binlog.000042
+      those of several logs, in this order
+  binlog list -d shop -T orders binlog.000042
+      those that change one table, with the other tables that they change;
+      -d is the same as --database, -T the same as --table
+  binlog list -T shop.orders -T shop.items --exclude-table tmp binlog.000042
+      those that change one of two tables
+  binlog list --thread 13 binlog.000042
+      those of one connection of a client
+  binlog list -j 4021 binlog.000042
+      those that start at 4021 or later; -j is the same as --start-position
+  binlog list --stop-position 9144 binlog.000042
+      those that start before 9144; what comes behind isn't looked at
+  binlog list --start-datetime '2026-11-21 02:02:00' binlog.000042
+      those of this time or later
+  binlog list --stop-datetime '2026-11-21 02:03:00' binlog.000042
+      those before this time
+  binlog list --utc binlog.000042
+      times in UTC
+  binlog list --show-gtid binlog.000042
+      with their GTIDs
+  binlog list --gtid 283c105d-e730-11f1-97ff-02fc00000001:5-9 binlog.000042
+      those with these GTIDs: a UUID and a number, or from one number to another
+  binlog list --skip-damaged binlog.000042
+      go on after an event whose checksum is wrong
+  binlog list --json binlog.000042
+      an object of JSON for each, on a line of its own, and one for the totals
+
+Exit status: 0 done, 1 the log is refused, ends too early, or something failed, 2 the arguments are wrong.";
+
+/// What `split` does.
+pub const SPLIT_ABOUT: &str = "\
+Cuts each statement of LOG into statements of at most BYTES bytes: their rows events, and the table
+maps that these use. A single rows event isn't cut: it and its map can have more. A server takes a
+statement as one packet, which max_allowed_packet limits: mysqlbinlog prints it as base64, 4 bytes
+for 3. The changes stay the same and in their order, and transactions stay whole.
+LOG is a log that flashback accepts as a whole, such as one that it wrote. If it has checksums,
+each is checked, and the new log has none.
+Nothing is written unless the whole log can be cut.";
+
+/// How `split` is called.
+pub const SPLIT_USAGE: &str = "binlog split [--size BYTES] [-r FILE [--force]] LOG";
+
+/// What there is to know of `split`, with examples.
+pub const SPLIT_AFTER_HELP: &str = "\
+The new log is binary, and isn't written to a terminal: use -r FILE or > FILE.
+FILE appears once the new log is whole, and only its owner may read it.
+
+Examples:
+  binlog split undo.binlog -r parts.binlog
+      write to a file that isn't there yet; -r is the same as --result-file
+  binlog split --size 1000000 undo.binlog -r parts.binlog
+      statements of at most 1,000,000 bytes
+  binlog split undo.binlog > parts.binlog
+      the same as the first by the shell, which overwrites a file that is there
+  binlog split undo.binlog -r parts.binlog --force
+      replace a file that is there
+
+Exit status: 0 done, 1 the log is refused or something failed, 2 the arguments are wrong.";
+
+/// What `sql` does.
+pub const SQL_ABOUT: &str = "\
+Prints LOG as SQL that makes its changes on a server, in one transaction: all of them, or after any
+error none. Any mysql or mariadb client runs it. LOG is a log that flashback accepts as a whole, such
+as one that it wrote. If it has checksums, each is checked. Nothing is printed unless all of LOG can be.
+The last line that the client prints has to say COMMIT. ROLLBACK, or no such line, means that nothing
+was changed; the client's exit status doesn't tell, if it was told to go on after errors.
+Tables of an engine without transactions, such as MyISAM, keep what was changed before an error.";
+
+/// How `sql` is called.
+pub const SQL_USAGE: &str = "\
+binlog sql [--each-transaction] [--keep-times] [--size BYTES]
+                  [--rewrite-db FROM:TO].. [-r FILE [--force]] LOG";
+
+/// What there is to know of `sql`, with examples.
+pub const SQL_AFTER_HELP: &str = "\
+The server gets the changes as base64, each statement as one packet, which max_allowed_packet limits.
+Statements are cut for it as by binlog split, to at most BYTES bytes of rows events and table maps.
+A packet has 77 bytes for 57 of these. A single rows event isn't cut: it and its map can have more.
+Events get the time at which the SQL is made, since the server writes their times to its own log.
+The SQL has the rows of LOG in it: FILE appears once it is whole, and only its owner may read it.
+
+Examples:
+  binlog sql undo.binlog | mysql
+      make the changes of a log that undoes
+  binlog sql undo.binlog -r undo.sql
+      write to a file that isn't there yet; -r is the same as --result-file
+  binlog sql undo.binlog -r undo.sql --force
+      replace a file that is there
+  binlog sql --rewrite-db shop:scratch undo.binlog | mysql
+      try it first in a copy of the tables in another database; other databases stay as they are
+  binlog sql --each-transaction undo.binlog | mysql
+      commit each transaction by itself; after an error neither it nor a later one is committed
+  binlog sql --keep-times undo.binlog | mysql
+      leave the times of the events as they are
+  binlog sql --size 1000000 undo.binlog | mysql
+      statements of at most 1,000,000 bytes
+
+Exit status: 0 done, 1 the log is refused or something failed, 2 the arguments are wrong.";
+
+/// What `undo` does.
+pub const UNDO_ABOUT: &str = "\
+Prints SQL that undoes changes of LOG: it deletes what was inserted, inserts what was deleted, and updates
+rows back, the last change first. Any mysql or mariadb client runs it, in one transaction: all of it, or
+after any error nothing. What is undone are the changes of the transactions from one position to another,
+which binlog list shows. LOG is a server's log as it is, with checksums or without. What is behind the
+stop isn't looked at.
+What can't be undone is refused, with its position, and then nothing is written.
+Changes that were made to the same rows since are not looked for, and are overwritten. --anyway says that
+you know, and has to be given.
+A report says what is undone: on standard output with -r and with --dry-run, else on standard error.
+It counts rows as the undo changes them: 120 rows that were deleted are 120 inserts.";
+
+/// How `undo` is called.
+pub const UNDO_USAGE: &str = "\
+binlog undo --anyway [-j POS] [--stop-position POS] [-d NAME] [-T [NAME.]NAME]
+                   [--each-transaction] [--keep-times] [--rewrite-db FROM:TO].. [--size BYTES]
+                   [--binlog] [--dry-run] [-r FILE [--force]] LOG";
+
+/// What there is to know of `undo`, with examples.
+pub const UNDO_AFTER_HELP: &str = "\
+Positions are bytes from the start of LOG, decimal, 0 to 4294967295: where an event begins. Give the start
+and the stop of transactions that binlog list prints. Names are compared byte by byte.
+Without -d and -T all tables are taken back, with them other tables stay as they are.
+The last line that the client prints has to say COMMIT. ROLLBACK, or no such line, means that nothing
+was changed. Tables of an engine without transactions, such as MyISAM, keep what was changed before an error.
+With --binlog a binary log is written, as by flashback -B and binlog split. It isn't written to a terminal.
+What is written has rows of LOG in it: FILE appears once it is whole, and only its owner may read it.
+
+Examples:
+  binlog undo --anyway -j 4021 --stop-position 9144 binlog.000042 --dry-run
+      see what would be undone, and whether it can be
+  binlog undo --anyway -j 4021 --stop-position 9144 binlog.000042 -r undo.sql
+      write to a file that isn't there yet; -r is the same as --result-file, -j as --start-position
+  binlog undo --anyway -j 4021 --stop-position 9144 binlog.000042 -r undo.sql --force
+      replace a file that is there
+  binlog undo --anyway -j 4021 --stop-position 9144 binlog.000042 | mysql
+      undo it on a server
+  binlog undo --anyway -j 4021 --stop-position 9144 -T shop.orders binlog.000042 | mysql
+      only in one table; -T is the same as --table
+  binlog undo --anyway -j 4021 --stop-position 9144 -d shop binlog.000042 | mysql
+      only in the tables of one database; -d is the same as --database
+  binlog undo --anyway --rewrite-db shop:scratch -j 4021 --stop-position 9144 binlog.000042 | mysql
+      try it first in a copy of the tables in another database; other databases stay as they are
+  binlog undo --anyway --each-transaction -j 4021 --stop-position 9144 binlog.000042 | mysql
+      commit what undoes each transaction by itself
+  binlog undo --anyway --keep-times -j 4021 --stop-position 9144 binlog.000042 | mysql
+      leave the times of the events as they are
+  binlog undo --anyway --size 1000000 -j 4021 --stop-position 9144 binlog.000042 | mysql
+      statements of at most 1,000,000 bytes
+  binlog undo --anyway --binlog -j 4021 --stop-position 9144 binlog.000042 -r undo.binlog
+      a binary log in place of SQL
+
+Exit status: 0 done, 1 the log is refused or something failed, 2 the arguments are wrong.";
+
+/// What `redo` does.
+pub const REDO_ABOUT: &str = "\
+Prints SQL that makes changes of LOG once more, in their order: after an undo that was a mistake, or on a
+table that was brought back from a backup. Any mysql or mariadb client runs it, in one transaction: all of
+it, or after any error nothing. The changes are those of the transactions from one position to another,
+which binlog list shows. LOG is a server's log as it is, with checksums or without. What is behind the
+stop isn't looked at.
+What can't be made once more is refused, with its position, and then nothing is written.
+A report says what is made: on standard output with -r and with --dry-run, else on standard error.";
+
+/// How `redo` is called.
+pub const REDO_USAGE: &str = "\
+binlog redo [-j POS] [--stop-position POS] [-d NAME] [-T [NAME.]NAME]
+                   [--each-transaction] [--keep-times] [--rewrite-db FROM:TO].. [--size BYTES]
+                   [--binlog] [--dry-run] [-r FILE [--force]] LOG";
+
+/// What there is to know of `redo`, with examples.
+pub const REDO_AFTER_HELP: &str = "\
+Positions are bytes from the start of LOG, decimal, 0 to 4294967295: where an event begins. Give the start
+and the stop of transactions that binlog list prints. Names are compared byte by byte.
+Without -d and -T the changes of all tables are made, with them only those of the chosen ones.
+The last line that the client prints has to say COMMIT. ROLLBACK, or no such line, means that nothing
+was changed. Tables of an engine without transactions, such as MyISAM, keep what was changed before an error.
+With --binlog a binary log is written, as by flashback --forward and binlog split. It isn't written to a
+terminal.
+What is written has rows of LOG in it: FILE appears once it is whole, and only its owner may read it.
+
+Examples:
+  binlog redo -j 4021 --stop-position 9144 binlog.000042 --dry-run
+      see what would be made once more, and whether it can be
+  binlog redo -j 4021 --stop-position 9144 binlog.000042 -r redo.sql
+      write to a file that isn't there yet; -r is the same as --result-file, -j as --start-position
+  binlog redo -j 4021 --stop-position 9144 binlog.000042 -r redo.sql --force
+      replace a file that is there
+  binlog redo -T shop.orders binlog.000042 | mysql
+      all changes of one table; -T is the same as --table
+  binlog redo -d shop binlog.000042 | mysql
+      those of one database; -d is the same as --database
+  binlog redo --rewrite-db shop:scratch -d shop binlog.000042 | mysql
+      make them in a copy of the tables in another database; other databases stay as they are
+  binlog redo --each-transaction -d shop binlog.000042 | mysql
+      commit each transaction by itself; after an error neither it nor a later one is committed
+  binlog redo --keep-times -d shop binlog.000042 | mysql
+      leave the times of the events as they are
+  binlog redo --size 1000000 -d shop binlog.000042 | mysql
+      statements of at most 1,000,000 bytes
+  binlog redo --binlog -d shop binlog.000042 -r redo.binlog
+      a binary log in place of SQL
+
+Exit status: 0 done, 1 the log is refused or something failed, 2 the arguments are wrong.";

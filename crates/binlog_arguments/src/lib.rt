@@ -1,0 +1,16 @@
+//! The arguments of `binlog`: every option that it knows, and what they ask for.
+#![tactic(auto)]
+
+mod arguments;
+mod help;
+mod list_arguments;
+mod options;
+mod sql_arguments;
+mod undo_arguments;
+mod zones;
+
+pub use arguments::{ArgumentsFault, Asked, Making, NewLogTask, read_arguments};
+pub use list_arguments::ListTask;
+pub use sql_arguments::SqlTask;
+pub use undo_arguments::PartTask;
+pub use zones::{Zone, zone_in};

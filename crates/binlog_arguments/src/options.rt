@@ -1,0 +1,285 @@
+//! Every option that the program knows.
+
+use crate::help::{
+    ABOUT, AFTER_HELP, LIST_ABOUT, LIST_AFTER_HELP, LIST_USAGE, PLAIN_ABOUT, PLAIN_AFTER_HELP,
+    PLAIN_USAGE, REDO_ABOUT, REDO_AFTER_HELP, REDO_USAGE, SPLIT_ABOUT, SPLIT_AFTER_HELP,
+    SPLIT_USAGE, SQL_ABOUT, SQL_AFTER_HELP, SQL_USAGE, UNDO_ABOUT, UNDO_AFTER_HELP, UNDO_USAGE,
+    USAGE,
+};
+use clap::builder::ValueParser;
+use clap::{Arg, ArgAction, Command};
+use console::{VERSION, flag, option};
+use std::alloc::{AllocError, Global};
+
+/// The name of the command `plain`.
+pub const PLAIN: &str = "plain";
+/// The name of the command `list`.
+pub const LIST: &str = "list";
+/// The name of the command `split`.
+pub const SPLIT: &str = "split";
+/// The name of the command `sql`.
+pub const SQL: &str = "sql";
+/// The name of the command `undo`.
+pub const UNDO: &str = "undo";
+/// The name of the command `redo`.
+pub const REDO: &str = "redo";
+/// The name of `--anyway`.
+pub const ANYWAY: &str = "anyway";
+/// The name of `--binlog`.
+pub const AS_LOG: &str = "binlog";
+/// The name of `--dry-run`.
+pub const DRY_RUN: &str = "dry-run";
+/// The name of `-d`.
+pub const DATABASE: &str = "database";
+/// The name of `-T`.
+pub const TABLE: &str = "table";
+/// The name of `--exclude-table`.
+pub const EXCLUDED_TABLE: &str = "exclude-table";
+/// The name of `--thread`.
+pub const THREAD: &str = "thread";
+/// The name of `--gtid`.
+pub const GTID: &str = "gtid";
+/// The name of `--show-gtid`.
+pub const SHOW_GTID: &str = "show-gtid";
+/// The name of `--skip-damaged`.
+pub const SKIP_DAMAGED: &str = "skip-damaged";
+/// The name of `-j`.
+pub const START: &str = "start-position";
+/// The name of `--stop-position`.
+pub const STOP: &str = "stop-position";
+/// The name of `--start-datetime`.
+pub const START_TIME: &str = "start-datetime";
+/// The name of `--stop-datetime`.
+pub const STOP_TIME: &str = "stop-datetime";
+/// The name of `--utc`.
+pub const UTC: &str = "utc";
+/// The name of `--time-zone`.
+pub const TIME_ZONE: &str = "time-zone";
+/// The name of `--size`.
+pub const SIZE: &str = "size";
+/// The name of `--each-transaction`.
+pub const EACH_TRANSACTION: &str = "each-transaction";
+/// The name of `--keep-times`.
+pub const KEEP_TIMES: &str = "keep-times";
+/// The name of `--rewrite-db`.
+pub const REWRITTEN: &str = "rewrite-db";
+/// The name of `--json`.
+pub const JSON: &str = "json";
+/// The name of `-r`.
+pub const RESULT_FILE: &str = "result-file";
+/// The name of `--force`.
+pub const FORCE: &str = "force";
+/// The name of the argument without an option.
+pub const LOG: &str = "LOG";
+
+/// How many bytes a statement has at most, where `--size` isn't given.
+pub const DEFAULT_SIZE: u32 = 8_000_000;
+
+/// The least number of bytes that `--size` can give.
+pub const LEAST_SIZE: u32 = 1024;
+
+/// Every command that the program knows, with its options.
+pub fn all_arguments<'a>(alloc: Global) -> Result<Command<'a>, AllocError> {
+    Command::new(alloc, "binlog")
+        .version(VERSION)
+        .about(ABOUT)
+        .override_usage(USAGE)
+        .after_help(AFTER_HELP)
+        .subcommand_required(true)
+        .subcommand(list_arguments(alloc)?)?
+        .subcommand(undo_arguments(alloc)?)?
+        .subcommand(redo_arguments(alloc)?)?
+        .subcommand(plain_arguments(alloc)?)?
+        .subcommand(split_arguments(alloc)?)?
+        .subcommand(sql_arguments(alloc)?)
+}
+
+/// The command `plain`, with its options.
+fn plain_arguments<'a>(alloc: Global) -> Result<Command<'a>, AllocError> {
+    let command = Command::new(alloc, PLAIN)
+        .about(PLAIN_ABOUT)
+        .override_usage(PLAIN_USAGE)
+        .after_help(PLAIN_AFTER_HELP);
+    new_log_arguments(
+        alloc,
+        command,
+        "Write to FILE, which must not be there, unless it is a device or a pipe",
+    )
+}
+
+/// The command `split`, with its options.
+fn split_arguments<'a>(alloc: Global) -> Result<Command<'a>, AllocError> {
+    let command = Command::new(alloc, SPLIT)
+        .about(SPLIT_ABOUT)
+        .override_usage(SPLIT_USAGE)
+        .after_help(SPLIT_AFTER_HELP);
+    new_log_arguments(
+        alloc,
+        command.arg(size_argument(alloc))?,
+        "Write to FILE, which must not be there, unless it is a device or a pipe",
+    )
+}
+
+/// The option `--size`.
+fn size_argument<'a>(alloc: Global) -> Arg<'a> {
+    option(alloc, SIZE, "BYTES").help(
+        "The most bytes of a statement, headers included, from 1024 on; 8000000 if it isn't given",
+    )
+}
+
+/// The command `sql`, with its options.
+fn sql_arguments<'a>(alloc: Global) -> Result<Command<'a>, AllocError> {
+    let command = Command::new(alloc, SQL)
+        .about(SQL_ABOUT)
+        .override_usage(SQL_USAGE)
+        .after_help(SQL_AFTER_HELP);
+    let each = flag(alloc, EACH_TRANSACTION).help("Commit each transaction of LOG by itself");
+    let times = flag(alloc, KEEP_TIMES).help("Leave the times of events as they are");
+    let rewritten = option(alloc, REWRITTEN, "FROM:TO").help(
+        "Change tables of database TO where LOG has FROM; can be given several times",
+    );
+    let command = command
+        .arg(each)?
+        .arg(times)?
+        .arg(size_argument(alloc))?
+        .arg(rewritten.action(ArgAction::Append))?;
+    new_log_arguments(
+        alloc,
+        command,
+        "Write to FILE, which must not be there, unless it is a device or a pipe",
+    )
+}
+
+/// The command `undo`, with its options.
+fn undo_arguments<'a>(alloc: Global) -> Result<Command<'a>, AllocError> {
+    let command = Command::new(alloc, UNDO)
+        .about(UNDO_ABOUT)
+        .override_usage(UNDO_USAGE)
+        .after_help(UNDO_AFTER_HELP);
+    let anyway = flag(alloc, ANYWAY).help("Undo without looking at what was changed since");
+    part_arguments(alloc, command.arg(anyway.required(true))?)
+}
+
+/// The command `redo`, with its options.
+fn redo_arguments<'a>(alloc: Global) -> Result<Command<'a>, AllocError> {
+    let command = Command::new(alloc, REDO)
+        .about(REDO_ABOUT)
+        .override_usage(REDO_USAGE)
+        .after_help(REDO_AFTER_HELP);
+    part_arguments(alloc, command)
+}
+
+/// Adds the options of `undo` and `redo` that they share, and their argument LOG.
+fn part_arguments<'a>(alloc: Global, command: Command<'a>) -> Result<Command<'a>, AllocError> {
+    let start = option(alloc, START, "POS").help("Start at the event that begins at POS");
+    let stop = option(alloc, STOP, "POS").help("Stop in front of the event that begins at POS");
+    let database = option(alloc, DATABASE, "NAME").help("Only tables of this database");
+    let table = option(alloc, TABLE, "[NAME.]NAME").help("Only this table");
+    let each = flag(alloc, EACH_TRANSACTION).help("Commit each transaction by itself");
+    let times = flag(alloc, KEEP_TIMES).help("Leave the times of events as they are");
+    let rewritten = option(alloc, REWRITTEN, "FROM:TO").help(
+        "Change tables of database TO where LOG has FROM; can be given several times",
+    );
+    let as_log = flag(alloc, AS_LOG).help("Write a binary log, and no SQL");
+    let dry_run = flag(alloc, DRY_RUN).help("Write nothing but the report");
+    let command = command
+        .arg(start.short('j'))?
+        .arg(stop)?
+        .arg(database.short('d'))?
+        .arg(table.short('T'))?
+        .arg(each)?
+        .arg(times.conflicts_with(AS_LOG)?)?
+        .arg(size_argument(alloc))?
+        .arg(rewritten.action(ArgAction::Append).conflicts_with(AS_LOG)?)?
+        .arg(as_log)?
+        .arg(dry_run)?;
+    new_log_arguments(
+        alloc,
+        command,
+        "Write to FILE, which must not be there, unless it is a device or a pipe",
+    )
+}
+
+/// Adds the options of a command that makes a new log, and its argument LOG.
+fn new_log_arguments<'a>(
+    alloc: Global,
+    command: Command<'a>,
+    creating: &'a str,
+) -> Result<Command<'a>, AllocError> {
+    let file = option(alloc, RESULT_FILE, "FILE")
+        .value_parser(ValueParser::NonEmptyString)
+        .help(creating);
+    let force = flag(alloc, FORCE).help("With -r: replace FILE if it is there");
+    let log = Arg::new(alloc, LOG).help("The binary log, a file");
+    command
+        .arg(file.short('r'))?
+        .arg(force)?
+        .arg(log.required(true))
+}
+
+/// The command `list`, with its options.
+fn list_arguments<'a>(alloc: Global) -> Result<Command<'a>, AllocError> {
+    let command = Command::new(alloc, LIST)
+        .about(LIST_ABOUT)
+        .override_usage(LIST_USAGE)
+        .after_help(LIST_AFTER_HELP);
+    let gtid = flag(alloc, SHOW_GTID).help("Print GTIDs too");
+    let damaged = flag(alloc, SKIP_DAMAGED).help("Go on after an event whose checksum is wrong");
+    let utc = flag(alloc, UTC).help("Read and print times in UTC");
+    let zone = option(alloc, TIME_ZONE, "NAME").help(
+        "Read and print times in this time zone, such as Europe/Berlin",
+    );
+    let json = flag(alloc, JSON).help("Write JSON, an object a line");
+    let logs = Arg::new(alloc, LOG)
+        .help("The binary logs, files")
+        .num_args(1..);
+    range_arguments(alloc, table_arguments(alloc, command)?)?
+        .arg(gtid)?
+        .arg(damaged)?
+        .arg(utc)?
+        .arg(zone.conflicts_with(UTC)?)?
+        .arg(json)?
+        .arg(logs.required(true).action(ArgAction::Append))
+}
+
+/// Adds the options that choose tables and threads.
+fn table_arguments<'a>(alloc: Global, command: Command<'a>) -> Result<Command<'a>, AllocError> {
+    let database = option(alloc, DATABASE, "NAME").help(
+        "Only the transactions that change a table of this database",
+    );
+    let table = option(alloc, TABLE, "[NAME.]NAME").help(
+        "Only those that change this table; can be given several times",
+    );
+    let excluded = option(alloc, EXCLUDED_TABLE, "[NAME.]NAME").help(
+        "Don't count this table; can be given several times",
+    );
+    let thread = option(alloc, THREAD, "N").help(
+        "Only those of this thread of the server; can be given several times",
+    );
+    command
+        .arg(database.short('d'))?
+        .arg(table.short('T').action(ArgAction::Append))?
+        .arg(excluded.action(ArgAction::Append))?
+        .arg(thread.action(ArgAction::Append))
+}
+
+/// Adds the options that bound positions and times.
+fn range_arguments<'a>(alloc: Global, command: Command<'a>) -> Result<Command<'a>, AllocError> {
+    let start = option(alloc, START, "POS").help("Only the units that start at POS or behind it");
+    let stop = option(alloc, STOP, "POS").help("Only the units that start before POS");
+    let from = option(alloc, START_TIME, "TIME").help(
+        "Only the units of TIME or later: YYYY-MM-DD hh:mm:ss",
+    );
+    let to = option(alloc, STOP_TIME, "TIME").help(
+        "Only the units before TIME: YYYY-MM-DD hh:mm:ss",
+    );
+    let gtid = option(alloc, GTID, "GTID").help(
+        "Only the units with this GTID, or one of UUID:N-M; can be given several times",
+    );
+    command
+        .arg(start.short('j'))?
+        .arg(stop)?
+        .arg(gtid.action(ArgAction::Append))?
+        .arg(from)?
+        .arg(to)
+}

@@ -1,0 +1,102 @@
+//! Which arguments of `undo` and `redo` mean what.
+
+ghost use Rattle.std.specs.Prelude.{IfErr, IfOk};
+ghost use Rattle.clap.specs.Words.{found_of};
+ghost use Rattle.blog_run.specs.Writing.{HasShortWriting};
+ghost use Rattle.blog_sql.specs.Changed.{HaveShortNames};
+ghost use Rattle.blog_trans.specs.Selection.{selection_of};
+ghost use Rattle.binlog_arguments.specs.Request.{HasPartWriting, IsPart, IsPartTask, RefusesPart};
+
+use crate::arguments::{ArgumentsFault, is_given, read_number};
+use crate::options::{AS_LOG, DATABASE, DRY_RUN, START, STOP, TABLE};
+use crate::sql_arguments::{SqlTask, read_sql};
+use blog_choice::TableName;
+use blog_row::Order;
+use blog_run::Writing;
+use blog_trans::Selection;
+use clap::{ArgMatches, Command};
+use console::POSITION;
+use std::alloc::Allocator;
+
+/// The changes of a part of a log, which are undone, or made once more.
+#[derive(Drop)]
+pub struct PartTask<'a, A: Allocator> {
+    /// The log, where what is written goes, and how it is printed as SQL.
+    pub sql: SqlTask<'a, A>,
+    /// The part, by places in the log.
+    pub part: Selection<'a>,
+    /// Whether its changes are made once more (forward) or undone (backward).
+    pub order: Order,
+    /// Whether they are written as a log, and not as SQL.
+    pub as_log: bool,
+    /// Whether nothing but the report is written.
+    pub dry_run: bool,
+}
+
+impl<A: Allocator> PartTask<'_, A> {
+    /// Returns how the changes are written at this time, in seconds since 1970.
+    pub fn writing(&self, now: u32) -> Writing<'_>
+        ensures asked { HasPartWriting self.now now result }
+        ensures names { HaveShortNames self.now.sql.schemas.items → HasShortWriting result }
+    {
+        Writing {
+            order: self.order,
+            limit: self.sql.size as usize,
+            sql: if self.as_log {
+                None
+            } else {
+                Some(self.sql.options(now))
+            },
+        }
+    }
+}
+
+/// Reads what the arguments of `undo` or `redo` ask for.
+pub(crate) fn read_part<'a, A: Allocator + Copy>(
+    alloc: A,
+    command: &mut Command<'a>,
+    found: &ArgMatches<'a>,
+    order: Order,
+) -> Result<PartTask<'a, A>, ArgumentsFault<A>>
+    ensures asked { IfOk result (IsPartTask (found_of found.now) order) }
+    ensures names { IfOk result (λ task. HaveShortNames task.sql.schemas.items) }
+    ensures refused { IfErr result (RefusesPart (found_of found.now)) }
+{
+    let start = read_number(alloc, command, found, START, "POS", POSITION)?;
+    let stop = read_number(alloc, command, found, STOP, "POS", POSITION)?;
+    let sql = read_sql(alloc, command, found)?;
+    Ok(PartTask {
+        sql,
+        part: part_of(found, start, stop),
+        order,
+        as_log: is_given(found, AS_LOG),
+        dry_run: is_given(found, DRY_RUN),
+    })
+}
+
+/// The part from a start to a stop, of the tables that are asked for.
+fn part_of<'a>(found: &ArgMatches<'a>, start: Option<u32>, stop: Option<u32>) -> Selection<'a>
+    ensures { IsPart (found_of found.now) start stop (selection_of result) }
+{
+    let database = found.get_str(DATABASE).map(str::as_bytes);
+    match found.get_str(TABLE) {
+        None => Selection {
+            start: start.unwrap_or(FIRST),
+            stop,
+            database,
+            table: None,
+        },
+        Some(text) => {
+            let name = TableName::read(text.as_bytes());
+            Selection {
+                start: start.unwrap_or(FIRST),
+                stop,
+                database: name.schema.or(database),
+                table: Some(name.table),
+            }
+        }
+    }
+}
+
+/// Where the first event of a log begins.
+const FIRST: u32 = 4;

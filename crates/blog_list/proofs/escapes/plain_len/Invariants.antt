@@ -1,7 +1,0 @@
-use Rattle.std.proofs.Common.{◌≡◌, ◌+◌, drop}
-use Rattle.blog_list.specs.code.Plain.{plain_len}
-use Rattle.blog_list.proofs.escapes.plain_len.Given as goal
-
--- the bytes so far are plain
-abbrev pub invariant-plain : goal.invariant-plain
-invariant-plain l = l.i + plain_len (drop l.i l.text) ≡ plain_len l.text

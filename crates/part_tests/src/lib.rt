@@ -1,0 +1,11 @@
+//! Tests of parts of logs that are undone, or made once more.
+#![tactic(auto)]
+
+#[cfg(test)]
+mod place_tests;
+#[cfg(test)]
+mod refusal_tests;
+#[cfg(test)]
+mod report_tests;
+#[cfg(test)]
+mod runs;

@@ -1,0 +1,247 @@
+//! Parts that aren't written, and why; and devices and memory that fail.
+
+use crate::runs::{Came, UNDO, between, part_of};
+use blog_device::{RunFault, Watched};
+use blog_event::{Fault, event_at};
+use blog_run::Writing;
+use blog_sql::{Renamed, SqlOptions};
+use blog_sum::SumFault;
+use blog_trans::Selection;
+use linked_list_allocator::LocalHeap;
+use refusing::Refusing;
+use sample_logs::summed::{CLOSED, IN_USE};
+use std::io;
+use std::process::Abort;
+use std::test::Fail;
+use testkit::devices::{ALL, Failure, SlowReader, SlowWriter};
+use undo_run::{PartFault, write_part};
+
+/// `CLOSED` with another byte at a place.
+fn changed<R: AllocGlobal>(rt: &R, at: usize) -> Result<Vec<u8>, Fail> {
+    let mut log = CLOSED.to_vec(rt.alloc())?;
+    let byte = log.get_mut(at).ok_or("an edit past the end")?;
+    *byte ^= 1;
+    Ok(log)
+}
+
+/// Where the event begins that has a byte of a log, and where it ends.
+fn event_with(log: &[u8], byte: u32) -> Option<(u32, u32)> {
+    let mut at = 4;
+    for _ in 0..log.len() {
+        let event = event_at(log, at)?;
+        let end = at.wrapping_add(event.header.size);
+        if byte < end {
+            return Some((at, end));
+        }
+        at = end;
+    }
+    None
+}
+
+/// Where the third unit of `CLOSED` starts and stops.
+const START: u32 = 811;
+
+const STOP: u32 = 1215;
+
+/// Each changed byte of the log in front of the stop is found at its event, wherever the part starts; behind it none is looked at.
+#[test]
+fn damage_in_front_of_the_stop_is_found(rt: HostRuntime) -> Result<(), Fail> {
+    let part = between(START, Some(STOP));
+    let (came, wanted, _) = part_of(&rt, &CLOSED, &part, &UNDO)?;
+    assert_eq!(rt; came, Came::Done);
+    for at in 126..CLOSED.len() {
+        let log = changed(&rt, at)?;
+        let (begins, _) = event_with(&CLOSED, at as u32).ok_or("no event")?;
+        let (came, text, _) = part_of(&rt, &log, &part, &UNDO)?;
+        let is_right = if begins >= STOP {
+            came == Came::Done && text == wanted
+        } else {
+            match came {
+                Came::Sums(SumFault::WrongSum { pos }) => pos == begins,
+                Came::Sums(SumFault::Log(Fault::CutEvent { pos })) => pos == begins,
+                _ => false,
+            }
+        };
+        if !is_right {
+            return Err(Fail::new(format_args!("byte {at}: {came:?}")));
+        }
+    }
+    Ok(())
+}
+
+/// A log that is cut is told where its last event begins, if that is in front of the stop.
+#[test]
+fn cut_logs_are_refused(rt: HostRuntime) -> Result<(), Fail> {
+    for len in 198..CLOSED.len() {
+        let log = CLOSED.get(..len).ok_or("a longer log")?;
+        let (begins, _) = event_with(&CLOSED, len as u32).ok_or("no event")?;
+        let (came, _, _) = part_of(&rt, log, &between(START, Some(STOP)), &UNDO)?;
+        let wanted = if begins >= STOP {
+            Came::Done
+        } else if begins as usize == len {
+            if len < START as usize {
+                Came::NoEventAt(START)
+            } else if len == START as usize {
+                Came::NothingSelected
+            } else {
+                Came::Log(Fault::Unended { pos: begins })
+            }
+        } else {
+            Came::Sums(SumFault::Log(Fault::CutEvent { pos: begins }))
+        };
+        if came != wanted {
+            return Err(Fail::new(format_args!("{len}: {came:?}")));
+        }
+    }
+    Ok(())
+}
+
+/// The first fault in the order of the log is told: `IN_USE` has a statement at 567.
+#[test]
+fn the_first_fault_is_told(rt: HostRuntime) -> Result<(), Fail> {
+    let statement = Came::Log(Fault::Statement { pos: 567 });
+    let (came, _, _) = part_of(&rt, &IN_USE, &between(198, None), &UNDO)?;
+    assert_eq!(rt; came, statement);
+    let later = Came::Log(Fault::Statement { pos: 1447 });
+    for (at, wanted, wanted_later) in [
+        (300_usize, None, None),
+        (600, None, None),
+        (720, Some(statement), None),
+        (1900, Some(statement), Some(later)),
+    ] {
+        let mut log = IN_USE.to_vec(rt.alloc())?;
+        *log.get_mut(at).ok_or("an edit past the end")? ^= 1;
+        let (begins, _) = event_with(&IN_USE, at as u32).ok_or("no event")?;
+        let damage = Came::Sums(SumFault::WrongSum { pos: begins });
+        let (came, _, _) = part_of(&rt, &log, &between(198, None), &UNDO)?;
+        assert_eq!(rt; came, wanted.unwrap_or(damage));
+        // nothing is known behind the damage
+        let (came, _, _) = part_of(&rt, &log, &between(995, None), &UNDO)?;
+        assert_eq!(rt; came, wanted_later.unwrap_or(damage));
+    }
+    // the change of the definition is behind the stop
+    let (came, _, _) = part_of(&rt, &IN_USE, &between(198, Some(490)), &UNDO)?;
+    assert_eq!(rt; came, Came::Done);
+    Ok(())
+}
+
+#[test]
+fn a_part_without_rows_is_refused(rt: HostRuntime) -> Result<(), Fail> {
+    let names: [(Option<&[u8]>, Option<&[u8]>); 5] = [
+        (None, Some(b"order")),
+        (None, Some(b"Orders")),
+        (Some(b"sho"), None),
+        (Some(b"sho"), Some(b"orders")),
+        (Some(b"shop"), Some(b"")),
+    ];
+    for (database, table) in names {
+        let part = Selection {
+            start: 4,
+            stop: None,
+            database,
+            table,
+        };
+        let (came, _, _) = part_of(&rt, &CLOSED, &part, &UNDO)?;
+        assert_eq!(rt; came, Came::NothingSelected);
+    }
+    // between the format description and the first unit
+    let (came, _, _) = part_of(&rt, &CLOSED, &between(4, Some(198)), &UNDO)?;
+    assert_eq!(rt; came, Came::NothingSelected);
+    Ok(())
+}
+
+#[test]
+fn a_schema_without_tables_is_told(rt: HostRuntime) -> Result<(), Fail> {
+    let to = b"other".as_slice();
+    let schemas = [Renamed { from: b"Shop", to }];
+    let sql = SqlOptions {
+        each_transaction: false,
+        time: None,
+        schemas: &schemas,
+    };
+    let writing = Writing {
+        sql: Some(sql),
+        ..UNDO
+    };
+    let mut reader = Watched::new(SlowReader::new(&CLOSED, ALL, Failure::Never));
+    let mut writer = Watched::new(SlowWriter::new(&rt, ALL, Failure::Never));
+    let part = between(START, Some(STOP));
+    let wanted =
+        "the log changes no table in database Shop: give --rewrite-db a database of the log: shop";
+    match write_part(
+        rt.alloc(),
+        &mut reader,
+        b"",
+        &part,
+        0,
+        &writing,
+        &mut writer,
+    ) {
+        Err(PartFault::NoSchema(text)) => assert_eq!(&rt; text.as_str(), wanted),
+        _ => return Err("no schema was missed".into()),
+    }
+    assert_eq!(rt; writer.device().calls, 0);
+    Ok(())
+}
+
+/// A heap with room for a run, in bytes.
+const ROOM: usize = 1 << 18;
+
+#[test]
+fn a_refused_request_writes_nothing(rt: HostRuntime) -> Result<(), Fail> {
+    let part = between(4, None);
+    let (_, wanted, _) = part_of(&rt, &CLOSED, &part, &UNDO)?;
+    let heap = LocalHeap::new(rt.alloc(), ROOM)?;
+    for number in 0..200 {
+        let alloc = Refusing::new(&heap, number + 1);
+        let mut reader = Watched::new(SlowReader::new(&CLOSED, ALL, Failure::Never));
+        let mut writer = Watched::new(SlowWriter::new(&rt, ALL, Failure::Never));
+        match write_part(&alloc, &mut reader, b"", &part, 0, &UNDO, &mut writer) {
+            Ok(_) => {
+                assert!(rt; !alloc.has_refused());
+                assert!(rt; writer.device().taken.as_slice() == wanted.as_slice());
+                assert!(rt; number >= 6);
+                return Ok(());
+            }
+            Err(PartFault::Run(RunFault::Log(Fault::OutOfMemory)))
+            | Err(PartFault::Log(Fault::OutOfMemory)) => {}
+            Err(_) => return Err("another fault".into()),
+        }
+        assert!(rt; alloc.has_refused());
+        assert_eq!(rt; writer.device().calls, 0);
+    }
+    Err("more requests than are tried".into())
+}
+
+#[test]
+fn a_failed_read_writes_nothing(rt: HostRuntime) -> Result<(), Fail> {
+    for call in 1..10_u64 {
+        let failure = Failure::At(call, io::ErrorKind::Interrupted);
+        let mut reader = Watched::new(SlowReader::new(&CLOSED, 200, failure));
+        let mut writer = Watched::new(SlowWriter::new(&rt, ALL, Failure::Never));
+        let part = between(4, None);
+        match write_part(rt.alloc(), &mut reader, b"", &part, 0, &UNDO, &mut writer) {
+            Err(PartFault::Run(RunFault::Read)) => {}
+            _ => return Err("the read wasn't missed".into()),
+        }
+        assert_eq!(rt; writer.device().calls, 0);
+    }
+    Ok(())
+}
+
+#[test]
+fn a_failed_write_is_told(rt: HostRuntime) -> Result<(), Fail> {
+    let part = between(4, None);
+    let (_, wanted, _) = part_of(&rt, &CLOSED, &part, &UNDO)?;
+    for call in 1..5_u64 {
+        let failure = Failure::At(call, io::ErrorKind::Other);
+        let mut reader = Watched::new(SlowReader::new(&CLOSED, ALL, Failure::Never));
+        let mut writer = Watched::new(SlowWriter::new(&rt, 100, failure));
+        match write_part(rt.alloc(), &mut reader, b"", &part, 0, &UNDO, &mut writer) {
+            Err(PartFault::Run(RunFault::Write)) => {}
+            _ => return Err("the write wasn't missed".into()),
+        }
+        assert!(rt; wanted.starts_with(writer.device().taken.as_slice()));
+    }
+    Ok(())
+}

@@ -1,0 +1,89 @@
+//! Runs over a part of a log, which tests share.
+
+ghost use Rattle.blog_run.specs.Writing.{HasShortWriting};
+
+use blog_device::Watched;
+use blog_event::Fault;
+use blog_row::Order;
+use blog_run::{Writing, WritingFault, write_changes};
+use blog_trans::Selection;
+use std::alloc::Allocator;
+use std::test::Fail;
+use testkit::devices::{ALL, Failure, SlowReader, SlowWriter};
+use undo_run::{PartFault, write_part};
+
+/// Changes that undo others, as a log.
+pub(crate) const UNDO: Writing<'static> = Writing {
+    order: Order::Backward,
+    limit: 1 << 20,
+    sql: None,
+};
+
+/// The changes of all tables between two positions.
+pub(crate) fn between(start: u32, stop: Option<u32>) -> Selection<'static> {
+    Selection {
+        start,
+        stop,
+        database: None,
+        table: None,
+    }
+}
+
+/// What came of a run.
+#[derive(Clone, Copy, Debug, PartialEq, Eq)]
+pub(crate) enum Came {
+    Done,
+    Sums(blog_sum::SumFault),
+    NoEventAt(u32),
+    Log(Fault),
+    NothingSelected,
+    Other,
+}
+
+/// Why a part isn't written.
+fn came_of<A: Allocator>(fault: &PartFault<A>) -> Came {
+    match fault {
+        PartFault::Sums(fault) => Came::Sums(*fault),
+        PartFault::NoEventAt(pos) => Came::NoEventAt(*pos),
+        PartFault::Log(fault) => Came::Log(*fault),
+        PartFault::NothingSelected => Came::NothingSelected,
+        PartFault::Run(_) | PartFault::TooLong | PartFault::NoSchema(_) => Came::Other,
+    }
+}
+
+/// What comes of writing a part of a log, what was written, and the report.
+pub(crate) fn part_of<R: AllocGlobal>(
+    rt: &R,
+    log: &[u8],
+    part: &Selection<'_>,
+    writing: &Writing<'_>,
+) -> Result<(Came, Vec<u8>, Vec<u8>), Fail>
+    requires { HasShortWriting writing.now }
+{
+    let mut reader = Watched::new(SlowReader::new(log, ALL, Failure::Never));
+    let mut writer = Watched::new(SlowWriter::new(rt, ALL, Failure::Never));
+    let name = b"binlog.000042";
+    let result = write_part(rt.alloc(), &mut reader, name, part, 0, writing, &mut writer);
+    let (came, told) = match result {
+        Ok(told) => (Came::Done, told),
+        Err(fault) => (came_of(&fault), Vec::new(rt.alloc())),
+    };
+    if came != Came::Done && writer.device().calls != 0 {
+        return Err("something was written".into());
+    }
+    Ok((came, writer.device().taken.to_vec(rt.alloc())?, told))
+}
+
+/// What comes of writing the changes of a log without sums, and what was written.
+pub(crate) fn changes_of<R: AllocGlobal>(
+    rt: &R,
+    log: &[u8],
+    sel: &Selection<'_>,
+    writing: &Writing<'_>,
+) -> Result<(Result<(), WritingFault>, Vec<u8>), Fail>
+    requires { HasShortWriting writing.now }
+{
+    let mut writer = Watched::new(SlowWriter::new(rt, ALL, Failure::Never));
+    let done = write_changes(rt.alloc(), &mut writer, log, sel, 0, writing);
+    Ok((done, writer.device().taken.to_vec(rt.alloc())?))
+}

@@ -1,0 +1,52 @@
+-- What is reported of changes that are made once more, or undone.
+use Rattle.std.specs.Prelude.{ℕ, ◌==◌, ◌||◌, nat_lt, Bool, if◌then◌else◌, List, [], ◌∷◌, ◌++◌, codes}
+use Rattle.std.specs.Fmt.{decimal}
+use Rattle.std.specs.List.{flat_map, list_any}
+use Rattle.blog_row.specs.declared.order.Order.{Order}
+use Rattle.blog_row.specs.declared.order.Order.TheVariants.{Forward, Backward}
+use Rattle.blog_text.specs.Escapes.{escaped}
+use Rattle.blog_text.specs.Tables.{count_text, next_count}
+use Rattle.blog_trans.specs.Changes.{TableCount}
+
+-- the rows of a table: as they are changed, and undone the other way round
+abbrev pub turned : Order → TableCount → TableCount
+turned Forward c = c
+turned Backward c = record c { inserts = c.deletes; deletes = c.inserts }
+
+abbrev pub verb : Order → List ℕ
+verb Forward = codes "redoes "
+verb Backward = codes "undoes "
+
+-- a number of transactions
+abbrev pub transactions_text : ℕ → List ℕ
+transactions_text n = decimal n ++ (if n == 1 then codes " transaction" else codes " transactions")
+
+-- the rows of tables
+abbrev pub next_told : Order → TableCount → List ℕ
+next_told order c = next_count (turned order c)
+
+abbrev pub rows_told : Order → List TableCount → List ℕ
+rows_told order [] = []
+rows_told order (c ∷ cs) = count_text (turned order c) ++ flat_map (next_told order) cs
+
+-- what is told of later changes, which aren't looked for
+abbrev pub since_text : Order → List ℕ
+since_text Forward = []
+since_text Backward = codes "changes made to these rows since are not looked for, and are overwritten\n"
+
+-- rows are updated or deleted
+abbrev pub has_followers : TableCount → Bool
+has_followers c = nat_lt 0 c.updates || nat_lt 0 c.deletes
+
+abbrev pub cascades_text : Order → List TableCount → List ℕ
+cascades_text order counts =
+    if list_any (λ c. has_followers (turned order c)) counts then codes "child rows of foreign keys that cascade follow the updated and deleted rows, and are not counted\n" else []
+
+-- how many transactions of the log of a name, and how many rows of which tables
+abbrev pub changes_told : Order → List ℕ → ℕ → List TableCount → List ℕ
+changes_told order name n counts =
+    verb order ++ (transactions_text n ++ (codes " of " ++ (escaped name ++ (codes ": " ++ (rows_told order counts ++ codes "\n")))))
+
+-- the report
+abbrev pub report : Order → List ℕ → ℕ → List TableCount → List ℕ
+report order name n counts = changes_told order name n counts ++ (since_text order ++ cascades_text order counts)

@@ -1,0 +1,2 @@
+-- What only contracts of code need: what comes of each step of a run.
+pub mod Steps

@@ -1,0 +1,46 @@
+//! Why a part of a log isn't written.
+
+ghost use Rattle.std.specs.Prelude.{◌≡◌};
+ghost use Rattle.blog_device.specs.declared.fault.RunFault.TheVariants.{Log as OfLog};
+ghost use Rattle.blog_event.specs.declared.fault.Fault.TheVariants.{OutOfMemory};
+ghost use Rattle.undo_run.specs.declared.fault.PartFault.TheVariants.{Run};
+
+use blog_device::RunFault;
+use blog_event::Fault;
+use blog_sum::SumFault;
+use std::alloc::{AllocError, Allocator};
+
+/// Why a part of a log isn't written. But for `Run(Write)` nothing was written.
+#[derive(Drop)]
+pub enum PartFault<A: Allocator> {
+    /// A device failed, or the log can't be held.
+    Run(RunFault),
+    /// The log can't be opened; or in front of the stop it ends inside an event, or is damaged, at this place.
+    Sums(SumFault),
+    /// No event begins at this place, which is to be the start.
+    NoEventAt(u32),
+    /// The changes are refused for this fault, at its place; or memory was refused.
+    Log(Fault),
+    /// The part changes no rows.
+    NothingSelected,
+    /// What would be written has, as a log, more than 4,294,967,295 bytes.
+    TooLong,
+    /// The changes have no table in a database that is to have another name, as this text tells.
+    NoSchema(String<A>),
+}
+
+impl<A: Allocator> From<RunFault> for PartFault<A> {
+    ghost from_gives = { λ run fault. fault ≡ Run run };
+
+    fn from(fault: RunFault) -> PartFault<A> {
+        PartFault::Run(fault)
+    }
+}
+
+impl<A: Allocator> From<AllocError> for PartFault<A> {
+    ghost from_gives = { λ _ fault. fault ≡ Run (OfLog OutOfMemory) };
+
+    fn from(_error: AllocError) -> PartFault<A> {
+        PartFault::Run(RunFault::Log(Fault::OutOfMemory))
+    }
+}

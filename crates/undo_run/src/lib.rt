@@ -1,0 +1,10 @@
+//! The run behind `undo` and `redo`: the changes of a part of a server's log, or what undoes them, and a report of them.
+#![tactic(auto)]
+
+mod fault;
+mod part;
+mod reports;
+mod written_part;
+
+pub use fault::PartFault;
+pub use written_part::write_part;

@@ -1,0 +1,121 @@
+//! A part of a server's log: the changes that a selection by places has.
+
+ghost use Rattle.std.specs.Prelude.{◌≡◌, IfErr, IfOk, false, nat_lt};
+ghost use Rattle.blog_source.specs.code.SourceView.{end_of, fault_of, log_of};
+ghost use Rattle.blog_text.specs.code.Counted.{counts_in};
+ghost use Rattle.blog_trans.specs.Selection.{selection_of};
+ghost use Rattle.blog_text.specs.Tables.{rows_in};
+ghost use Rattle.blog_trans.specs.code.IndexView.{index_bytes, index_selection, table_counted};
+ghost use Rattle.undo_run.specs.Parts.{IsSound, begins_at, has_rows, has_start, is_at_end, is_empty, selection_in};
+ghost use Rattle.undo_run.specs.code.Steps.{Refuses};
+
+use crate::fault::PartFault;
+use blog_event::{Fault, event_at};
+use blog_flash::selected;
+use blog_source::Source;
+use blog_trans::{Index, Selection, TableCount};
+use std::alloc::Allocator;
+
+/// Returns the groups of a part of the log of a source, which was read up to the part's stop.
+pub(crate) fn select_part<'l, A: Allocator + Copy>(
+    alloc: A,
+    source: &'l Source<A>,
+    part: &Selection<'l>,
+    seed: u64,
+) -> Result<Index<'l, 'l, A>, PartFault<A>>
+    ensures sound { IfOk result (λ index. IsSound (selection_of part.now) (log_of source.now) (end_of source.now) (fault_of source.now)) }
+    ensures bytes { IfOk result (λ index. index_bytes index ≡ log_of source.now) }
+    ensures selection { IfOk result (λ index. index_selection index ≡ selection_in (selection_of part.now) (log_of source.now)) }
+    ensures refused { IfErr result (Refuses (selection_of part.now) (log_of source.now) (end_of source.now) (fault_of source.now)) }
+{
+    if !has_start(source, part) {
+        return Err(no_start(source, part));
+    }
+    let inside = Selection {
+        start: source.position(part.start),
+        stop: part.stop.map(|stop| source.position(stop)),
+        ..*part
+    };
+    match selected(alloc, source.bytes(), &inside, seed) {
+        Ok(index) => match source.fault() {
+            Some(damage) => Err(PartFault::Sums(damage)),
+            None if has_rows(&index) => Ok(index),
+            None => Err(PartFault::NothingSelected),
+        },
+        Err(fault) => match source.fault() {
+            Some(damage) if is_at_end(source, &fault) => Err(PartFault::Sums(damage)),
+            _ => Err(PartFault::Log(source.at_place(&fault))),
+        },
+    }
+}
+
+/// Whether an event begins at the start of a part, or the part is empty.
+fn has_start<A: Allocator>(source: &Source<A>, part: &Selection<'_>) -> bool
+    ensures { result ≡ has_start (selection_of part.now) (log_of source.now) (end_of source.now) }
+{
+    is_empty(part) || begins_at(source, part.start)
+}
+
+/// Whether nothing lies between the start and the stop of a part.
+fn is_empty(part: &Selection<'_>) -> bool
+    ensures { result ≡ is_empty (selection_of part.now) }
+{
+    match part.stop {
+        Some(stop) => stop <= part.start,
+        None => false,
+    }
+}
+
+/// Whether an event begins at a place, or all that was read ends there. A place up to 4 is that of the first event.
+fn begins_at<A: Allocator>(source: &Source<A>, place: u32) -> bool
+    ensures { result ≡ begins_at (log_of source.now) (end_of source.now) place }
+{
+    if place <= 4 {
+        return true;
+    }
+    let first = match event_at(source.bytes(), 4) {
+        Some(format) => 4 + format.header.size,
+        None => 4,
+    };
+    first <= place && source.place(source.position(place)) == place
+}
+
+/// Why a part without a start isn't written: what was read may end in front of it.
+fn no_start<A: Allocator>(source: &Source<A>, part: &Selection<'_>) -> PartFault<A>
+    requires { has_start (selection_of part.now) (log_of source.now) (end_of source.now) ≡ false }
+    ensures { Refuses (selection_of part.now) (log_of source.now) (end_of source.now) (fault_of source.now) result }
+{
+    match source.fault() {
+        Some(damage) if source.end() <= part.start => PartFault::Sums(damage),
+        _ => PartFault::NoEventAt(part.start),
+    }
+}
+
+/// Whether a fault isn't one of an event, but stands where the log of a source ends.
+fn is_at_end<A: Allocator>(source: &Source<A>, fault: &Fault) -> bool
+    ensures { result ≡ is_at_end (log_of source.now) fault.now }
+{
+    match fault.at() {
+        Some(pos) => pos as usize >= source.bytes().len(),
+        None => false,
+    }
+}
+
+/// Whether rows of a table are changed.
+fn has_some(count: &TableCount<'_>) -> bool
+    ensures { result ≡ nat_lt 0 (rows_in (table_counted count.now)) }
+{
+    count.inserts > 0 || count.updates > 0 || count.deletes > 0
+}
+
+/// Whether an index has rows.
+fn has_rows<A: Allocator>(index: &Index<'_, '_, A>) -> bool
+    ensures { result ≡ has_rows (counts_in index.now) }
+{
+    for n in 0..index.tables() {
+        if has_some(&index.table(n)) {
+            return true;
+        }
+    }
+    false
+}
