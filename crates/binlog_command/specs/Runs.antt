@@ -1,6 +1,6 @@
 -- What a run does to the bytes of its devices. Of a device that does not tell its bytes these definitions say that there
 -- are such bytes.
-use Rattle.std.specs.Prelude.{◌≡◌, ◌⊎◌, ◌<◌, ℕ, Bool, true, false, List, [], ◌∷◌, length, ⊤, String, Vec, Option, None, Some, Result, Ok, Err}
+use Rattle.std.specs.Prelude.{◌≡◌, ◌⊎◌, ◌||◌, ◌<◌, ℕ, Bool, true, false, List, [], ◌∷◌, length, ⊤, String, Vec, Option, None, Some, Result, Ok, Err}
 use Rattle.std.specs.Io.KnownBytes.{Keeps, Appends}
 use Rattle.blog_event.specs.declared.fault.Fault.{Fault}
 use Rattle.blog_event.specs.declared.fault.Fault.TheVariants.{TooLong, OutOfMemory as NoMemory}
@@ -142,9 +142,9 @@ is_failed_write (Err (NoSchema text)) = false
 
 -- ---- parts of logs
 
--- the arguments ask for `undo` or `redo`, where there are any
+-- the arguments ask for `list`, `undo` or `redo`, where there are any
 abbrev pub may_report : {A B E : Type 0} → Result (Vec (String A) B) E → Bool
-may_report (Ok arguments) = asks_for_part arguments.items
+may_report (Ok arguments) = asks_for_list arguments.items || asks_for_part arguments.items
 may_report (Err error) = false
 
 -- the outcome is that of writing a part of a log, of which this holds

@@ -185,8 +185,8 @@ pub fn command<R: Files + Env + AllocGlobal, A: Allocator + Copy, O: Write, E: W
 ) -> ExitCode
     ensures status { exit_status result ≤ 2 }
 
-    // Nothing is printed where all is done, but for the report of a part of a log; and nothing is written where the arguments are
-    // wrong or aren't there.
+    // Nothing is printed where all is done, but for the report of a part of a log, and why nothing is listed; and nothing is written
+    // where the arguments are wrong or aren't there.
     ensures quiet { may_report arguments ≡ false → exit_status result ≡ 0 → errors.new ≡ errors.old }
     ensures unwritten { exit_status result ≡ 2 → output.new ≡ output.old }
     ensures unread { IsErr arguments → (1 ≤ exit_status result) × (output.new ≡ output.old) }
@@ -231,7 +231,7 @@ fn carry_out<'a, R: Files + Env + AllocGlobal, A: Allocator + Copy, O: Write, E:
     output: &mut Watched<O>,
     errors: &mut Watched<E>,
 ) -> Result<(), Failure<'a, A>>
-    ensures quiet { asks_for_part arguments.now ≡ false → errors.new ≡ errors.old }
+    ensures quiet { asks_for_list arguments.now ≡ false → asks_for_part arguments.now ≡ false → errors.new ≡ errors.old }
     ensures unwritten { IfErr result (λ f. status_of f ≡ 2 → output.new ≡ output.old) }
     ensures refused { OnErr result (asks_for_list arguments.now ≡ false → has_failed output.new ≡ false → output.new ≡ output.old) }
     ensures begun { IfErr result (λ f. has_failed output.new ≡ false → (output.new ≡ output.old) ⊎ MayFollowList f) }
@@ -250,7 +250,7 @@ fn carry_out<'a, R: Files + Env + AllocGlobal, A: Allocator + Copy, O: Write, E:
             let mut reader = open_log(rt, task.log)?;
             run_sql(rt, alloc, process, &mut reader, &task, output)?
         }
-        Asked::List(task) => run_list(rt, alloc, process.seed, &task, output)?,
+        Asked::List(task) => run_list(rt, alloc, process.seed, &task, output, errors)?,
         Asked::Part(task) => {
             check_part_output(process, &task)?;
             let mut reader = open_log(rt, task.sql.log)?;

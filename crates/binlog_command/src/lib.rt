@@ -6,6 +6,7 @@ mod lines;
 mod list_runs;
 mod log_file;
 mod part_runs;
+mod reasons;
 mod schemas;
 
 pub use commands::{Failure, NewLogFault, Process, command};

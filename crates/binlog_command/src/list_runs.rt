@@ -8,38 +8,42 @@ ghost use Rattle.binlog_command.specs.Status.{status_of};
 
 use crate::commands::Failure;
 use crate::log_file::open_logs;
+use crate::reasons::tell_reason;
 use binlog_arguments::ListTask;
 use blog_device::Watched;
 use blog_list::Style;
+use blog_reasons::Reasons;
 use list_run::{GivenLog, list_logs};
 use std::alloc::{Allocator, Global};
 use std::io::{Read, Write};
 use std::rt::Files;
 
-/// Writes the list of the logs of a task to standard output.
-pub(crate) fn run_list<'a, R: Files + AllocGlobal, A: Allocator + Copy, O: Write>(
+/// Writes the list of the logs of a task to standard output. Where nothing is listed, a line on standard error says why.
+pub(crate) fn run_list<'a, R: Files + AllocGlobal, A: Allocator + Copy, O: Write, E: Write>(
     rt: &R,
     alloc: A,
     seed: u64,
     task: &ListTask<'a, A>,
     output: &mut Watched<O>,
+    errors: &mut Watched<E>,
 ) -> Result<(), Failure<'a, A>>
     ensures status { IfErr result (λ f. status_of f ≡ 1) }
     ensures begun { IfErr result (λ f. (output.new ≡ output.old) ⊎ MayFollowList f) }
 {
     let logs = open_logs(rt, alloc, task.logs.as_slice())?;
-    list_given(rt.alloc(), alloc, seed, logs, task, output)
+    list_given(rt.alloc(), alloc, seed, logs, task, output, errors)
 }
 
 /// Writes the list of logs to standard output, each of which is read when its turn comes. One that ends too early has its list
 /// written all the same.
-fn list_given<'a, A: Allocator + Copy, D: Read + Drop, O: Write>(
+fn list_given<'a, A: Allocator + Copy, D: Read + Drop, O: Write, E: Write>(
     global: Global,
     alloc: A,
     seed: u64,
     logs: Vec<GivenLog<'a, D>, A>,
     task: &ListTask<'a, A>,
     output: &mut Watched<O>,
+    errors: &mut Watched<E>,
 ) -> Result<(), Failure<'a, A>>
     ensures status { IfErr result (λ f. status_of f ≡ 1) }
     ensures begun { IfErr result (λ f. (output.new ≡ output.old) ⊎ MayFollowList f) }
@@ -53,16 +57,24 @@ fn list_given<'a, A: Allocator + Copy, D: Read + Drop, O: Write>(
         zone: task.zone.time_zone(),
         seed,
     };
+    let wanted = task.wanted();
+    let mut reasons = Reasons::new(alloc, &wanted).ok();
     match list_logs(
         global,
         alloc,
         logs,
         task.reading,
-        &task.wanted(),
+        &wanted,
         &style,
+        &mut reasons,
         output,
     ) {
-        Ok(()) => Ok(()),
+        Ok(()) => {
+            if let Some(reasons) = &reasons {
+                tell_reason(alloc, &reasons.reason(), style.zone, errors);
+            }
+            Ok(())
+        }
         Err((n, fault)) if several => Err(Failure::List(Some(task.path(n)), fault)),
         Err((_, fault)) => Err(Failure::List(None, fault)),
     }

@@ -18,6 +18,6 @@ mod totals;
 
 pub use laws::parts_are_a_list;
 pub use list_writer::ListWriter;
-pub use listing::{Form, Style, list};
+pub use listing::{Form, Style, list, list_counted};
 pub use times::{Side, TimeFault, rfc_3339_text, seconds_of, time_text};
 pub use totals::Totals;

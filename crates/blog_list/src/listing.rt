@@ -75,12 +75,33 @@ pub fn list<A: Allocator + Copy, O: Write>(
     ensures beginning { OnErr result (AppendsListBeginning style.now.form (plain_zone style.now.zone) style.now.gtids (listed None source.now wanted.now ∷ []) (O.contents (device_of writer.old)) (O.contents (device_of writer.new))) }
     ensures end { IfOk result (λ end. end ≡ end_listed source.now wanted.now) }
 {
+    let mut totals = Totals::NONE;
+    list_counted(global, alloc, source, wanted, style, &mut totals, writer)
+}
+
+/// The same as `list`, and returns the totals that it wrote in `totals`, which mean nothing after a failure.
+pub fn list_counted<A: Allocator + Copy, O: Write>(
+    global: Global,
+    alloc: A,
+    source: &Source<A>,
+    wanted: &Wanted<'_>,
+    style: &Style<'_>,
+    totals: &mut Totals,
+    writer: &mut Watched<O>,
+) -> Result<Option<SumFault>, RunFault>
+    ensures refused { IsSome (opening_fault (log_of source.now)) → writer.new ≡ writer.old }
+    ensures lists { Lists (log_of source.now) result }
+    ensures mark { has_failed writer.new ≡ (has_failed writer.old || is_write_fault result) }
+    ensures text { OnOk result (AppendsList style.now.form (plain_zone style.now.zone) style.now.gtids (listed None source.now wanted.now ∷ []) (O.contents (device_of writer.old)) (O.contents (device_of writer.new))) }
+    ensures beginning { OnErr result (AppendsListBeginning style.now.form (plain_zone style.now.zone) style.now.gtids (listed None source.now wanted.now ∷ []) (O.contents (device_of writer.old)) (O.contents (device_of writer.new))) }
+    ensures end { IfOk result (λ end. end ≡ end_listed source.now wanted.now) }
+{
     let log = match open_log(source, style.seed) {
         Ok(log) => log,
         Err(fault) => return Err(RunFault::Log(fault)),
     };
     let inside = wanted_inside(source, wanted);
-    match list_opened(global, alloc, source, &log, &inside, style, writer)? {
+    match list_opened(global, alloc, source, &log, &inside, style, totals, writer)? {
         Some(whole) => Ok(early_end(source, whole, wanted.stop)),
         None => Ok(None),
     }
@@ -95,6 +116,7 @@ fn list_opened<A: Allocator + Copy, O: Write>(
     log: &Log<'_>,
     wanted: &Wanted<'_>,
     style: &Style<'_>,
+    totals: &mut Totals,
     writer: &mut Watched<O>,
 ) -> Result<Option<bool>, RunFault>
     ensures fault { IfErr result (λ e. (e ≡ RunFault.Log OutOfMemory) ⊎ (e ≡ RunFault.Write)) }
@@ -105,10 +127,10 @@ fn list_opened<A: Allocator + Copy, O: Write>(
 {
     let list = ListWriter::new(global, alloc, style)?;
     let mut text = Vec::new(alloc);
-    let mut totals = Totals::NONE;
+    *totals = Totals::NONE;
     list.put_header(&mut text)?;
-    let whole = list.put_log(&mut text, source, log, None, wanted, &mut totals, writer)?;
-    list.put_totals(&mut text, &totals)?;
+    let whole = list.put_log(&mut text, source, log, None, wanted, totals, writer)?;
+    list.put_totals(&mut text, totals)?;
     put(writer, &text)?;
     Ok(whole)
 }

@@ -218,7 +218,7 @@ fn each_call_of_a_text_fails(rt: &HostRuntime, arguments: &[&str]) -> Result<(),
 #[test]
 fn a_failed_write_of_a_text_is_told(rt: HostRuntime) -> Result<(), Fail> {
     let log = path_of(&rt, "unwritten-text")?;
-    fs::write(&rt, log.as_path(), PLAIN.as_slice())?;
+    fs::write(&rt, log.as_path(), INSERT_ONE_ROW.as_slice())?;
     each_call_of_a_text_fails(&rt, &["sql", log.as_str()])?;
     each_call_of_a_text_fails(&rt, &["list", "--utc", log.as_str()])?;
     each_call_of_a_text_fails(&rt, &["--version"])?;

@@ -18,14 +18,27 @@ const INSERT: &str = "       120        259  1970-01-01 00:00:00           0  `d
 const DROP: &str =
     "       259        305  1970-01-01 00:00:00           0  Statement at 259: DROP TABLE t\n";
 
-/// Whether the run listed these lines and the last one below the header, and printed nothing.
+/// Whether the run wrote this, in which no unit is, and printed why.
+fn is_nothing(outcome: &Outcome, text: &[u8]) -> bool {
+    outcome.status == ExitCode::SUCCESS
+        && outcome.output() == text
+        && outcome.errors().starts_with(b"binlog: nothing is listed: ")
+}
+
+/// The run listed these lines below the header. It printed nothing, unless no unit is among the lines.
 fn lists(rt: &HostRuntime, arguments: &[&str], lines: &[&str]) -> Result<(), Fail> {
     let outcome = run_log(rt, "lists", insert_and_drop(rt)?.as_slice(), arguments)?;
     let mut text = String::from_str(rt.alloc(), HEADER)?;
     for line in lines {
         text.push_str(line)?;
     }
-    if outcome.is_done(text.as_bytes()) {
+    let is_none = lines.iter().any(|line| line.starts_with("units 0,"));
+    let is_told = outcome.errors().starts_with(b"binlog: nothing is listed: ");
+    if outcome.status == ExitCode::SUCCESS
+        && outcome.output() == text.as_bytes()
+        && is_told == is_none
+        && (is_told || outcome.errors().is_empty())
+    {
         Ok(())
     } else {
         Err(Fail::new(format_args!("{arguments:?}")))
@@ -134,7 +147,7 @@ fn gtids_choose_units(rt: HostRuntime) -> Result<(), Fail> {
     ];
     let outcome = run_log(&rt, "tagged", CLOSED.as_slice(), arguments.as_slice())?;
     let none = format!(in rt.alloc(); "{HEADER}units 0, not undoable 0, rows 0\n")?;
-    assert!(rt; outcome.is_done(none.as_bytes()));
+    assert!(rt; is_nothing(&outcome, none.as_bytes()));
     Ok(())
 }
 
@@ -175,7 +188,7 @@ fn several_logs_are_listed_below_their_names(rt: HostRuntime) -> Result<(), Fail
     assert!(rt; outcome.is_done(text.as_bytes()));
     let outcome = run_arguments(&rt, &["list", "--utc", "--json", "-T", "none", one, two])?;
     let text = b"{\"units\":0,\"not_undoable\":0,\"rows\":0,\"passed_over\":2}\n";
-    assert!(rt; outcome.is_done(text.as_slice()));
+    assert!(rt; is_nothing(&outcome, text.as_slice()));
     fs::remove_file(&rt, first.as_path())?;
     fs::remove_file(&rt, second.as_path())?;
     Ok(())
@@ -250,7 +263,7 @@ fn damaged_events_are_passed_over(rt: HostRuntime) -> Result<(), Fail> {
     let outcome = run_log(&rt, "passed", damaged.as_slice(), arguments.as_slice())?;
     let text =
         b"{\"units\":0,\"not_undoable\":0,\"rows\":0,\"passed_over\":0}\n{\"damaged_events\":1}\n";
-    assert!(rt; outcome.is_done(text.as_slice()));
+    assert!(rt; is_nothing(&outcome, text.as_slice()));
     Ok(())
 }
 
@@ -371,9 +384,8 @@ fn logs_that_are_not_listed_are_told(rt: HostRuntime) -> Result<(), Fail> {
     )?;
     assert!(rt; outcome.is_refusal(1, line.as_str()));
     let outcome = run_log(&rt, "no-units", PLAIN.as_slice(), &["list", "--json"])?;
-    assert!(rt;
-        outcome.is_done(b"{\"units\":0,\"not_undoable\":0,\"rows\":0,\"passed_over\":0}\n")
-    );
+    let text = b"{\"units\":0,\"not_undoable\":0,\"rows\":0,\"passed_over\":0}\n";
+    assert!(rt; is_nothing(&outcome, text.as_slice()));
     Ok(())
 }
 

@@ -44,6 +44,7 @@ fn check(
         WHOLE,
         wanted,
         &TEXT,
+        &mut None,
         &mut output,
     );
     assert_eq!(rt; listed, answer);
@@ -177,6 +178,7 @@ fn a_read_that_fails_ends_the_list(rt: HostRuntime) -> Result<(), Fail> {
         WHOLE,
         &ALL,
         &JSON,
+        &mut None,
         &mut output,
     );
     assert_eq!(rt; listed, Err((1, ListFault::Run(RunFault::Read))));

@@ -18,8 +18,9 @@ ghost use Rattle.list_run.specs.code.Turns.{ListsOne, IsOpened, above, ListsSour
 use crate::fault::ListFault;
 use crate::given::GivenLog;
 use blog_device::{RunFault, Watched, read_log};
-use blog_event::Fault;
-use blog_list::{ListWriter, Style, Totals};
+use blog_event::{Fault, Log};
+use blog_list::{ListWriter, Style, Totals, list_counted};
+use blog_reasons::Reasons;
 use blog_request::Wanted;
 use blog_source::{Reading, Source, handed_logs_open};
 use blog_sum::SumFault;
@@ -33,6 +34,8 @@ struct Turn<'w> {
     how: Reading,
     /// What is wanted of them.
     wanted: &'w Wanted<'w>,
+    /// The seed by which names of tables are looked up.
+    seed: u64,
     /// How many they are.
     count: usize,
     /// The number of this one, from 0 on.
@@ -47,6 +50,9 @@ struct Turn<'w> {
 /// 0 on. Of a log that can't be read, or of which nothing can be read, and of those behind it nothing is listed, and no totals are
 /// written: `Run` and `Unread` by its number. `Run(Write)` where a write failed.
 ///
+/// Where no unit is listed, `reasons` are of all logs then, and say why. They are taken away where a unit is listed, and where memory
+/// for them was refused.
+///
 /// Memory is taken from `alloc`, and for some strings in lines of JSON from `global`.
 pub fn list_logs<A: Allocator + Copy, R: Read + Drop, W: Write>(
     global: Global,
@@ -55,6 +61,7 @@ pub fn list_logs<A: Allocator + Copy, R: Read + Drop, W: Write>(
     how: Reading,
     wanted: &Wanted<'_>,
     style: &Style<'_>,
+    reasons: &mut Option<Reasons<'_, A>>,
     writer: &mut Watched<W>,
 ) -> Result<(), (usize, ListFault)>
     ensures text { 0 < length logs.entry.items → ListsLogs R.remaining style.now.form (plain_zone style.now.zone) style.now.gtids
@@ -67,10 +74,10 @@ pub fn list_logs<A: Allocator + Copy, R: Read + Drop, W: Write>(
     let mut logs = logs;
     if logs.len() == 1 {
         if let Some(given) = logs.pop() {
-            return list_alone(global, alloc, given, how, wanted, style, writer);
+            return list_alone(global, alloc, given, how, wanted, style, reasons, writer);
         }
     }
-    list_several(global, alloc, logs, how, wanted, style, writer)
+    list_several(global, alloc, logs, how, wanted, style, reasons, writer)
 }
 
 /// Reads a log, and lists it as a whole.
@@ -81,6 +88,7 @@ fn list_alone<A: Allocator + Copy, R: Read + Drop, W: Write>(
     how: Reading,
     wanted: &Wanted<'_>,
     style: &Style<'_>,
+    reasons: &mut Option<Reasons<'_, A>>,
     writer: &mut Watched<W>,
 ) -> Result<(), (usize, ListFault)>
     ensures text { ListsLogs R.remaining style.now.form (plain_zone style.now.zone) style.now.gtids
@@ -88,9 +96,21 @@ fn list_alone<A: Allocator + Copy, R: Read + Drop, W: Write>(
     ensures mark { has_failed writer.new ≡ (has_failed writer.old || has_failed_write result) }
     ensures unwritten { IfErr result (λ e. (writer.new ≡ writer.old) ⊎ MayFollow e.1) }
 {
+    let mut totals = Totals::NONE;
     match read_source(alloc, given.reader, how) {
-        Ok(source) => match blog_list::list(global, alloc, &source, wanted, style, writer) {
-            Ok(None) => Ok(()),
+        Ok(source) => match list_counted(
+            global,
+            alloc,
+            &source,
+            wanted,
+            style,
+            &mut totals,
+            writer,
+        ) {
+            Ok(None) => {
+                look_at(reasons, &source, style.seed, &totals, wanted);
+                Ok(())
+            }
             Ok(Some(fault)) => Err((0, ListFault::EndsEarly(fault))),
             Err(fault) => Err((0, ListFault::Run(fault))),
         },
@@ -106,6 +126,7 @@ fn list_several<A: Allocator + Copy, R: Read + Drop, W: Write>(
     how: Reading,
     wanted: &Wanted<'_>,
     style: &Style<'_>,
+    reasons: &mut Option<Reasons<'_, A>>,
     writer: &mut Watched<W>,
 ) -> Result<(), (usize, ListFault)>
     ensures text { 0 < length logs.entry.items → ListsLogs R.remaining style.now.form (plain_zone style.now.zone) style.now.gtids
@@ -120,13 +141,14 @@ fn list_several<A: Allocator + Copy, R: Read + Drop, W: Write>(
     let mut turn = Turn {
         how,
         wanted,
+        seed: style.seed,
         count: logs.len(),
         n: 0,
     };
     let mut totals = Totals::NONE;
     let mut end = None;
     'logs: for given in logs {
-        match list_one(&list, alloc, given, &turn, &mut totals, writer) {
+        match list_one(&list, alloc, given, &turn, &mut totals, reasons, writer) {
             Ok(fault) => end = earlier(end, turn.n, fault),
             Err(fault) => return Err((turn.n, fault)),
         }
@@ -167,6 +189,7 @@ fn list_one<A: Allocator + Copy, R: Read + Drop, W: Write>(
     given: GivenLog<'_, R>,
     turn: &Turn<'_>,
     totals: &mut Totals,
+    reasons: &mut Option<Reasons<'_, A>>,
     writer: &mut Watched<W>,
 ) -> Result<Option<SumFault>, ListFault>
     requires { turn.now.n < turn.now.count }
@@ -177,9 +200,39 @@ fn list_one<A: Allocator + Copy, R: Read + Drop, W: Write>(
 {
     let source = read_source(alloc, given.reader, turn.how)?;
     match list_source(list, &source, turn.name(given.name), turn, totals, writer) {
-        Ok(end) => Ok(end),
+        Ok(end) => {
+            look_at(reasons, &source, turn.seed, totals, &turn.wanted());
+            Ok(end)
+        }
         Err(fault) => Err(ListFault::Run(fault)),
     }
+}
+
+/// Looks at a log that was listed, unless a unit was: then the reasons are taken away, as where memory is refused.
+fn look_at<A: Allocator + Copy>(
+    reasons: &mut Option<Reasons<'_, A>>,
+    source: &Source<A>,
+    seed: u64,
+    totals: &Totals,
+    wanted: &Wanted<'_>,
+) {
+    if totals.units > 0 || look(reasons, source, seed, wanted).is_none() {
+        *reasons = None;
+    }
+}
+
+/// Looks at the log of a source for the reason why nothing is listed. None where memory was refused.
+fn look<A: Allocator + Copy>(
+    reasons: &mut Option<Reasons<'_, A>>,
+    source: &Source<A>,
+    seed: u64,
+    wanted: &Wanted<'_>,
+) -> Option<()> {
+    let seen = reasons.as_mut()?;
+    let log = Log::open(source.bytes()).ok()?;
+    let start = wanted.start.map(|place| source.position(place));
+    let stop = wanted.stop.map(|place| source.position(place));
+    seen.look(&log.with_seed(seed), start, stop).ok()
 }
 
 /// Reads a log to its end, and opens it as a source.

@@ -8,7 +8,7 @@ use Rattle.blog_list.specs.Lines.{LogList}
 use Rattle.blog_list.specs.Shown.{log_list}
 use Rattle.blog_list.specs.Texts.{AppendsList, AppendsListBeginning}
 use Rattle.blog_list.specs.code.Told.{source_place}
-use Rattle.blog_list.proofs.listing.list.Goals as goal
+use Rattle.blog_list.proofs.listing.list_counted.Goals as goal
 
 pub returns-in_err-whole-clause-beginning : goal.returns-in_err-whole-clause-beginning
 returns-in_err-whole-clause-beginning g c =

@@ -1,0 +1,4 @@
+mod Looking
+mod SeenTables
+mod SeenUnits
+mod TablesNamed
