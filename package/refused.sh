@@ -83,6 +83,8 @@ of_binlog() {
     refuse_each 0 plain --force -r result crc32_closed.binlog
     refuse_each 0 list --json -d d -T t -j 4 --start-datetime "2026-01-01 00:00:00" multi_table.binlog
     refuse_each 0 undo --anyway --keep-times -j 811 --stop-position 1215 -d shop -T orders -r result --force crc32_closed.binlog
+    refuse_each 0 undo --dry-run -j 811 --stop-position 1215 crc32_closed.binlog
+    refuse_each 1 undo -j 198 --stop-position 512 crc32_closed.binlog
     refuse_each 0 redo --binlog -j 811 --stop-position 1215 crc32_closed.binlog
     refuse_each 1 undo --anyway -T none crc32_closed.binlog
     refuse_each 0 split --size 1024 multi_table.binlog

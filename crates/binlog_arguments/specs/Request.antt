@@ -1,5 +1,5 @@
 -- What a run is asked to do, by the values of the options.
-use Rattle.std.specs.Prelude.{◌≡◌, ◌⊎◌, ◌&&◌, ◌||◌, ◌≤◌, ℕ, Bool, true, false, if◌then◌else◌, List, [], length, ⊤, IsSome, map, ◌∷◌, Option, Some, None, Result, Ok, Err, codes, option_map, slice_get, string_bytes, unwrap_or, String}
+use Rattle.std.specs.Prelude.{◌≡◌, ◌⊎◌, ◌&&◌, ◌||◌, ◌≤◌, ℕ, Bool, true, false, not, if◌then◌else◌, List, [], length, ⊤, IsSome, map, ◌∷◌, Option, Some, None, Result, Ok, Err, codes, option_map, slice_get, string_bytes, unwrap_or, String}
 use Rattle.std.specs.Option.{option_map_or, option_or}
 use Rattle.std.specs.List.{AllByRecursion}
 use Rattle.std.specs.Str.{bytes_eq}
@@ -188,6 +188,11 @@ abbrev pub IsPart : Found → Option ℕ → Option ℕ → Selection → Type 0
 IsPart found start stop part =
     part ≡ part_of_name (unwrap_or start 4) stop (first_value found (codes "database")) (option_map read_name (first_value found (codes "table")))
 
+-- what came later is looked at: by `undo`, unless it is told not to
+abbrev pub looks_later : Found → Order → Bool
+looks_later found Forward = false
+looks_later found Backward = not (is_given found (codes "anyway"))
+
 -- each part of the task is the value of its option, or are its values
 pub record IsPartTask {A : Type 0} (found : Found) (direction : Order) (task : PartTask A) : Type 0 where
   pub sql : IsSqlTask found task.sql
@@ -196,6 +201,7 @@ pub record IsPartTask {A : Type 0} (found : Found) (direction : Order) (task : P
   pub order : task.order ≡ direction
   pub as_log : task.as_log ≡ is_given found (codes "binlog")
   pub dry_run : task.dry_run ≡ is_given found (codes "dry-run")
+  pub looks : task.looks ≡ looks_later found direction
 
 -- its changes are written as a log, or printed as SQL at this time
 abbrev pub HasForm : {A : Type 0} → PartTask A → ℕ → Option SqlOptions → Type 0

@@ -10,7 +10,7 @@ pub const USAGE: &str = "\
 binlog list [-d NAME] [-T NAME] [-j POS] [--stop-position POS]
                    [--start-datetime TIME] [--stop-datetime TIME]
                    [--utc | --time-zone NAME] [--json] LOG..
-       binlog undo --anyway [-j POS] [--stop-position POS] [-d NAME] [-T NAME]
+       binlog undo [--anyway] [-j POS] [--stop-position POS] [-d NAME] [-T NAME]
                    [--dry-run] [-r FILE [--force]] LOG
        binlog redo [-j POS] [--stop-position POS] [-d NAME] [-T NAME]
                    [--dry-run] [-r FILE [--force]] LOG
@@ -25,7 +25,7 @@ Examples:
   binlog list binlog.000042
       list the transactions of a log: where each starts and stops,
       and which rows it changes, or why it can't be undone
-  binlog undo --anyway -j 4021 --stop-position 9144 binlog.000042 -r undo.sql
+  binlog undo -j 4021 --stop-position 9144 binlog.000042 -r undo.sql
       write SQL that undoes the transactions from one position to another
   binlog plain binlog.000042 -r plain.000042
       check every checksum of a log, and write the same log without checksums,
@@ -74,7 +74,7 @@ The last line counts units, those that can't be undone, and the rows of the othe
 With several LOGs the lines of each stand below its name, and the last line counts all. -j is a position
 of the first LOG, and --stop-position one of the last.
 Each checksum of LOG is checked, if it has checksums. Positions are those of LOG, as mysqlbinlog shows them.
-binlog undo --anyway -j START --stop-position STOP undoes a unit, or more of them in a row. So does
+binlog undo -j START --stop-position STOP undoes a unit, or more of them in a row. So does
 flashback -B, which takes no log with checksums: list the plain log of binlog plain for it, whose positions
 are its own.";
 
@@ -203,17 +203,18 @@ pub const UNDO_ABOUT: &str = "\
 Prints SQL that undoes changes of LOG: it deletes what was inserted, inserts what was deleted, and updates
 rows back, the last change first. Any mysql or mariadb client runs it, in one transaction: all of it, or
 after any error nothing. What is undone are the changes of the transactions from one position to another,
-which binlog list shows. LOG is a server's log as it is, with checksums or without. What is behind the
-stop isn't looked at.
+which binlog list shows. LOG is a server's log as it is, with checksums or without.
 What can't be undone is refused, with its position, and then nothing is written.
-Changes that were made to the same rows since are not looked for, and are overwritten. --anyway says that
-you know, and has to be given.
+What came later is looked at, to the end of LOG, but not in logs after it. If it changed rows that would
+be undone, or may have changed these tables in a way that can't be looked into, such as by ALTER TABLE,
+nothing is written, and lines say where. With --anyway nothing is looked at: later changes of these rows
+are overwritten.
 A report says what is undone: on standard output with -r and with --dry-run, else on standard error.
 It counts rows as the undo changes them: 120 rows that were deleted are 120 inserts.";
 
 /// How `undo` is called.
 pub const UNDO_USAGE: &str = "\
-binlog undo --anyway [-j POS] [--stop-position POS] [-d NAME] [-T [NAME.]NAME]
+binlog undo [--anyway] [-j POS] [--stop-position POS] [-d NAME] [-T [NAME.]NAME]
                    [--each-transaction] [--keep-times] [--rewrite-db FROM:TO].. [--size BYTES]
                    [--binlog] [--dry-run] [-r FILE [--force]] LOG";
 
@@ -228,27 +229,27 @@ With --binlog a binary log is written, as by flashback -B and binlog split. It i
 What is written has rows of LOG in it: FILE appears once it is whole, and only its owner may read it.
 
 Examples:
-  binlog undo --anyway -j 4021 --stop-position 9144 binlog.000042 --dry-run
+  binlog undo -j 4021 --stop-position 9144 binlog.000042 --dry-run
       see what would be undone, and whether it can be
-  binlog undo --anyway -j 4021 --stop-position 9144 binlog.000042 -r undo.sql
+  binlog undo -j 4021 --stop-position 9144 binlog.000042 -r undo.sql
       write to a file that isn't there yet; -r is the same as --result-file, -j as --start-position
-  binlog undo --anyway -j 4021 --stop-position 9144 binlog.000042 -r undo.sql --force
+  binlog undo -j 4021 --stop-position 9144 binlog.000042 -r undo.sql --force
       replace a file that is there
-  binlog undo --anyway -j 4021 --stop-position 9144 binlog.000042 | mysql
+  binlog undo -j 4021 --stop-position 9144 binlog.000042 | mysql
       undo it on a server
-  binlog undo --anyway -j 4021 --stop-position 9144 -T shop.orders binlog.000042 | mysql
+  binlog undo -j 4021 --stop-position 9144 -T shop.orders binlog.000042 | mysql
       only in one table; -T is the same as --table
-  binlog undo --anyway -j 4021 --stop-position 9144 -d shop binlog.000042 | mysql
+  binlog undo -j 4021 --stop-position 9144 -d shop binlog.000042 | mysql
       only in the tables of one database; -d is the same as --database
-  binlog undo --anyway --rewrite-db shop:scratch -j 4021 --stop-position 9144 binlog.000042 | mysql
+  binlog undo --rewrite-db shop:scratch -j 4021 --stop-position 9144 binlog.000042 | mysql
       try it first in a copy of the tables in another database; other databases stay as they are
-  binlog undo --anyway --each-transaction -j 4021 --stop-position 9144 binlog.000042 | mysql
+  binlog undo --each-transaction -j 4021 --stop-position 9144 binlog.000042 | mysql
       commit what undoes each transaction by itself
-  binlog undo --anyway --keep-times -j 4021 --stop-position 9144 binlog.000042 | mysql
+  binlog undo --keep-times -j 4021 --stop-position 9144 binlog.000042 | mysql
       leave the times of the events as they are
-  binlog undo --anyway --size 1000000 -j 4021 --stop-position 9144 binlog.000042 | mysql
+  binlog undo --size 1000000 -j 4021 --stop-position 9144 binlog.000042 | mysql
       statements of at most 1,000,000 bytes
-  binlog undo --anyway --binlog -j 4021 --stop-position 9144 binlog.000042 -r undo.binlog
+  binlog undo --binlog -j 4021 --stop-position 9144 binlog.000042 -r undo.binlog
       a binary log in place of SQL
 
 Exit status: 0 done, 1 the log is refused or something failed, 2 the arguments are wrong.";

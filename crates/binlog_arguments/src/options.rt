@@ -156,8 +156,10 @@ fn undo_arguments<'a>(alloc: Global) -> Result<Command<'a>, AllocError> {
         .about(UNDO_ABOUT)
         .override_usage(UNDO_USAGE)
         .after_help(UNDO_AFTER_HELP);
-    let anyway = flag(alloc, ANYWAY).help("Undo without looking at what was changed since");
-    part_arguments(alloc, command.arg(anyway.required(true))?)
+    let anyway = flag(alloc, ANYWAY).help(
+        "Undo without looking at what came later, and overwrite it",
+    );
+    part_arguments(alloc, command.arg(anyway)?)
 }
 
 /// The command `redo`, with its options.

@@ -1,14 +1,14 @@
 //! Which arguments of `undo` and `redo` mean what.
 
-ghost use Rattle.std.specs.Prelude.{IfErr, IfOk};
+ghost use Rattle.std.specs.Prelude.{◌≡◌, IfErr, IfOk};
 ghost use Rattle.clap.specs.Words.{found_of};
 ghost use Rattle.blog_run.specs.Writing.{HasShortWriting};
 ghost use Rattle.blog_sql.specs.Changed.{HaveShortNames};
 ghost use Rattle.blog_trans.specs.Selection.{selection_of};
-ghost use Rattle.binlog_arguments.specs.Request.{HasPartWriting, IsPart, IsPartTask, RefusesPart};
+ghost use Rattle.binlog_arguments.specs.Request.{HasPartWriting, IsPart, IsPartTask, RefusesPart, looks_later};
 
 use crate::arguments::{ArgumentsFault, is_given, read_number};
-use crate::options::{AS_LOG, DATABASE, DRY_RUN, START, STOP, TABLE};
+use crate::options::{ANYWAY, AS_LOG, DATABASE, DRY_RUN, START, STOP, TABLE};
 use crate::sql_arguments::{SqlTask, read_sql};
 use blog_choice::TableName;
 use blog_row::Order;
@@ -31,6 +31,8 @@ pub struct PartTask<'a, A: Allocator> {
     pub as_log: bool,
     /// Whether nothing but the report is written.
     pub dry_run: bool,
+    /// Whether what came later in the log is looked at, so that nothing is written if it touches the part.
+    pub looks: bool,
 }
 
 impl<A: Allocator> PartTask<'_, A> {
@@ -71,7 +73,18 @@ pub(crate) fn read_part<'a, A: Allocator + Copy>(
         order,
         as_log: is_given(found, AS_LOG),
         dry_run: is_given(found, DRY_RUN),
+        looks: looks(found, order),
     })
+}
+
+/// Whether what came later is looked at: by `undo`, unless it is told not to.
+fn looks(found: &ArgMatches<'_>, order: Order) -> bool
+    ensures { result ≡ looks_later (found_of found.now) order }
+{
+    match order {
+        Order::Forward => false,
+        Order::Backward => !is_given(found, ANYWAY),
+    }
 }
 
 /// The part from a start to a stop, of the tables that are asked for.

@@ -156,12 +156,12 @@ OfPart P (Err failure) = ⊥
 -- a task's part is written, as it is written at this time
 abbrev pub WritesTask : {A : Type 0} → PartTask A → ℕ → Option (List ℕ) → Option (List ℕ) → Option (List ℕ) → Option (List ℕ) → Result Unit (Failure A) → Type 0
 WritesTask task now old new had has result = (how : Writing) × HasPartWriting task now how
-    × OfPart (WritesPart how task.sql.log.now (selection_of task.part) old new had has) result
+    × OfPart (WritesPart task.looks how task.sql.log.now (selection_of task.part) old new had has) result
 
 -- this is reported of a task's part, of the log that was read
 abbrev pub IsToldOf : {A : Type 0} → Writing → PartTask A → Option (List ℕ) → Option (List ℕ) → List ℕ → Type 0
 IsToldOf how task old new told = OfOpened (selection_of task.part) old new
-    (λ bytes. CanBe how (selection_of task.part) bytes × (told ≡ part_report how task.sql.log.now (selection_of task.part) bytes))
+    (λ bytes. CanBe task.looks how (selection_of task.part) bytes × (told ≡ part_report task.looks how task.sql.log.now (selection_of task.part) bytes))
 
 -- and it is written
 abbrev pub TellsPart : {A : Type 0} → PartTask A → ℕ → Option (List ℕ) → Option (List ℕ) → Option (List ℕ) → Option (List ℕ) → Type 0

@@ -15,12 +15,25 @@ use std::io::Write;
 use undo_run::PartFault;
 
 impl<A: Allocator> Failure<'_, A> {
-    /// Prints the failure. What can't be printed is dropped.
+    /// Prints the failure, below what it comes with. What can't be printed is dropped.
     pub fn print<E: Write>(&self, errors: &mut Watched<E>) {
+        let above = self.lines_above();
+        if !above.is_empty() {
+            let _ = put(errors, above);
+        }
         let _ = match self {
             Failure::Arguments(ArgumentsFault::Wrong(text)) => put(errors, text.as_bytes()),
             _ => put_line(errors, "binlog", self),
         };
+    }
+
+    /// The lines above the failure's own: where what came later touches the part of a log.
+    fn lines_above(&self) -> &[u8] {
+        match self {
+            Failure::Part(PartFault::ChangedSince(_, lines)) => lines,
+            Failure::Part(PartFault::UnknownSince(lines)) => lines,
+            _ => &[],
+        }
     }
 }
 
@@ -86,6 +99,15 @@ fn print_part_fault<W: fmt::Write, A: Allocator>(
         }
         PartFault::Log(fault) => write!(f, "{fault}: {}", advice::of_log(fault)),
         PartFault::NothingSelected => f.write_str(NOTHING_SELECTED),
+        PartFault::ChangedSince(1, _) => write!(
+            f,
+            "ChangedSince: 1 row that would be undone was changed since: {CHANGED_SINCE}"
+        ),
+        PartFault::ChangedSince(rows, _) => write!(
+            f,
+            "ChangedSince: {rows} rows that would be undone were changed since: {CHANGED_SINCE}"
+        ),
+        PartFault::UnknownSince(_) => f.write_str(UNKNOWN_SINCE),
         PartFault::TooLong => f.write_str(CUT_TOO_LONG),
         PartFault::NoSchema(text) => f.write_str(text.as_str()),
     }
@@ -213,6 +235,11 @@ const ENCRYPTED: &str =
 
 const NOTHING_SELECTED: &str =
     "NothingSelected: no row of these tables is changed in this range: see binlog list";
+
+const CHANGED_SINCE: &str = "undo these later changes first, or give --anyway to overwrite them";
+
+const UNKNOWN_SINCE: &str =
+    "UnknownSince: what came later may have changed these tables: give --anyway if it left these rows as they were";
 
 const CUT_TOO_LONG: &str =
     "TooLong: cut so small the log would have more than 4294967295 bytes: give a larger --size";

@@ -90,7 +90,7 @@ fn part_to<A: Allocator + Copy, D: Read, W: Write>(
     writer: &mut Watched<W>,
 ) -> Result<Vec<u8, A>, PartFault<A>>
     requires { HasShortWriting writing.now }
-    ensures writes { WritesPart writing.now task.now.sql.log.now (selection_of task.now.part) (D.remaining (device_of reader.old)) (D.remaining (device_of reader.new))
+    ensures writes { WritesPart task.now.looks writing.now task.now.sql.log.now (selection_of task.now.part) (D.remaining (device_of reader.old)) (D.remaining (device_of reader.new))
         (W.contents (device_of writer.old)) (W.contents (device_of writer.new)) result }
     ensures untouched { OnErr result (has_failed writer.new ≡ false → writer.new ≡ writer.old) }
 {
@@ -99,6 +99,7 @@ fn part_to<A: Allocator + Copy, D: Read, W: Write>(
         reader,
         task.sql.log.as_bytes(),
         &task.part,
+        task.looks,
         process.seed,
         writing,
         writer,

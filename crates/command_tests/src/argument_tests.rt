@@ -12,7 +12,7 @@ const USAGE: &str = "
 Usage: binlog list [-d NAME] [-T NAME] [-j POS] [--stop-position POS]
                    [--start-datetime TIME] [--stop-datetime TIME]
                    [--utc | --time-zone NAME] [--json] LOG..
-       binlog undo --anyway [-j POS] [--stop-position POS] [-d NAME] [-T NAME]
+       binlog undo [--anyway] [-j POS] [--stop-position POS] [-d NAME] [-T NAME]
                    [--dry-run] [-r FILE [--force]] LOG
        binlog redo [-j POS] [--stop-position POS] [-d NAME] [-T NAME]
                    [--dry-run] [-r FILE [--force]] LOG
@@ -31,7 +31,7 @@ const PLAIN_USAGE: &str =
 /// Lines of the help.
 static HELP_LINES: [&str; 15] = [
     "Usage: binlog list [-d NAME] [-T NAME] [-j POS] [--stop-position POS]",
-    "       binlog undo --anyway [-j POS] [--stop-position POS] [-d NAME] [-T NAME]",
+    "       binlog undo [--anyway] [-j POS] [--stop-position POS] [-d NAME] [-T NAME]",
     "       binlog redo [-j POS] [--stop-position POS] [-d NAME] [-T NAME]",
     "       binlog plain [-r FILE [--force]] LOG",
     "       binlog split [--size BYTES] [-r FILE [--force]] LOG",
@@ -170,7 +170,7 @@ fn help_and_version_are_written(rt: HostRuntime) -> Result<(), Fail> {
         (&["list", "--help"], "-j is the same as --start-position"),
         (
             &["undo", "--help"],
-            "binlog undo --anyway --rewrite-db shop:scratch -j 4021 --stop-position 9144 binlog.000042 | mysql",
+            "binlog undo --rewrite-db shop:scratch -j 4021 --stop-position 9144 binlog.000042 | mysql",
         ),
         (
             &["redo", "--help"],

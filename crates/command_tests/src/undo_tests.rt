@@ -1,7 +1,7 @@
 //! Runs of `undo` and `redo`. The SQL that is expected was made from the bytes of the log by another program.
 
 use command_runs::{path_of, run_arguments, run_log};
-use sample_logs::builder::{BEGIN, Part, T, XID, build, insert};
+use sample_logs::builder::{BEGIN, DROP_TABLE, Part, T, XID, build, insert};
 use sample_logs::small::PLAIN;
 use sample_logs::summed::{CLOSED, CLOSED_PLAIN, IN_USE};
 use std::fs;
@@ -121,6 +121,96 @@ fn changes_are_undone_and_made_once_more(rt: HostRuntime) -> Result<(), Fail> {
     let twice = run_log(&rt, "undone-twice", &log, &["undo", "--anyway", "--binlog"])?;
     assert_eq!(rt; twice.output(), again.as_slice());
     Ok(())
+}
+
+/// What came later is looked at, unless `undo` is told not to.
+#[test]
+fn later_changes_are_looked_at(rt: HostRuntime) -> Result<(), Fail> {
+    let path = path_of(&rt, "third")?;
+    let looked = format!(in rt.alloc();
+        "looked at 1 later transaction, up to 1569 of {}: none changes these rows\n",
+        path.as_str()
+    )?;
+    let undone = check_of_log(&rt, &["undo"], ROWS, looked.as_str())?;
+    let anyway = check_third(&rt, &["undo", "--anyway"], "undoes", ROWS, SINCE)?;
+    assert!(rt; undone == anyway);
+    Ok(())
+}
+
+/// What a run of this command writes of the third unit of `CLOSED`, whose report ends so.
+fn check_of_log(
+    rt: &HostRuntime,
+    command: &[&str],
+    rows: &str,
+    last: &str,
+) -> Result<Vec<u8>, Fail> {
+    let path = path_of(rt, "third")?;
+    let name = path.as_str();
+    fs::write(rt, name, CLOSED.as_slice())?;
+    let outcome = run_arguments(rt, &of_third(rt, command, &[name])?)?;
+    fs::remove_file(rt, name)?;
+    let report = format!(in rt.alloc(); "undoes 1 transaction of {name}: {rows}\n{last}")?;
+    if outcome.status != ExitCode::SUCCESS || outcome.errors() != report.as_bytes() {
+        return Err(Fail::new(format_args!("{command:?}")));
+    }
+    Ok(outcome.output().to_vec(rt.alloc())?)
+}
+
+/// An undo of a part of a log is refused by these lines, each below the log's name, and the last one.
+fn check_since(
+    rt: &HostRuntime,
+    log: &[u8],
+    options: &[&str],
+    lines: &[&str],
+    last: &str,
+) -> Result<(), Fail> {
+    let path = path_of(rt, "since")?;
+    let file = path_of(rt, "since-undo")?;
+    let name = path.as_str();
+    fs::write(rt, name, log)?;
+    let mut arguments = Vec::new(rt.alloc());
+    arguments.push("undo")?;
+    arguments.extend_from_slice(options)?;
+    arguments.extend_from_slice(&["-r", file.as_str(), name])?;
+    let outcome = run_arguments(rt, &arguments)?;
+    fs::remove_file(rt, name)?;
+    let mut wanted = String::new(rt.alloc());
+    for line in lines {
+        wanted.push_str(name)?;
+        wanted.push_str(line)?;
+    }
+    wanted.push_str(last)?;
+    if outcome.is_refusal(1, wanted.as_str()) && !fs::exists(rt, file.as_str())? {
+        Ok(())
+    } else {
+        Err(Fail::new(format_args!("{options:?}")))
+    }
+}
+
+#[test]
+fn what_touches_the_part_since_is_told(rt: HostRuntime) -> Result<(), Fail> {
+    let lines = [
+        " 1026 `shop`.`orders`: delete\n",
+        " 1439 `shop`.`orders`: update\n",
+    ];
+    let last =
+        "binlog: ChangedSince: 3 rows that would be undone were changed since: undo these later changes first, or give --anyway to overwrite them\n";
+    let options = ["-j", "198", "--stop-position", "512"];
+    check_since(&rt, &CLOSED, &options, &lines, last)?;
+    let lines = [" 1136 `shop`.`items`: delete\n"];
+    let last =
+        "binlog: ChangedSince: 1 row that would be undone was changed since: undo these later changes first, or give --anyway to overwrite them\n";
+    let options = ["-j", "512", "--stop-position", "811"];
+    check_since(&rt, &CLOSED, &options, &lines, last)?;
+    // a statement that names the table
+    let log = build(
+        &rt,
+        &[BEGIN, Part::Map(T), insert(1, &[5]), XID, DROP_TABLE],
+    )?;
+    let lines = [" 259: may change these tables, and can't be looked into\n"];
+    let last =
+        "binlog: UnknownSince: what came later may have changed these tables: give --anyway if it left these rows as they were\n";
+    check_since(&rt, &log, &["--stop-position", "259"], &lines, last)
 }
 
 /// Each option is heard: with it something else is written, or this part of it.
@@ -268,8 +358,8 @@ fn each_refusal_has_its_line(rt: HostRuntime) -> Result<(), Fail> {
 fn wrong_arguments_of_parts_are_told(rt: HostRuntime) -> Result<(), Fail> {
     let cases: [(&[&str], &str); 10] = [
         (
-            &["undo", "a"],
-            "error: the following required arguments were not provided:\n  --anyway\n",
+            &["undo"],
+            "error: the following required arguments were not provided:\n  <LOG>\n",
         ),
         (
             &["undo", "--anyway"],

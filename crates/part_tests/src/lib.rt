@@ -2,6 +2,8 @@
 #![tactic(auto)]
 
 #[cfg(test)]
+mod later_tests;
+#[cfg(test)]
 mod place_tests;
 #[cfg(test)]
 mod refusal_tests;

@@ -1,6 +1,6 @@
 //! Parts that aren't written, and why; and devices and memory that fail.
 
-use crate::runs::{Came, UNDO, between, part_of};
+use crate::runs::{Came, UNDO, between, part_by, part_of};
 use blog_device::{RunFault, Watched};
 use blog_event::{Fault, event_at};
 use blog_run::Writing;
@@ -9,6 +9,7 @@ use blog_sum::SumFault;
 use blog_trans::Selection;
 use linked_list_allocator::LocalHeap;
 use refusing::Refusing;
+use sample_logs::builder::{BEGIN, Part, T, XID, build, delete, insert};
 use sample_logs::summed::{CLOSED, IN_USE};
 use std::io;
 use std::process::Abort;
@@ -173,6 +174,7 @@ fn a_schema_without_tables_is_told(rt: HostRuntime) -> Result<(), Fail> {
         &mut reader,
         b"",
         &part,
+        false,
         0,
         &writing,
         &mut writer,
@@ -184,24 +186,38 @@ fn a_schema_without_tables_is_told(rt: HostRuntime) -> Result<(), Fail> {
     Ok(())
 }
 
+/// A statement about another table than `t`.
+const OTHER_STATEMENT: Part<'static> = Part::Query {
+    status: &[],
+    text: b"DROP TABLE u",
+};
+
 /// A heap with room for a run, in bytes.
 const ROOM: usize = 1 << 18;
 
-#[test]
-fn a_refused_request_writes_nothing(rt: HostRuntime) -> Result<(), Fail> {
-    let part = between(4, None);
-    let (_, wanted, _) = part_of(&rt, &CLOSED, &part, &UNDO)?;
+/// Each request for memory of a run over a part of a log is refused in turn. There are at least so many.
+fn refuse_each<R: AllocGlobal + Abort>(
+    rt: &R,
+    log: &[u8],
+    part: &Selection<'_>,
+    looks: bool,
+    least: usize,
+) -> Result<(), Fail> {
+    let (_, wanted, _) = part_by(rt, log, part, looks, &UNDO)?;
     let heap = LocalHeap::new(rt.alloc(), ROOM)?;
     for number in 0..200 {
         let alloc = Refusing::new(&heap, number + 1);
-        let mut reader = Watched::new(SlowReader::new(&CLOSED, ALL, Failure::Never));
-        let mut writer = Watched::new(SlowWriter::new(&rt, ALL, Failure::Never));
-        match write_part(&alloc, &mut reader, b"", &part, 0, &UNDO, &mut writer) {
+        let mut reader = Watched::new(SlowReader::new(log, ALL, Failure::Never));
+        let mut writer = Watched::new(SlowWriter::new(rt, ALL, Failure::Never));
+        match write_part(&alloc, &mut reader, b"", part, looks, 0, &UNDO, &mut writer) {
             Ok(_) => {
-                assert!(rt; !alloc.has_refused());
+                // a unit in front of the part may have lacked memory, and isn't looked at
                 assert!(rt; writer.device().taken.as_slice() == wanted.as_slice());
-                assert!(rt; number >= 6);
-                return Ok(());
+                if !alloc.has_refused() {
+                    assert!(rt; number >= least);
+                    return Ok(());
+                }
+                continue;
             }
             Err(PartFault::Run(RunFault::Log(Fault::OutOfMemory)))
             | Err(PartFault::Log(Fault::OutOfMemory)) => {}
@@ -214,13 +230,41 @@ fn a_refused_request_writes_nothing(rt: HostRuntime) -> Result<(), Fail> {
 }
 
 #[test]
+fn a_refused_request_writes_nothing(rt: HostRuntime) -> Result<(), Fail> {
+    refuse_each(&rt, &CLOSED, &between(4, None), false, 6)?;
+    // with what came later
+    let parts = [
+        BEGIN,
+        Part::Map(T),
+        insert(1, &[5]),
+        XID,
+        BEGIN,
+        Part::Map(T),
+        delete(1, &[6]),
+        XID,
+        OTHER_STATEMENT,
+    ];
+    let log = build(&rt, &parts)?;
+    refuse_each(&rt, &log, &between(4, Some(259)), true, 14)
+}
+
+#[test]
 fn a_failed_read_writes_nothing(rt: HostRuntime) -> Result<(), Fail> {
     for call in 1..10_u64 {
         let failure = Failure::At(call, io::ErrorKind::Interrupted);
         let mut reader = Watched::new(SlowReader::new(&CLOSED, 200, failure));
         let mut writer = Watched::new(SlowWriter::new(&rt, ALL, Failure::Never));
         let part = between(4, None);
-        match write_part(rt.alloc(), &mut reader, b"", &part, 0, &UNDO, &mut writer) {
+        match write_part(
+            rt.alloc(),
+            &mut reader,
+            b"",
+            &part,
+            false,
+            0,
+            &UNDO,
+            &mut writer,
+        ) {
             Err(PartFault::Run(RunFault::Read)) => {}
             _ => return Err("the read wasn't missed".into()),
         }
@@ -237,7 +281,16 @@ fn a_failed_write_is_told(rt: HostRuntime) -> Result<(), Fail> {
         let failure = Failure::At(call, io::ErrorKind::Other);
         let mut reader = Watched::new(SlowReader::new(&CLOSED, ALL, Failure::Never));
         let mut writer = Watched::new(SlowWriter::new(&rt, 100, failure));
-        match write_part(rt.alloc(), &mut reader, b"", &part, 0, &UNDO, &mut writer) {
+        match write_part(
+            rt.alloc(),
+            &mut reader,
+            b"",
+            &part,
+            false,
+            0,
+            &UNDO,
+            &mut writer,
+        ) {
             Err(PartFault::Run(RunFault::Write)) => {}
             _ => return Err("the write wasn't missed".into()),
         }

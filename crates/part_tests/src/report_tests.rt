@@ -101,7 +101,16 @@ fn the_name_of_the_log_is_escaped(rt: HostRuntime) -> Result<(), Fail> {
     let mut writer = Watched::new(SlowWriter::new(&rt, ALL, Failure::Never));
     let part = between(811, Some(1215));
     let name = b"a\x1b[1mb\nc\xFF";
-    let told = match write_part(rt.alloc(), &mut reader, name, &part, 0, &UNDO, &mut writer) {
+    let told = match write_part(
+        rt.alloc(),
+        &mut reader,
+        name,
+        &part,
+        false,
+        0,
+        &UNDO,
+        &mut writer,
+    ) {
         Ok(told) => told,
         Err(_) => return Err("the part is refused".into()),
     };

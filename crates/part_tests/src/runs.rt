@@ -37,6 +37,8 @@ pub(crate) enum Came {
     NoEventAt(u32),
     Log(Fault),
     NothingSelected,
+    ChangedSince(u64),
+    UnknownSince,
     Other,
 }
 
@@ -47,11 +49,23 @@ fn came_of<A: Allocator>(fault: &PartFault<A>) -> Came {
         PartFault::NoEventAt(pos) => Came::NoEventAt(*pos),
         PartFault::Log(fault) => Came::Log(*fault),
         PartFault::NothingSelected => Came::NothingSelected,
+        PartFault::ChangedSince(rows, _) => Came::ChangedSince(*rows),
+        PartFault::UnknownSince(_) => Came::UnknownSince,
         PartFault::Run(_) | PartFault::TooLong | PartFault::NoSchema(_) => Came::Other,
     }
 }
 
-/// What comes of writing a part of a log, what was written, and the report.
+/// The lines that a refusal comes with.
+fn lines_of<R: AllocGlobal, A: Allocator>(rt: &R, fault: &PartFault<A>) -> Result<Vec<u8>, Fail> {
+    let lines: &[u8] = match fault {
+        PartFault::ChangedSince(_, lines) => lines,
+        PartFault::UnknownSince(lines) => lines,
+        _ => &[],
+    };
+    Ok(lines.to_vec(rt.alloc())?)
+}
+
+/// What comes of writing a part of a log, what was written, and the report. What came later isn't looked at.
 pub(crate) fn part_of<R: AllocGlobal>(
     rt: &R,
     log: &[u8],
@@ -60,13 +74,35 @@ pub(crate) fn part_of<R: AllocGlobal>(
 ) -> Result<(Came, Vec<u8>, Vec<u8>), Fail>
     requires { HasShortWriting writing.now }
 {
+    part_by(rt, log, part, false, writing)
+}
+
+/// What comes of writing a part of a log, what was written, and the report, or the lines that a refusal comes with.
+pub(crate) fn part_by<R: AllocGlobal>(
+    rt: &R,
+    log: &[u8],
+    part: &Selection<'_>,
+    looks: bool,
+    writing: &Writing<'_>,
+) -> Result<(Came, Vec<u8>, Vec<u8>), Fail>
+    requires { HasShortWriting writing.now }
+{
     let mut reader = Watched::new(SlowReader::new(log, ALL, Failure::Never));
     let mut writer = Watched::new(SlowWriter::new(rt, ALL, Failure::Never));
     let name = b"binlog.000042";
-    let result = write_part(rt.alloc(), &mut reader, name, part, 0, writing, &mut writer);
+    let result = write_part(
+        rt.alloc(),
+        &mut reader,
+        name,
+        part,
+        looks,
+        0,
+        writing,
+        &mut writer,
+    );
     let (came, told) = match result {
         Ok(told) => (Came::Done, told),
-        Err(fault) => (came_of(&fault), Vec::new(rt.alloc())),
+        Err(fault) => (came_of(&fault), lines_of(rt, &fault)?),
     };
     if came != Came::Done && writer.device().calls != 0 {
         return Err("something was written".into());

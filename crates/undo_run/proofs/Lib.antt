@@ -1,1 +1,2 @@
+mod LookedAt
 mod Stages

@@ -1,5 +1,5 @@
 -- What is reported of changes that are made once more, or undone.
-use Rattle.std.specs.Prelude.{ℕ, ◌==◌, ◌||◌, nat_lt, Bool, if◌then◌else◌, List, [], ◌∷◌, ◌++◌, codes}
+use Rattle.std.specs.Prelude.{ℕ, ◌==◌, ◌||◌, nat_lt, Bool, if◌then◌else◌, List, [], ◌∷◌, ◌++◌, length, Option, Some, None, codes}
 use Rattle.std.specs.Fmt.{decimal}
 use Rattle.std.specs.List.{flat_map, list_any}
 use Rattle.blog_row.specs.declared.order.Order.{Order}
@@ -29,10 +29,45 @@ abbrev pub rows_told : Order → List TableCount → List ℕ
 rows_told order [] = []
 rows_told order (c ∷ cs) = count_text (turned order c) ++ flat_map (next_told order) cs
 
--- what is told of later changes, which aren't looked for
-abbrev pub since_text : Order → List ℕ
-since_text Forward = []
-since_text Backward = codes "changes made to these rows since are not looked for, and are overwritten\n"
+-- what was seen of later units: how many can be undone by themselves; where the reading ended; and where those begin that can't be, and
+-- don't concern the tables
+pub record Since : Type 0 where
+  pub units : ℕ
+  pub end : ℕ
+  pub apart : List ℕ
+
+-- how many can be, up to where, and how many others
+abbrev pub units_words : ℕ → List ℕ
+units_words n = if n == 1 then codes " later transaction" else codes " later transactions"
+
+abbrev pub units_text : ℕ → List ℕ
+units_text n = codes "looked at " ++ (decimal n ++ units_words n)
+
+abbrev pub end_text : List ℕ → ℕ → List ℕ
+end_text name end = codes ", up to " ++ (decimal end ++ (codes " of " ++ (escaped name ++ codes ": none changes these rows\n")))
+
+abbrev pub statements_words : ℕ → List ℕ
+statements_words n = if n == 1 then codes " statement, at " else codes " statements, the first at "
+
+abbrev pub statements_text : ℕ → List ℕ
+statements_text n = codes "passed over " ++ (decimal n ++ statements_words n)
+
+abbrev pub apart_text : List ℕ → List ℕ
+apart_text [] = []
+apart_text (at ∷ later) = statements_text (length (at ∷ later)) ++ (decimal at ++ codes "\n")
+
+abbrev pub looked_text : List ℕ → Since → List ℕ
+looked_text name since = units_text since.units ++ (end_text name since.end ++ apart_text since.apart)
+
+-- what is told of later changes that weren't looked at
+abbrev pub unlooked_text : Order → List ℕ
+unlooked_text Forward = []
+unlooked_text Backward = codes "changes made to these rows since are not looked for, and are overwritten\n"
+
+-- what is told of later changes
+abbrev pub since_text : Order → List ℕ → Option Since → List ℕ
+since_text order name (Some since) = looked_text name since
+since_text order name None = unlooked_text order
 
 -- rows are updated or deleted
 abbrev pub has_followers : TableCount → Bool
@@ -48,5 +83,5 @@ changes_told order name n counts =
     verb order ++ (transactions_text n ++ (codes " of " ++ (escaped name ++ (codes ": " ++ (rows_told order counts ++ codes "\n")))))
 
 -- the report
-abbrev pub report : Order → List ℕ → ℕ → List TableCount → List ℕ
-report order name n counts = changes_told order name n counts ++ (since_text order ++ cascades_text order counts)
+abbrev pub report : Order → List ℕ → ℕ → List TableCount → Option Since → List ℕ
+report order name n counts since = changes_told order name n counts ++ (since_text order name since ++ cascades_text order counts)

@@ -1,2 +1,4 @@
--- What only contracts of code need: what comes of each step of a run.
+-- What only contracts of code need: its structs as values, and what comes of each step of a run.
+pub mod LookedAt
+pub mod SinceView
 pub mod Steps

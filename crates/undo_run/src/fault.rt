@@ -23,6 +23,10 @@ pub enum PartFault<A: Allocator> {
     Log(Fault),
     /// The part changes no rows.
     NothingSelected,
+    /// So many rows of the part were changed since. These lines say where, and what else isn't known.
+    ChangedSince(u64, Vec<u8, A>),
+    /// What came later may concern the part's tables, and can't be looked into. These lines say where.
+    UnknownSince(Vec<u8, A>),
     /// What would be written has, as a log, more than 4,294,967,295 bytes.
     TooLong,
     /// The changes have no table in a database that is to have another name, as this text tells.

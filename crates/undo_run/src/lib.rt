@@ -2,8 +2,10 @@
 #![tactic(auto)]
 
 mod fault;
+mod later;
 mod part;
 mod reports;
+mod since;
 mod written_part;
 
 pub use fault::PartFault;

@@ -1,11 +1,13 @@
 //! What is reported of changes that are made once more, or undone.
 
-ghost use Rattle.std.specs.Prelude.{◌≡◌, ◌++◌, IfOk, OnOk, length};
+ghost use Rattle.std.specs.Prelude.{◌≡◌, ◌++◌, IfOk, OnOk, length, option_map};
 ghost use Rattle.std.specs.List.{list_any};
 ghost use Rattle.blog_text.specs.code.Counted.{counts_in};
 ghost use Rattle.blog_trans.specs.code.IndexView.{index_groups, table_counted};
-ghost use Rattle.undo_run.specs.Reports.{cascades_text, changes_told, has_followers, report, rows_told, since_text, transactions_text, turned, verb};
+ghost use Rattle.undo_run.specs.Reports.{cascades_text, changes_told, has_followers, report, rows_told, since_text, transactions_text, turned, unlooked_text, verb};
+ghost use Rattle.undo_run.specs.code.SinceView.{since_seen};
 
+use crate::since::{Since, put_since};
 use blog_row::Order;
 use blog_text::{put_count, put_escaped, put_number, put_text};
 use blog_trans::{Index, TableCount};
@@ -17,12 +19,13 @@ pub(crate) fn report_of<A: Allocator, B: Allocator>(
     name: &[u8],
     order: Order,
     index: &Index<'_, '_, B>,
+    since: &Option<Since<B>>,
 ) -> Result<Vec<u8, A>, AllocError>
-    ensures { IfOk result (λ told. told.items ≡ report order name.now (length (index_groups index.now)) (counts_in index.now)) }
+    ensures { IfOk result (λ told. told.items ≡ report order name.now (length (index_groups index.now)) (counts_in index.now) (option_map since_seen since.now)) }
 {
     let mut out = Vec::new(alloc);
     put_changes(&mut out, name, order, index)?;
-    put_text(&mut out, since_text(order))?;
+    put_later(&mut out, name, order, since)?;
     put_text(&mut out, cascades_text(order, index))?;
     Ok(out)
 }
@@ -55,14 +58,29 @@ fn verb(order: Order) -> &'static [u8]
     }
 }
 
-/// What is told of later changes.
-fn since_text(order: Order) -> &'static [u8]
-    ensures { result.now ≡ since_text order }
+/// What is told of later changes, which weren't looked at.
+fn unlooked_text(order: Order) -> &'static [u8]
+    ensures { result.now ≡ unlooked_text order }
 {
     match order {
         Order::Forward => b"",
         Order::Backward =>
             b"changes made to these rows since are not looked for, and are overwritten\n",
+    }
+}
+
+/// Appends what is told of later changes.
+fn put_later<A: Allocator, B: Allocator>(
+    out: &mut Vec<u8, A>,
+    name: &[u8],
+    order: Order,
+    since: &Option<Since<B>>,
+) -> Result<(), AllocError>
+    ensures { OnOk result (out.new.items ≡ out.old.items ++ since_text order name.now (option_map since_seen since.now)) }
+{
+    match since {
+        Some(since) => put_since(out, name, since),
+        None => put_text(out, unlooked_text(order)),
     }
 }
 

@@ -14,9 +14,9 @@ use Rattle.undo_run.proofs.written_part.write_opened.Goals as goal
 
 pub returns-in-Ok-clause-writes : goal.returns-in-Ok-clause-writes
 returns-in-Ok-clause-writes g c =
-    all-written c.args.writing.now c.args.name.now (selection_of c.args.part.now) (log_of c.args.source.now) (end_of c.args.source.now) (fault_of c.args.source.now)
+    all-written c.args.looks c.args.writing.now c.args.name.now (selection_of c.args.part.now) (log_of c.args.source.now) (end_of c.args.source.now) (fault_of c.args.source.now) _
     (index_bytes c.in_ok-index.index) (index_selection c.in_ok-index.index) (g.W.Write.contents (device_of c.args.writer.now)) (g.W.Write.contents (device_of c.write_groups.new.writer)) c.in_ok-told.told.items
-    c.in_ok-index.ensures.bytes c.in_ok-index.ensures.selection c.in_ok-index.ensures.sound c.in-Ok.ensures.written c.in_ok-told.ensures
+    c.in_ok-index.ensures.bytes c.in_ok-index.ensures.selection c.in_ok-index.ensures.sound c.in_ok-since.ensures c.in-Ok.ensures.written c.in_ok-told.ensures
 
 pub returns-in-Err-NoSchema-clause-writes : goal.returns-in-Err-NoSchema-clause-writes
 returns-in-Err-NoSchema-clause-writes g c =
@@ -28,6 +28,7 @@ returns-in-Err-NoSchema-clause-writes g c =
     let before = ap (λ (f : WritingFault). is_before_writing (Err f)) here.field-0-is in
     let lacking : List ℕ → Selection → Type 0 = λ b s. lacks c.args.writing.now.sql (groups b s) ≡ Some c.in-Err-NoSchema.number in (
       c.in_ok-index.ensures.sound,
+      c.in_ok-since.ensures.0,
       (
         c.in-Err-NoSchema.number,
         moved lacking (selection_of c.args.part.now) (log_of c.args.source.now) (index_bytes c.in_ok-index.index) (index_selection c.in_ok-index.index) c.in_ok-index.ensures.bytes c.in_ok-index.ensures.selection written,
@@ -43,4 +44,4 @@ returns-clause-writes g c =
     (g.W.Write.contents (device_of c.args.writer.now)) (g.W.Write.contents (device_of c.write_groups.new.writer)) (Err f))
     c.in-Err-Write.field-0-is c.in-Err-Write.ensures.written in
     let (can, text) = moved begun (selection_of c.args.part.now) (log_of c.args.source.now) (index_bytes c.in_ok-index.index) (index_selection c.in_ok-index.index) c.in_ok-index.ensures.bytes c.in_ok-index.ensures.selection written in
-    (c.in_ok-index.ensures.sound, can, text)
+    (c.in_ok-index.ensures.sound, c.in_ok-since.ensures.0, can, text)

@@ -1,0 +1,4 @@
+mod Counting
+mod EventChanges
+mod Seen
+pub mod Untouched

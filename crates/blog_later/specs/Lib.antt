@@ -1,0 +1,4 @@
+pub mod Prints
+pub mod Later
+pub mod Laws
+pub mod code

@@ -1,0 +1,42 @@
+-- Fingerprints of rows: numbers of 64 bits. Equal rows of a table have equal ones.
+use Rattle.std.specs.Prelude.{◌≡◌, ℕ, Bool, List, [], ◌∷◌, Option, option_map, nat_eq, codes}
+use Rattle.std.specs.Hash.FoldHasher.{initial, write, finish}
+use Rattle.std.specs.List.{filter_map, list_any}
+use Rattle.std.specs.Option.{option_map_or}
+use Rattle.std.specs.declared.hash.FoldHasher.{FoldHasher}
+use Rattle.blog_row.specs.Image.{Row}
+use Rattle.blog_row.specs.TableMap.{Table}
+use Rattle.blog_trans.specs.Changes.{Change}
+use Rattle.blog_undo.specs.ByRows.{has_print_among}
+use Rattle.blog_undo.specs.Mixed.{TableRow, leaves, takes}
+
+-- what is hashed of a NULL
+abbrev pub null_text : List ℕ
+null_text = codes "this value is NULL, and has no bytes"
+
+-- a value is hashed, and so are those of a row, one after the other
+abbrev pub with_value : FoldHasher → Option (List ℕ) → FoldHasher
+with_value h value = write h (option_map_or (λ bytes. bytes) value null_text)
+
+abbrev pub with_values : FoldHasher → Row → FoldHasher
+with_values h [] = h
+with_values h (value ∷ row) = with_values (with_value h value) row
+
+-- before them the names of the table
+abbrev pub table_hasher : Table → FoldHasher
+table_hasher t = write (write initial t.schema) t.name
+
+abbrev pub print_of : TableRow → ℕ
+print_of r = finish (with_values (table_hasher r.table) r.row)
+
+-- the fingerprints of the rows that changes leave
+abbrev pub prints_left : List Change → List ℕ
+prints_left cs = filter_map (λ c. option_map print_of (leaves c)) cs
+
+-- a change takes a row with one of these fingerprints
+abbrev pub takes_among : List ℕ → Change → Bool
+takes_among prints c = has_print_among print_of (takes c) prints
+
+-- a fingerprint is kept exactly where it is one of these
+abbrev pub HavePrints : List ℕ → List ℕ → Type 0
+HavePrints prints kept = (p : ℕ) → list_any (nat_eq p) kept ≡ list_any (nat_eq p) prints

@@ -1,0 +1,4 @@
+-- What only contracts of code need: its structs as values, and parts of lists.
+pub mod Counted
+pub mod EventChanges
+pub mod LookedView

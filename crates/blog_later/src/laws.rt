@@ -1,0 +1,11 @@
+//! What is promised where no change since takes a row with the fingerprint of one that was left.
+
+ghost use Rattle.std.specs.Prelude.{List};
+ghost use Rattle.blog_trans.specs.Changes.{Change};
+ghost use Rattle.blog_later.specs.Laws.{PrintsSuffice};
+
+/// If no later change takes a row with the fingerprint of one that selected changes left, the selected changes are untouched. The
+/// call does nothing.
+pub fn fingerprints_of_left_rows_suffice()
+    ensures { (selected later : List Change) → PrintsSuffice selected later }
+{}

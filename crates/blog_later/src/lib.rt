@@ -1,0 +1,14 @@
+//! What came after changes: whether it takes the rows that they left, and what of it can't be looked into.
+#![tactic(auto)]
+
+mod laws;
+mod left;
+mod looked;
+mod looking;
+mod prints;
+mod touched;
+
+pub use laws::fingerprints_of_left_rows_suffice;
+pub use looked::Looked;
+pub use looking::look;
+pub use touched::TouchedRows;

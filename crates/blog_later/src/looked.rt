@@ -1,0 +1,79 @@
+//! What was seen of the units of a log.
+
+ghost use Rattle.std.specs.Prelude.{◌++◌, ◌∷◌, IfOk, List, OnOk, []};
+ghost use Rattle.blog_choice.specs.code.ChosenView.{names_choice};
+ghost use Rattle.blog_event.specs.code.LogView.{log_bytes};
+ghost use Rattle.blog_trans.specs.Changes.{Change};
+ghost use Rattle.blog_units.specs.Units.{Facts};
+ghost use Rattle.blog_units.specs.code.UnitsView.{IsJudged, facts_told};
+ghost use Rattle.blog_later.specs.Prints.{HavePrints, prints_left};
+ghost use Rattle.blog_later.specs.code.LookedView.{AreSeen};
+
+use crate::left::LeftRows;
+use crate::touched::{TouchedRows, touched_by};
+use blog_choice::ChosenNames;
+use blog_event::{Fault, Log};
+use blog_request::is_passed_over;
+use blog_units::Unit;
+use std::alloc::{AllocError, Allocator};
+
+/// What was seen of the units of a log after changes.
+#[derive(Drop)]
+pub struct Looked<'a, A: Allocator> {
+    /// How many can be undone by themselves, so that their changes are known.
+    pub units: u64,
+    /// How many rows they take that the changes left.
+    pub touched: u64,
+    /// The first 20 rows events that take such rows.
+    pub first: Vec<TouchedRows<'a>, A>,
+    /// Where the units begin that can't be undone by themselves, and may concern the tables.
+    pub unknown: Vec<u32, A>,
+    /// Where those begin that can't be, and don't concern them.
+    pub apart: Vec<u32, A>,
+}
+
+impl<'a, A: Allocator + Copy> Looked<'a, A> {
+    /// Nothing.
+    pub(crate) fn none(alloc: A) -> Looked<'a, A>
+        ensures { (selected : List Change) → (choice : _) → (bytes : _) → AreSeen selected choice bytes [] result }
+    {
+        Looked {
+            units: 0,
+            touched: 0,
+            first: Vec::new(alloc),
+            unknown: Vec::new(alloc),
+            apart: Vec::new(alloc),
+        }
+    }
+
+    /// Looks at one more unit.
+    pub(crate) fn look<B: Allocator>(
+        &mut self,
+        left: &LeftRows<A>,
+        names: &ChosenNames<'_, A>,
+        log: &Log<'_>,
+        unit: &Unit<'a, B>,
+    ) -> Result<(), AllocError>
+        requires { IsJudged (log_bytes log.now) unit.now }
+        ensures { (selected : List Change) → (us : List Facts) → HavePrints (prints_left selected) left.now.prints.items → AreSeen selected (names_choice names.now) (log_bytes log.now) us self.old
+            → OnOk result (AreSeen selected (names_choice names.now) (log_bytes log.now) (us ++ facts_told unit.now ∷ []) self.new) }
+    {
+        match &unit.groups {
+            Ok(index) => {
+                let touched = touched_by(left, index, &mut self.first)?;
+                self.units = self.units.saturating_add(1);
+                self.touched = self.touched.saturating_add(touched);
+                Ok(())
+            }
+            Err(Fault::OutOfMemory) => Err(AllocError),
+            Err(_) if is_passed_over(names, log, unit.start, unit.stop) => {
+                self.apart.push(unit.start)?;
+                Ok(())
+            }
+            Err(_) => {
+                self.unknown.push(unit.start)?;
+                Ok(())
+            }
+        }
+    }
+}

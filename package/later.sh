@@ -1,0 +1,58 @@
+#!/bin/sh
+# Undoes the mistake in each log of examples/later with a program, and compares what it prints:
+#     package/later.sh BINLOG
+# The logs are a server's. The numbers of rows and the positions that are expected are those of the server's own list of them.
+set -eu
+case $1 in
+    /*) binlog=$1 ;;
+    *) binlog=$PWD/$1 ;;
+esac
+logs=$PWD/examples/later
+work=$(mktemp -d)
+trap 'rm -rf "$work"' EXIT
+cd "$work"
+
+# undoes STATUS LOG START STOP: what is printed is wanted on standard input
+undoes() {
+    cp "$logs/$2" binlog.000042
+    rm -f undo.sql
+    status=0
+    "$binlog" undo --keep-times -j "$3" --stop-position "$4" binlog.000042 -r undo.sql > printed 2>&1 || status=$?
+    cat > wanted
+    if [ "$status" -ne "$1" ] || ! diff -u wanted printed >&2; then
+        echo "package/later.sh: $2: status $status" >&2
+        exit 1
+    fi
+    if [ "$status" -eq 0 ]; then
+        "$binlog" undo --anyway --keep-times -j "$3" --stop-position "$4" binlog.000042 2> /dev/null | cmp - undo.sql
+    elif [ -e undo.sql ]; then
+        echo "package/later.sh: $2: a refused undo was written" >&2
+        exit 1
+    fi
+}
+
+undoes 0 deleted_orders.binlog 504 6102 << 'END'
+undoes 1 transaction of binlog.000042: `shop`.`orders` inserts 40; `shop`.`order_lines` inserts 80
+looked at 6 later transactions, up to 8483 of binlog.000042: none changes these rows
+END
+undoes 1 updated_since.binlog 543 5991 << 'END'
+binlog.000042 6221 `shop`.`customers`: update
+binlog.000042 6568 `shop`.`customers`: update
+binlog.000042 6915 `shop`.`customers`: update
+binlog.000042 7264 `shop`.`customers`: update
+binlog.000042 7613 `shop`.`customers`: update
+binlog.000042 7962 `shop`.`customers`: update
+binlog.000042 8311 `shop`.`customers`: update
+binlog.000042 8660 `shop`.`customers`: update
+binlog.000042 9009 `shop`.`customers`: update
+binlog.000042 9358 `shop`.`customers`: update
+binlog.000042 9707 `shop`.`customers`: update
+binlog.000042 10056 `shop`.`customers`: update
+binlog.000042 10396 `shop`.`customers`: delete
+binlog: ChangedSince: 13 rows that would be undone were changed since: undo these later changes first, or give --anyway to overwrite them
+END
+undoes 1 altered_since.binlog 499 1957 << 'END'
+binlog.000042 1957: may change these tables, and can't be looked into
+binlog: UnknownSince: what came later may have changed these tables: give --anyway if it left these rows as they were
+END
+echo "package/later.sh: what came later is found in each log"
