@@ -20,6 +20,4 @@ mod split_tests;
 #[cfg(test)]
 mod sql_tests;
 #[cfg(test)]
-mod undo_tests;
-#[cfg(test)]
 mod zone_tests;

@@ -1,6 +1,6 @@
 //! Runs of `undo` and `redo`. The SQL that is expected was made from the bytes of the log by another program.
 
-use command_runs::{path_of, run_arguments, run_log};
+use command_runs::{arguments_of, path_of, run_arguments, run_given, run_log};
 use sample_logs::builder::{BEGIN, DROP_TABLE, Part, T, XID, build, insert};
 use sample_logs::small::PLAIN;
 use sample_logs::summed::{CLOSED, CLOSED_PLAIN, IN_USE};
@@ -156,7 +156,7 @@ fn check_of_log(
     Ok(outcome.output().to_vec(rt.alloc())?)
 }
 
-/// An undo of a part of a log is refused by these lines, each below the log's name, and the last one.
+/// A run with these arguments and a log is refused by these lines, each below the log's name, and the last one.
 fn check_since(
     rt: &HostRuntime,
     log: &[u8],
@@ -168,11 +168,11 @@ fn check_since(
     let file = path_of(rt, "since-undo")?;
     let name = path.as_str();
     fs::write(rt, name, log)?;
-    let mut arguments = Vec::new(rt.alloc());
-    arguments.push("undo")?;
-    arguments.extend_from_slice(options)?;
-    arguments.extend_from_slice(&["-r", file.as_str(), name])?;
-    let outcome = run_arguments(rt, &arguments)?;
+    let mut arguments = arguments_of(rt, options)?;
+    arguments.push(String::from_str(rt.alloc(), "-r")?)?;
+    arguments.push(String::from_str(rt.alloc(), file.as_str())?)?;
+    arguments.push(String::from_str(rt.alloc(), name)?)?;
+    let outcome = run_given(rt, Ok(arguments));
     fs::remove_file(rt, name)?;
     let mut wanted = String::new(rt.alloc());
     for line in lines {
@@ -195,12 +195,12 @@ fn what_touches_the_part_since_is_told(rt: HostRuntime) -> Result<(), Fail> {
     ];
     let last =
         "binlog: ChangedSince: 3 rows that would be undone were changed since: undo these later changes first, or give --anyway to overwrite them\n";
-    let options = ["-j", "198", "--stop-position", "512"];
+    let options = ["undo", "-j", "198", "--stop-position", "512"];
     check_since(&rt, &CLOSED, &options, &lines, last)?;
     let lines = [" 1136 `shop`.`items`: delete\n"];
     let last =
         "binlog: ChangedSince: 1 row that would be undone was changed since: undo these later changes first, or give --anyway to overwrite them\n";
-    let options = ["-j", "512", "--stop-position", "811"];
+    let options = ["undo", "-j", "512", "--stop-position", "811"];
     check_since(&rt, &CLOSED, &options, &lines, last)?;
     // a statement that names the table
     let log = build(
@@ -210,7 +210,8 @@ fn what_touches_the_part_since_is_told(rt: HostRuntime) -> Result<(), Fail> {
     let lines = [" 259: may change these tables, and can't be looked into\n"];
     let last =
         "binlog: UnknownSince: what came later may have changed these tables: give --anyway if it left these rows as they were\n";
-    check_since(&rt, &log, &["--stop-position", "259"], &lines, last)
+    let options = ["undo", "--stop-position", "259"];
+    check_since(&rt, &log, &options, &lines, last)
 }
 
 /// Each option is heard: with it something else is written, or this part of it.
