@@ -75,6 +75,7 @@ bench:
 	@FLASHBACK=$(PROGRAM) sh bench/run.sh $(BENCH)
 	@[ -n "$(BENCH)" ] || BINLOG=$(BINLOG) FLASHBACK=$(PROGRAM) sh bench/sums.sh
 	@[ -n "$(BENCH)" ] || BINLOG=$(BINLOG) FLASHBACK=$(PROGRAM) sh bench/commands.sh
+	@[ -n "$(BENCH)" ] || BINLOG=$(BINLOG) FLASHBACK=$(PROGRAM) sh bench/later.sh
 	@[ -n "$(BENCH)" ] || LAYERS=$(LAYERS) sh bench/layers.sh
 
 bench_layers: $(LAYERS)

@@ -47,6 +47,13 @@ class Programs:
             raise NotTried(f"binlog has no command {name}")
         return self._run(self.binlog, name, *options, log)
 
+    def refusal(self, name, log, *options):
+        """What a command of binlog says of a log from which it writes nothing."""
+        command = [self.binlog, name, *options, log]
+        done = subprocess.run([str(word) for word in command], stdin=subprocess.DEVNULL, capture_output=True)
+        hold(done.returncode == 1 and not done.stdout, f"binlog {name} ended with {done.returncode}, and printed {len(done.stdout)} bytes")
+        return done.stderr.decode(errors="replace")
+
 
 class Report:
     """What held, for each trial on each server."""

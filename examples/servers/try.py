@@ -14,6 +14,7 @@ import time
 sys.dont_write_bytecode = True
 
 from errors_trial import try_errors
+from later_trial import try_later
 from privileges_trial import try_privileges
 from programs import Programs, Report, warn
 from server import KINDS, MARIADB, MYSQL, Server, ServerError, Tree
@@ -24,7 +25,7 @@ SETTINGS = {
             ("GTIDs off, row metadata FULL", ("--gtid-mode=OFF", "--enforce-gtid-consistency=OFF", "--binlog-row-metadata=FULL"))),
     MARIADB: (("defaults", ()),),
 }
-TRIALS = {"types": try_types, "errors": try_errors, "privileges": try_privileges}
+TRIALS = {"types": try_types, "errors": try_errors, "privileges": try_privileges, "later": try_later}
 
 
 def arguments():

@@ -1,0 +1,130 @@
+"""Trial 5: undos that look at what came later. Tables come out as if the mistake had never been made, or nothing is written."""
+
+import json
+
+from programs import NotTried, hold
+from server import MARIADB
+from tables import name_of
+from undoing import apply_sql, names_in, state
+
+# the second has the same changes, but for the mistake
+SHOP, SPARED = "shop", "spared"
+TABLES = ("customers", "orders", "order_lines", "notes")
+ROWS = 200
+
+
+def setup(schema):
+    customers, orders, lines, notes = names_in(schema, *TABLES)
+    numbers = range(1, ROWS + 1)
+    yield f"DROP DATABASE IF EXISTS {name_of(schema)}"
+    yield f"CREATE DATABASE {name_of(schema)} CHARACTER SET utf8mb4"
+    yield f"CREATE TABLE {customers} (id INT PRIMARY KEY, name VARCHAR(40), city VARCHAR(40))"
+    yield f"CREATE TABLE {orders} (id INT PRIMARY KEY, customer INT, total DECIMAL(9,2), placed DATETIME(3))"
+    yield (f"CREATE TABLE {lines} (id INT PRIMARY KEY, order_id INT, item VARCHAR(40), "
+           f"FOREIGN KEY (order_id) REFERENCES {orders} (id) ON DELETE CASCADE)")
+    yield f"CREATE TABLE {notes} (text VARCHAR(40), amount FLOAT)"
+    yield f"INSERT INTO {customers} VALUES " + ", ".join(f"({n}, 'name {n}', 'city {n % 9}')" for n in numbers)
+    yield f"INSERT INTO {orders} VALUES " + ", ".join(f"({n}, {1 + n % 50}, {n * 7 % 500}.50, '2026-11-01 10:00:00.{n:03}')" for n in numbers)
+    yield f"INSERT INTO {lines} VALUES " + ", ".join(f"({n}, {1 + n // 2}, 'item {n % 13}')" for n in numbers)
+    # this table has no key, and the same row several times
+    yield f"INSERT INTO {notes} VALUES " + ", ".join(f"('note {n % 5}', {n % 3}.25)" for n in numbers)
+
+
+def mistake(schema):
+    """Orders, with their lines by a cascade, and notes: among these some of several equal rows."""
+    _, orders, _, notes = names_in(schema, *TABLES)
+    return ["BEGIN", f"DELETE FROM {orders} WHERE id BETWEEN 21 AND 60", f"DELETE FROM {notes} WHERE text = 'note 3' LIMIT 15", "COMMIT"]
+
+
+def right_changes(schema):
+    """What others do since, in rows of the same tables that the mistake leaves alone."""
+    customers, orders, lines, notes = names_in(schema, *TABLES)
+    yield f"INSERT INTO {orders} VALUES (1001, 7, 12.00, '2026-11-02 08:00:00'), (1002, 8, 13.00, NULL)"
+    yield f"INSERT INTO {lines} VALUES (1001, 1001, 'item 1'), (1002, 1, 'item 2')"
+    yield f"UPDATE {orders} SET total = total + 1 WHERE id BETWEEN 100 AND 120"
+    yield f"UPDATE {orders} SET total = total + 1 WHERE id BETWEEN 110 AND 130"
+    yield f"DELETE FROM {orders} WHERE id = 150"
+    yield f"UPDATE {customers} SET city = 'city 10'"
+    yield f"UPDATE {notes} SET amount = amount + 1 WHERE text = 'note 4'"
+    yield f"DELETE FROM {orders} WHERE id = 1002"
+
+
+def forgotten_where(schema):
+    return [f"UPDATE {name_of(schema, 'customers')} SET city = 'Ghent'"]
+
+
+def changes_of_these(schema):
+    """What others do since, in rows that the mistake changed: these three are updated."""
+    customers = name_of(schema, "customers")
+    return [f"UPDATE {customers} SET name = 'renamed' WHERE id IN (5, 6)", f"UPDATE {customers} SET name = 'renamed' WHERE id = 7"]
+
+
+def added_column(schema):
+    orders = name_of(schema, "orders")
+    return [f"ALTER TABLE {orders} ADD COLUMN channel VARCHAR(10) DEFAULT 'web' AFTER customer",
+            f"INSERT INTO {orders} VALUES (2001, 7, 'shop', 1.00, NULL)"]
+
+
+def joined(statements):
+    return "; ".join(statements)
+
+
+class Mistake:
+    """A server on which a mistake was made, and what came since, in one log, of which the mistake is a part."""
+
+    def __init__(self, server, programs, made, since):
+        server.query(joined(setup(SHOP)))
+        self.before = state(server, names_in(SHOP, *TABLES))
+        server.next_log()
+        server.query(joined(made))
+        server.query(joined(since))
+        self.log = server.next_log()
+        if server.kind is not MARIADB:
+            first = json.loads(programs.command("list", self.log, "--json").splitlines()[0])
+            self.part = "-j", str(first["start"]), "--stop-position", str(first["stop"])
+
+
+def try_later(server, programs, report, kept):
+    with report.trial("5: a mistake is undone after right changes: the tables are as without it"):
+        hold_as_without(server, programs, kept)
+    with report.trial("5: --anyway: later changes of these rows are overwritten"):
+        hold_overwritten(server, programs, kept)
+    if server.kind is not MARIADB:
+        with report.trial("5: rows were changed since: nothing is written"):
+            made = Mistake(server, programs, forgotten_where(SHOP), changes_of_these(SHOP))
+            hold_refused(server, programs, made, "ChangedSince: 3 rows ", f"{name_of(SHOP, 'customers')}: update", 2)
+        with report.trial("5: a column was added since: nothing is written"):
+            made = Mistake(server, programs, mistake(SHOP), added_column(SHOP))
+            hold_refused(server, programs, made, "UnknownSince: ", ": may change these tables, and can't be looked into", 1)
+
+
+def sql_of(server, programs, kept, name, made, *options):
+    """The SQL that undoes. MariaDB takes that of MySQL's log, where the same changes were made."""
+    if server.kind is not MARIADB:
+        kept[name] = programs.command("undo", made.log, *made.part, *options)
+    elif name not in kept:
+        raise NotTried("no log of MySQL is there, and MariaDB's own is not read")
+    return kept[name]
+
+
+def hold_as_without(server, programs, kept):
+    made = Mistake(server, programs, mistake(SHOP), right_changes(SHOP))
+    apply_sql(server, sql_of(server, programs, kept, "later", made))
+    server.query(joined([*setup(SPARED), *right_changes(SPARED)]))
+    found, wanted = (list(state(server, names_in(schema, *TABLES)).values()) for schema in (SHOP, SPARED))
+    other = [table for table, has, should in zip(TABLES, found, wanted) if has != should]
+    hold(not other, f"these tables differ: {', '.join(other)}")
+
+
+def hold_overwritten(server, programs, kept):
+    made = Mistake(server, programs, forgotten_where(SHOP), changes_of_these(SHOP))
+    apply_sql(server, sql_of(server, programs, kept, "anyway", made, "--anyway"))
+    hold(state(server, names_in(SHOP, *TABLES)) == made.before, "the tables are not as before the mistake")
+
+
+def hold_refused(server, programs, made, fault, line, lines):
+    result = server.folder / "refused.sql"
+    told = programs.refusal("undo", made.log, *made.part, "-r", result).splitlines()
+    hold(told[-1].startswith(f"binlog: {fault}"), f"the last line is {told[-1]}")
+    hold(len(told) == 1 + lines and all(text.endswith(line) for text in told[:-1]), f"the lines above are {told[:-1]}")
+    hold(not result.exists(), "a file was written")
