@@ -5,7 +5,7 @@
 
 Each program runs RUNS times, LIMIT seconds at most; OUT is the folder for what is written. Each LOG is called
 SHAPE-MB-sums.binlog; beside it are LOG.counts, the line that make_log.py printed, and SHAPE-MB.binlog, the same log
-without checksums. The exit status is 1 if undo writes another log than flashback.
+without checksums. The exit status is 1 if undo writes another log than flashback, after the format description.
 """
 
 import json
@@ -15,20 +15,22 @@ import sys
 
 from measure import Best, run_all
 
+# where the second event begins
+FIRST = 120
 # of how many transactions near the log's front one is looked for that no later one touches
-FIRST = 50
+FRONT = 50
 
 
 def first_untouched(binlog, log):
     """The options for the first transaction that can be undone though all later ones are looked at."""
     with subprocess.Popen([binlog, "list", "--json", log], stdout=subprocess.PIPE, text=True) as lister:
-        units = [json.loads(lister.stdout.readline()) for _ in range(FIRST)]
+        units = [json.loads(lister.stdout.readline()) for _ in range(FRONT)]
         lister.kill()
     for unit in units:
         part = ["-j", str(unit["start"]), "--stop-position", str(unit["stop"])]
         if subprocess.run([binlog, "undo", *part, "--dry-run", log], capture_output=True).returncode == 0:
             return part
-    sys.exit(f"later.py: {log}: later transactions touch each of the first {FIRST}")
+    sys.exit(f"later.py: {log}: later transactions touch each of the first {FRONT}")
 
 
 def main(binlog, flashback, runs, limit, out, *logs):
@@ -47,7 +49,7 @@ def main(binlog, flashback, runs, limit, out, *logs):
         run_all("later.py", (([flashback, "--summary", made], os.devnull, summary), ([binlog, "undo", *part, "--dry-run", log], os.devnull, looked),
                              ([flashback, "-B", made], undos[0], backward),
                              ([binlog, "undo", "--binlog", "--size", "4294967295", log], undos[1], undone)), runs, limit)
-        if subprocess.run(["cmp", *undos]).returncode:
+        if subprocess.run(["cmp", "-i", str(FIRST), *undos]).returncode:
             status = 1
         mb, plain = size / 1e6, os.path.getsize(made)
         shape = os.path.basename(made).removesuffix(".binlog")
