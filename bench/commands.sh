@@ -8,13 +8,8 @@
 set -eu
 cd "$(dirname "$0")/.."
 . bench/logs.sh
-BINLOG=${BINLOG:-bin/binlog} FLASHBACK=${FLASHBACK:-bin/flashback} RUNS=${RUNS:-3} LIMIT=${LIMIT:-600} OUT=${OUT:-bench/out}
-are_there commands.sh "$BINLOG" "$FLASHBACK" || exit 0
+are_both_there commands.sh || exit 0
 [ $# -gt 0 ] || set -- mixed 100 mixed 1000 one_row 60 one_row 240 many_maps 50 many_events 60
 make_logs "$@"
 
-print_machine
-# the paths are words of their own, whatever is in them
-set -f
-IFS=$NEWLINE
-exec python3 bench/commands.py "$BINLOG" "$FLASHBACK" "$RUNS" "$LIMIT" "$OUT" $logs
+measure_logs bench/commands.py

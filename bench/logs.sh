@@ -45,3 +45,18 @@ are_there() {
         [ -x "$program" ] || { echo "$script: $program isn't there, so nothing is measured; make builds it" >&2; return 1; }
     done
 }
+
+# are_both_there SCRIPT: both programs can be run. Sets the variables of a script that measures them, unless they are set
+are_both_there() {
+    BINLOG=${BINLOG:-bin/binlog} FLASHBACK=${FLASHBACK:-bin/flashback} RUNS=${RUNS:-3} LIMIT=${LIMIT:-600} OUT=${OUT:-bench/out}
+    are_there "$1" "$BINLOG" "$FLASHBACK"
+}
+
+# measure_logs MEASURE: measures both programs on the logs, by a script of Python
+measure_logs() {
+    print_machine
+    # the paths are words of their own, whatever is in them
+    set -f
+    IFS=$NEWLINE
+    exec python3 "$1" "$BINLOG" "$FLASHBACK" "$RUNS" "$LIMIT" "$OUT" $logs
+}
