@@ -70,28 +70,38 @@ def joined(statements):
 
 
 class Mistake:
-    """A server on which a mistake was made, and what came since, in one log, of which the mistake is a part."""
+    """A server on which a mistake was made, and what came since: in the log of which the mistake is a part, and in later logs."""
 
-    def __init__(self, server, programs, made, since):
+    def __init__(self, server, programs, made, since, *in_later_logs):
         server.query(joined(setup(SHOP)))
         self.before = state(server, names_in(SHOP, *TABLES))
         server.next_log()
         server.query(joined(made))
         server.query(joined(since))
         self.log = server.next_log()
+        self.later = []
+        for statements in in_later_logs:
+            server.query(joined(statements))
+            self.later += ["--later", server.next_log()]
         if server.kind is not MARIADB:
             first = json.loads(programs.command("list", self.log, "--json").splitlines()[0])
             self.part = "-j", str(first["start"]), "--stop-position", str(first["stop"])
 
 
 def try_later(server, programs, report, kept):
+    changes = list(right_changes(SHOP))
     with report.trial("5: a mistake is undone after right changes: the tables are as without it"):
-        hold_as_without(server, programs, kept)
+        hold_as_without(server, programs, kept, "later", Mistake(server, programs, mistake(SHOP), changes))
+    with report.trial("5: the same with right changes in two later logs, too"):
+        hold_as_without(server, programs, kept, "logs", Mistake(server, programs, mistake(SHOP), changes[:3], changes[3:6], changes[6:]))
     with report.trial("5: --anyway: later changes of these rows are overwritten"):
         hold_overwritten(server, programs, kept)
     if server.kind is not MARIADB:
         with report.trial("5: rows were changed since: nothing is written"):
             made = Mistake(server, programs, forgotten_where(SHOP), changes_of_these(SHOP))
+            hold_refused(server, programs, made, "ChangedSince: 3 rows ", f"{name_of(SHOP, 'customers')}: update", 2)
+        with report.trial("5: rows were changed in a later log: nothing is written"):
+            made = Mistake(server, programs, forgotten_where(SHOP), changes[:3], changes_of_these(SHOP))
             hold_refused(server, programs, made, "ChangedSince: 3 rows ", f"{name_of(SHOP, 'customers')}: update", 2)
         with report.trial("5: a column was added since: nothing is written"):
             made = Mistake(server, programs, mistake(SHOP), added_column(SHOP))
@@ -101,15 +111,14 @@ def try_later(server, programs, report, kept):
 def sql_of(server, programs, kept, name, made, *options):
     """The SQL that undoes. MariaDB takes that of MySQL's log, where the same changes were made."""
     if server.kind is not MARIADB:
-        kept[name] = programs.command("undo", made.log, *made.part, *options)
+        kept[name] = programs.command("undo", made.log, *made.part, *made.later, *options)
     elif name not in kept:
         raise NotTried("no log of MySQL is there, and MariaDB's own is not read")
     return kept[name]
 
 
-def hold_as_without(server, programs, kept):
-    made = Mistake(server, programs, mistake(SHOP), right_changes(SHOP))
-    apply_sql(server, sql_of(server, programs, kept, "later", made))
+def hold_as_without(server, programs, kept, name, made):
+    apply_sql(server, sql_of(server, programs, kept, name, made))
     server.query(joined([*setup(SPARED), *right_changes(SPARED)]))
     found, wanted = (list(state(server, names_in(schema, *TABLES)).values()) for schema in (SHOP, SPARED))
     other = [table for table, has, should in zip(TABLES, found, wanted) if has != should]
@@ -124,7 +133,7 @@ def hold_overwritten(server, programs, kept):
 
 def hold_refused(server, programs, made, fault, line, lines):
     result = server.folder / "refused.sql"
-    told = programs.refusal("undo", made.log, *made.part, "-r", result).splitlines()
+    told = programs.refusal("undo", made.log, *made.part, *made.later, "-r", result).splitlines()
     hold(told[-1].startswith(f"binlog: {fault}"), f"the last line is {told[-1]}")
     hold(len(told) == 1 + lines and all(text.endswith(line) for text in told[:-1]), f"the lines above are {told[:-1]}")
     hold(not result.exists(), "a file was written")

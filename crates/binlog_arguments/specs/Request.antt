@@ -193,6 +193,11 @@ abbrev pub looks_later : Found → Order → Bool
 looks_later found Forward = false
 looks_later found Backward = not (is_given found (codes "anyway"))
 
+-- the later logs, which `undo` alone has
+abbrev pub later_paths : Found → Order → List (List ℕ)
+later_paths found Forward = []
+later_paths found Backward = all_values found (codes "later")
+
 -- each part of the task is the value of its option, or are its values
 pub record IsPartTask {A : Type 0} (found : Found) (direction : Order) (task : PartTask A) : Type 0 where
   pub sql : IsSqlTask found task.sql
@@ -202,6 +207,7 @@ pub record IsPartTask {A : Type 0} (found : Found) (direction : Order) (task : P
   pub as_log : task.as_log ≡ is_given found (codes "binlog")
   pub dry_run : task.dry_run ≡ is_given found (codes "dry-run")
   pub looks : task.looks ≡ looks_later found direction
+  pub later : map (λ path. path.now) task.later.items ≡ later_paths found direction
 
 -- its changes are written as a log, or printed as SQL at this time
 abbrev pub HasForm : {A : Type 0} → PartTask A → ℕ → Option SqlOptions → Type 0

@@ -10,7 +10,8 @@ pub const USAGE: &str = "\
 binlog list [-d NAME] [-T NAME] [-j POS] [--stop-position POS]
                    [--start-datetime TIME] [--stop-datetime TIME]
                    [--utc | --time-zone NAME] [--json] LOG..
-       binlog undo [--anyway] [-j POS] [--stop-position POS] [-d NAME] [-T NAME]
+       binlog undo [--later LOG].. [--anyway] [-j POS] [--stop-position POS]
+                   [-d NAME] [-T NAME]
                    [--dry-run] [-r FILE [--force]] LOG
        binlog redo [-j POS] [--stop-position POS] [-d NAME] [-T NAME]
                    [--dry-run] [-r FILE [--force]] LOG
@@ -205,16 +206,17 @@ rows back, the last change first. Any mysql or mariadb client runs it, in one tr
 after any error nothing. What is undone are the changes of the transactions from one position to another,
 which binlog list shows. LOG is a server's log as it is, with checksums or without.
 What can't be undone is refused, with its position, and then nothing is written.
-What came later is looked at, to the end of LOG, but not in logs after it. If it changed rows that would
-be undone, or may have changed these tables in a way that can't be looked into, such as by ALTER TABLE,
-nothing is written, and lines say where. With --anyway nothing is looked at: later changes of these rows
-are overwritten.
+What came later is looked at, to the end of LOG and in the later logs that are given. If it changed rows
+that would be undone, or may have changed these tables in a way that can't be looked into, such as by
+ALTER TABLE, nothing is written, and lines say where. With --anyway nothing is looked at: later changes of
+these rows are overwritten.
 A report says what is undone: on standard output with -r and with --dry-run, else on standard error.
 It counts rows as the undo changes them: 120 rows that were deleted are 120 inserts.";
 
 /// How `undo` is called.
 pub const UNDO_USAGE: &str = "\
-binlog undo [--anyway] [-j POS] [--stop-position POS] [-d NAME] [-T [NAME.]NAME]
+binlog undo [--later LOG].. [--anyway] [-j POS] [--stop-position POS]
+                   [-d NAME] [-T [NAME.]NAME]
                    [--each-transaction] [--keep-times] [--rewrite-db FROM:TO].. [--size BYTES]
                    [--binlog] [--dry-run] [-r FILE [--force]] LOG";
 
@@ -237,6 +239,8 @@ Examples:
       replace a file that is there
   binlog undo -j 4021 --stop-position 9144 binlog.000042 | mysql
       undo it on a server
+  binlog undo -j 4021 --stop-position 9144 binlog.000042 --later binlog.000043 --later binlog.000044 | mysql
+      look at what the next two logs have, too
   binlog undo -j 4021 --stop-position 9144 -T shop.orders binlog.000042 | mysql
       only in one table; -T is the same as --table
   binlog undo -j 4021 --stop-position 9144 -d shop binlog.000042 | mysql

@@ -100,7 +100,7 @@ pub(crate) fn read_list<'a, R: Files + Env + AllocGlobal, A: Allocator + Copy>(
     let zone = read_zone(rt, alloc, command, found)?;
     let clock = zone.time_zone();
     Ok(ListTask {
-        logs: read_logs(alloc, found)?,
+        logs: read_paths(alloc, found, LOG)?,
         start: read_number(alloc, command, found, START, "POS", POSITION)?,
         stop: read_number(alloc, command, found, STOP, "POS", POSITION)?,
         from_time: read_time(alloc, command, found, START_TIME, clock, Side::Start)?,
@@ -120,20 +120,21 @@ pub(crate) fn read_list<'a, R: Files + Env + AllocGlobal, A: Allocator + Copy>(
     })
 }
 
-/// The paths of the logs, in order.
-fn read_logs<'a, A: Allocator>(
+/// The paths that an option has, or an argument without one, in order.
+pub(crate) fn read_paths<'a, A: Allocator>(
     alloc: A,
     found: &ArgMatches<'a>,
+    name: &str,
 ) -> Result<Vec<&'a str, A>, AllocError>
-    ensures { IfOk result (λ logs. map (λ path. path.now) logs.items ≡ all_values (found_of found.now) (codes "LOG")) }
+    ensures { IfOk result (λ paths. map (λ path. path.now) paths.items ≡ all_values (found_of found.now) name.now) }
 {
-    let mut logs = Vec::new(alloc);
-    if let Some(paths) = found.get_strs(LOG) {
-        for path in paths {
-            logs.push(*path)?;
+    let mut paths = Vec::new(alloc);
+    if let Some(values) = found.get_strs(name) {
+        for path in values {
+            paths.push(*path)?;
         }
     }
-    Ok(logs)
+    Ok(paths)
 }
 
 /// The tables that an option names, in order.

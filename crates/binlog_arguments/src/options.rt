@@ -25,6 +25,8 @@ pub const UNDO: &str = "undo";
 pub const REDO: &str = "redo";
 /// The name of `--anyway`.
 pub const ANYWAY: &str = "anyway";
+/// The name of `--later`.
+pub const LATER: &str = "later";
 /// The name of `--binlog`.
 pub const AS_LOG: &str = "binlog";
 /// The name of `--dry-run`.
@@ -159,7 +161,13 @@ fn undo_arguments<'a>(alloc: Global) -> Result<Command<'a>, AllocError> {
     let anyway = flag(alloc, ANYWAY).help(
         "Undo without looking at what came later, and overwrite it",
     );
-    part_arguments(alloc, command.arg(anyway)?)
+    let later = option(alloc, LATER, "LOG").help(
+        "Look at this later log of the server too; can be given several times",
+    );
+    let command = command
+        .arg(anyway)?
+        .arg(later.action(ArgAction::Append).conflicts_with(ANYWAY)?)?;
+    part_arguments(alloc, command)
 }
 
 /// The command `redo`, with its options.

@@ -1,14 +1,15 @@
 //! Which arguments of `undo` and `redo` mean what.
 
-ghost use Rattle.std.specs.Prelude.{◌≡◌, IfErr, IfOk};
+ghost use Rattle.std.specs.Prelude.{◌≡◌, IfErr, IfOk, map};
 ghost use Rattle.clap.specs.Words.{found_of};
 ghost use Rattle.blog_run.specs.Writing.{HasShortWriting};
 ghost use Rattle.blog_sql.specs.Changed.{HaveShortNames};
 ghost use Rattle.blog_trans.specs.Selection.{selection_of};
-ghost use Rattle.binlog_arguments.specs.Request.{HasPartWriting, IsPart, IsPartTask, RefusesPart, looks_later};
+ghost use Rattle.binlog_arguments.specs.Request.{HasPartWriting, IsPart, IsPartTask, RefusesPart, later_paths, looks_later};
 
 use crate::arguments::{ArgumentsFault, is_given, read_number};
-use crate::options::{ANYWAY, AS_LOG, DATABASE, DRY_RUN, START, STOP, TABLE};
+use crate::list_arguments::read_paths;
+use crate::options::{ANYWAY, AS_LOG, DATABASE, DRY_RUN, LATER, START, STOP, TABLE};
 use crate::sql_arguments::{SqlTask, read_sql};
 use blog_choice::TableName;
 use blog_row::Order;
@@ -16,7 +17,7 @@ use blog_run::Writing;
 use blog_trans::Selection;
 use clap::{ArgMatches, Command};
 use console::POSITION;
-use std::alloc::Allocator;
+use std::alloc::{AllocError, Allocator};
 
 /// The changes of a part of a log, which are undone, or made once more.
 #[derive(Drop)]
@@ -33,6 +34,8 @@ pub struct PartTask<'a, A: Allocator> {
     pub dry_run: bool,
     /// Whether what came later in the log is looked at, so that nothing is written if it touches the part.
     pub looks: bool,
+    /// The paths of later logs, in order, which are looked at too.
+    pub later: Vec<&'a str, A>,
 }
 
 impl<A: Allocator> PartTask<'_, A> {
@@ -74,6 +77,7 @@ pub(crate) fn read_part<'a, A: Allocator + Copy>(
         as_log: is_given(found, AS_LOG),
         dry_run: is_given(found, DRY_RUN),
         looks: looks(found, order),
+        later: read_later(alloc, found, order)?,
     })
 }
 
@@ -84,6 +88,20 @@ fn looks(found: &ArgMatches<'_>, order: Order) -> bool
     match order {
         Order::Forward => false,
         Order::Backward => !is_given(found, ANYWAY),
+    }
+}
+
+/// The paths of later logs: `redo` has none.
+fn read_later<'a, A: Allocator>(
+    alloc: A,
+    found: &ArgMatches<'a>,
+    order: Order,
+) -> Result<Vec<&'a str, A>, AllocError>
+    ensures { IfOk result (λ paths. map (λ path. path.now) paths.items ≡ later_paths (found_of found.now) order) }
+{
+    match order {
+        Order::Forward => Ok(Vec::new(alloc)),
+        Order::Backward => read_paths(alloc, found, LATER),
     }
 }
 

@@ -1,6 +1,6 @@
 -- What a run does to the bytes of its devices. Of a device that does not tell its bytes these definitions say that there
 -- are such bytes.
-use Rattle.std.specs.Prelude.{◌≡◌, ◌⊎◌, ◌||◌, ◌<◌, ℕ, Bool, true, false, List, [], ◌∷◌, length, ⊤, String, Vec, Option, None, Some, Result, Ok, Err}
+use Rattle.std.specs.Prelude.{◌≡◌, ◌⊎◌, ◌||◌, ◌<◌, ℕ, Bool, true, false, List, [], ◌∷◌, length, ⊤, String, Vec, Option, None, Some, Result, Ok, Err, slice_get}
 use Rattle.std.specs.Io.KnownBytes.{Keeps, Appends}
 use Rattle.blog_event.specs.declared.fault.Fault.{Fault}
 use Rattle.blog_event.specs.declared.fault.Fault.TheVariants.{TooLong, OutOfMemory as NoMemory}
@@ -24,12 +24,13 @@ use Rattle.list_run.specs.declared.given.GivenLog.{GivenLog}
 use Rattle.blog_request.specs.declared.wanted.Wanted.{Wanted}
 use Rattle.binlog_arguments.specs.Request.{HasPartWriting, HasTask, asks_for_list, asks_for_part}
 use Rattle.binlog_arguments.specs.declared.undo_arguments.PartTask.{PartTask}
-use Rattle.undo_run.specs.Parts.{CanBe, IsPlaced, OfOpened, WritesPart, part_report}
+use Rattle.undo_run.specs.Parts.{CanBe, IsPlaced, OfLooked, WritesPart, part_report}
 use Rattle.undo_run.specs.declared.fault.PartFault.{PartFault}
+use Rattle.undo_run.specs.declared.fault.PartFault.TheVariants.{LaterLog}
 use Rattle.binlog_arguments.specs.Zones.{IsZoneOf}
 use Rattle.binlog_arguments.specs.declared.list_arguments.ListTask.{ListTask}
 use Rattle.binlog_command.specs.declared.commands.Failure.{Failure}
-use Rattle.binlog_command.specs.declared.commands.Failure.TheVariants.{NewLog as NoNewLog, List as NoList, Part as NoPart}
+use Rattle.binlog_command.specs.declared.commands.Failure.TheVariants.{NewLog as NoNewLog, List as NoList, Part as NoPart, Later as NoLater}
 use Rattle.binlog_command.specs.declared.commands.NewLogFault.{NewLogFault}
 use Rattle.binlog_command.specs.declared.commands.NewLogFault.TheVariants.{Run, Sums, Split as Cut, NoSchema}
 use Rattle.binlog_arguments.specs.declared.arguments.Making.{Making}
@@ -147,25 +148,36 @@ abbrev pub may_report : {A B E : Type 0} → Result (Vec (String A) B) E → Boo
 may_report (Ok arguments) = asks_for_list arguments.items || asks_for_part arguments.items
 may_report (Err error) = false
 
+-- a run fails with this fault of its part: in place of the number of a later log it has its path
+abbrev pub IsFailureOf : {A : Type 0} → PartTask A → PartFault A → Failure A → Type 0
+IsFailureOf task fault (NoPart same) = same ≡ fault
+IsFailureOf task fault (NoLater path cause) = (n : ℕ) × (slice_get task.later.items n ≡ Some path) × (fault ≡ LaterLog n cause)
+IsFailureOf task fault failure = ⊥
+
 -- the outcome is that of writing a part of a log, of which this holds
-abbrev pub OfPart : {A : Type 0} → (Result (Vec ℕ A) (PartFault A) → Type 0) → Result Unit (Failure A) → Type 0
-OfPart P (Ok done) = (told : Vec ℕ _) × P (Ok told)
-OfPart P (Err (NoPart fault)) = P (Err fault)
-OfPart P (Err failure) = ⊥
+abbrev pub OfTold : {A : Type 0} → PartTask A → (Result (Vec ℕ A) (PartFault A) → Type 0) → Result (Vec ℕ A) (Failure A) → Type 0
+OfTold task P (Ok told) = P (Ok told)
+OfTold task P (Err failure) = (fault : PartFault _) × IsFailureOf task fault failure × P (Err fault)
+
+-- the same of an outcome without a report
+abbrev pub OfPart : {A : Type 0} → PartTask A → (Result (Vec ℕ A) (PartFault A) → Type 0) → Result Unit (Failure A) → Type 0
+OfPart task P (Ok done) = (told : Vec ℕ _) × P (Ok told)
+OfPart task P (Err failure) = OfTold task P (Err failure)
 
 -- a task's part is written, as it is written at this time
-abbrev pub WritesTask : {A : Type 0} → PartTask A → ℕ → Option (List ℕ) → Option (List ℕ) → Option (List ℕ) → Option (List ℕ) → Result Unit (Failure A) → Type 0
-WritesTask task now old new had has result = (how : Writing) × HasPartWriting task now how
-    × OfPart (WritesPart task.looks how task.sql.log.now (selection_of task.part) old new had has) result
+abbrev pub WritesTask : {A R : Type 0} → (R → Option (List ℕ)) → List (GivenLog R) → PartTask A → ℕ → Option (List ℕ) → Option (List ℕ) → Option (List ℕ) → Option (List ℕ) → Result Unit (Failure A) → Type 0
+WritesTask known givens task now old new had has result = (how : Writing) × HasPartWriting task now how
+    × OfPart task (WritesPart task.looks known givens how task.sql.log.now (selection_of task.part) old new had has) result
 
 -- this is reported of a task's part, of the log that was read
-abbrev pub IsToldOf : {A : Type 0} → Writing → PartTask A → Option (List ℕ) → Option (List ℕ) → List ℕ → Type 0
-IsToldOf how task old new told = OfOpened (selection_of task.part) old new
-    (λ bytes. CanBe task.looks how (selection_of task.part) bytes × (told ≡ part_report task.looks how task.sql.log.now (selection_of task.part) bytes))
+abbrev pub IsToldOf : {A R : Type 0} → (R → Option (List ℕ)) → List (GivenLog R) → Writing → PartTask A → Option (List ℕ) → Option (List ℕ) → List ℕ → Type 0
+IsToldOf known givens how task old new told = OfLooked task.looks known givens task.sql.log.now (selection_of task.part) old new
+    (λ bytes ls. CanBe task.looks how (selection_of task.part) bytes ls × (told ≡ part_report task.looks how task.sql.log.now (selection_of task.part) bytes ls))
 
 -- and it is written
-abbrev pub TellsPart : {A : Type 0} → PartTask A → ℕ → Option (List ℕ) → Option (List ℕ) → Option (List ℕ) → Option (List ℕ) → Type 0
-TellsPart task now old new had has = (how : Writing) × HasPartWriting task now how × ((told : List ℕ) × IsToldOf how task old new told × Appends had has told)
+abbrev pub TellsPart : {A R : Type 0} → (R → Option (List ℕ)) → List (GivenLog R) → PartTask A → ℕ → Option (List ℕ) → Option (List ℕ) → Option (List ℕ) → Option (List ℕ) → Type 0
+TellsPart known givens task now old new had has =
+    (how : Writing) × HasPartWriting task now how × ((told : List ℕ) × IsToldOf known givens how task old new told × Appends had has told)
 
 -- ---- lists
 

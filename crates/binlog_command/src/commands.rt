@@ -20,7 +20,7 @@ ghost use Rattle.binlog_arguments.specs.declared.arguments.Making.TheVariants as
 
 use crate::list_runs::run_list;
 use crate::log_file::{LogFault, open_log};
-use crate::part_runs::run_part;
+use crate::part_runs::run_part_of;
 use crate::schemas::no_schema;
 use binlog_arguments::{
     ArgumentsFault, Asked, Making, NewLogTask, PartTask, SqlTask, read_arguments,
@@ -39,7 +39,7 @@ use std::io;
 use std::io::{Read, Write};
 use std::process::ExitCode;
 use std::rt::{Env, Files};
-use undo_run::PartFault;
+use undo_run::{OpeningFault, PartFault};
 
 /// What the program knows of its own process.
 #[derive(Clone, Copy, Debug)]
@@ -71,6 +71,8 @@ pub enum Failure<'a, A: Allocator> {
     GivenTwice(&'a str, &'a str),
     /// The part of a log isn't written.
     Part(PartFault<A>),
+    /// The later log of this path can't be read, so the part isn't written.
+    Later(&'a str, OpeningFault),
     /// The list isn't whole. The path is that of the log for which it isn't, where several are listed.
     List(Option<&'a str>, ListFault),
 }
@@ -253,8 +255,7 @@ fn carry_out<'a, R: Files + Env + AllocGlobal, A: Allocator + Copy, O: Write, E:
         Asked::List(task) => run_list(rt, alloc, process.seed, &task, output, errors)?,
         Asked::Part(task) => {
             check_part_output(process, &task)?;
-            let mut reader = open_log(rt, task.sql.log)?;
-            run_part(rt, alloc, process, &mut reader, &task, output, errors)?
+            run_part_of(rt, alloc, process, &task, output, errors)?
         }
     }
     Ok(())

@@ -12,7 +12,7 @@ use result_file::FileFault;
 use std::alloc::Allocator;
 use std::fmt;
 use std::io::Write;
-use undo_run::PartFault;
+use undo_run::{OpeningFault, PartFault};
 
 impl<A: Allocator> Failure<'_, A> {
     /// Prints the failure, below what it comes with. What can't be printed is dropped.
@@ -65,6 +65,10 @@ impl<A: Allocator> fmt::Display for Failure<'_, A> {
                 "the log is given twice: {path} is {same}: give it once"
             ),
             Failure::Part(fault) => print_part_fault(f, fault),
+            Failure::Later(path, fault) => {
+                write!(f, "{path}: ")?;
+                print_opening_fault(f, fault)
+            }
             Failure::List(_, ListFault::Run(RunFault::Write)) => print_run_fault(
                 f,
                 &RunFault::Write,
@@ -99,6 +103,7 @@ fn print_part_fault<W: fmt::Write, A: Allocator>(
         }
         PartFault::Log(fault) => write!(f, "{fault}: {}", advice::of_log(fault)),
         PartFault::NothingSelected => f.write_str(NOTHING_SELECTED),
+        PartFault::LaterLog(_, fault) => print_opening_fault(f, fault),
         PartFault::ChangedSince(1, _) => write!(
             f,
             "ChangedSince: 1 row that would be undone was changed since: {CHANGED_SINCE}"
@@ -110,6 +115,17 @@ fn print_part_fault<W: fmt::Write, A: Allocator>(
         PartFault::UnknownSince(_) => f.write_str(UNKNOWN_SINCE),
         PartFault::TooLong => f.write_str(CUT_TOO_LONG),
         PartFault::NoSchema(text) => f.write_str(text.as_str()),
+    }
+}
+
+/// Why a log can't be read.
+fn print_opening_fault<W: fmt::Write>(
+    f: &mut fmt::Formatter<W>,
+    fault: &OpeningFault,
+) -> fmt::Result {
+    match fault {
+        OpeningFault::Run(fault) => print_run_fault(f, fault),
+        OpeningFault::Sums(fault) => write!(f, "{fault}: {}", advice::of_sums(fault)),
     }
 }
 

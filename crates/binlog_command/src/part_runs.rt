@@ -1,21 +1,23 @@
 //! Runs of `undo` and `redo`.
 
-ghost use Rattle.std.specs.Prelude.{◌≡◌, IfErr, IfOk, None, OnErr, OnOk, false, true};
+ghost use Rattle.std.specs.Prelude.{◌≡◌, ◌<◌, IfErr, IfOk, None, OnErr, OnOk, false, length, true};
 ghost use Rattle.std.specs.Io.KnownBytes.{Appends};
 ghost use Rattle.blog_device.specs.Watched.{device_of, has_failed};
 ghost use Rattle.blog_run.specs.Writing.{HasShortWriting};
 ghost use Rattle.blog_sql.specs.Changed.{HaveShortNames};
 ghost use Rattle.blog_trans.specs.Selection.{selection_of};
-ghost use Rattle.binlog_command.specs.Runs.{IsToldOf, TellsPart, WritesTask};
+ghost use Rattle.binlog_command.specs.Runs.{IsFailureOf, IsToldOf, OfTold, TellsPart, WritesTask};
 ghost use Rattle.binlog_command.specs.Status.{status_of};
 ghost use Rattle.undo_run.specs.Parts.{WritesPart};
 
 use crate::commands::{Failure, Process};
+use crate::log_file::open_logs;
 use binlog_arguments::PartTask;
 use blog_device::{Watched, put};
 use blog_run::Writing;
+use list_run::GivenLog;
 use result_file::{ResultFile, Wanted};
-use std::alloc::Allocator;
+use std::alloc::{AllocError, Allocator};
 use std::io;
 use std::io::{Read, Write};
 use std::rt::Files;
@@ -35,13 +37,11 @@ impl Write for Nowhere {
     }
 }
 
-/// Undoes a part of the log that is read, or makes it once more: writes that to standard output, to the result file, or nowhere. Reports
-/// it on standard output, unless what is written goes there; else on standard error.
-pub(crate) fn run_part<'a, R: Files, A: Allocator + Copy, D: Read, O: Write, E: Write>(
+/// Opens the log of a task and its later logs, of which no two may be the same file, and runs it.
+pub(crate) fn run_part_of<'a, R: Files, A: Allocator + Copy, O: Write, E: Write>(
     rt: &R,
     alloc: A,
     process: Process,
-    reader: &mut Watched<D>,
     task: &PartTask<'a, A>,
     output: &mut Watched<O>,
     errors: &mut Watched<E>,
@@ -49,20 +49,72 @@ pub(crate) fn run_part<'a, R: Files, A: Allocator + Copy, D: Read, O: Write, E: 
     requires { HaveShortNames task.now.sql.schemas.items }
     ensures status { IfErr result (λ f. status_of f ≡ 1) }
     ensures refused { OnErr result (has_failed output.new ≡ false → output.new ≡ output.old) }
-    ensures writes { task.now.sql.result_file ≡ None → task.now.dry_run ≡ false → WritesTask task.now process.began (D.remaining (device_of reader.old)) (D.remaining (device_of reader.new))
+{
+    let paths = paths_of(alloc, task)?;
+    let mut logs = open_logs(rt, alloc, &paths)?;
+    let mut given = logs.remove(0);
+    run_part(
+        rt,
+        alloc,
+        process,
+        &mut given.reader,
+        logs,
+        task,
+        output,
+        errors,
+    )
+}
+
+/// The paths of a task's log and of its later logs.
+fn paths_of<'a, A: Allocator>(
+    alloc: A,
+    task: &PartTask<'a, A>,
+) -> Result<Vec<&'a str, A>, AllocError>
+    ensures { IfOk result (λ paths. 0 < length paths.items) }
+{
+    let mut paths = Vec::new(alloc);
+    paths.push(task.sql.log)?;
+    paths.extend_from_slice(&task.later)?;
+    Ok(paths)
+}
+
+/// Undoes a part of the log that is read, or makes it once more: writes that to standard output, to the result file, or nowhere. Reports
+/// it on standard output, unless what is written goes there; else on standard error.
+pub(crate) fn run_part<
+    'a,
+    R: Files,
+    A: Allocator + Copy,
+    D: Read,
+    L: Read + Drop,
+    O: Write,
+    E: Write,
+>(
+    rt: &R,
+    alloc: A,
+    process: Process,
+    reader: &mut Watched<D>,
+    later: Vec<GivenLog<'a, L>, A>,
+    task: &PartTask<'a, A>,
+    output: &mut Watched<O>,
+    errors: &mut Watched<E>,
+) -> Result<(), Failure<'a, A>>
+    requires { HaveShortNames task.now.sql.schemas.items }
+    ensures status { IfErr result (λ f. status_of f ≡ 1) }
+    ensures refused { OnErr result (has_failed output.new ≡ false → output.new ≡ output.old) }
+    ensures writes { task.now.sql.result_file ≡ None → task.now.dry_run ≡ false → WritesTask L.remaining later.entry.items task.now process.began (D.remaining (device_of reader.old)) (D.remaining (device_of reader.new))
         (O.contents (device_of output.old)) (O.contents (device_of output.new)) result }
-    ensures tells { (task.now.sql.result_file ≡ None → task.now.dry_run ≡ true) → OnOk result (TellsPart task.now process.began (D.remaining (device_of reader.old)) (D.remaining (device_of reader.new))
+    ensures tells { (task.now.sql.result_file ≡ None → task.now.dry_run ≡ true) → OnOk result (TellsPart L.remaining later.entry.items task.now process.began (D.remaining (device_of reader.old)) (D.remaining (device_of reader.new))
         (O.contents (device_of output.old)) (O.contents (device_of output.new))) }
 {
     let writing = task.writing(process.began);
     if task.dry_run {
         let mut nowhere = Watched::new(Nowhere {});
-        let told = part_to(alloc, process, reader, task, &writing, &mut nowhere)?;
+        let told = part_to(alloc, process, reader, later, task, &writing, &mut nowhere)?;
         return tell(&told, output);
     }
     match task.sql.result_file {
         None => {
-            let told = part_to(alloc, process, reader, task, &writing, output)?;
+            let told = part_to(alloc, process, reader, later, task, &writing, output)?;
             // what can't be printed is dropped
             let _ = put(errors, &told);
             Ok(())
@@ -74,61 +126,90 @@ pub(crate) fn run_part<'a, R: Files, A: Allocator + Copy, D: Read, O: Write, E: 
                 replace: task.sql.force,
                 process: process.id,
             };
-            let told = part_to_file(rt, alloc, process, reader, task, &writing, &wanted)?;
+            let told = part_to_file(rt, alloc, process, reader, later, task, &writing, &wanted)?;
             tell(&told, output)
         }
     }
 }
 
 /// Writes the part of a task's log to a device, and returns the report.
-fn part_to<A: Allocator + Copy, D: Read, W: Write>(
+fn part_to<'a, A: Allocator + Copy, D: Read, L: Read + Drop, W: Write>(
     alloc: A,
     process: Process,
     reader: &mut Watched<D>,
-    task: &PartTask<'_, A>,
+    later: Vec<GivenLog<'a, L>, A>,
+    task: &PartTask<'a, A>,
     writing: &Writing<'_>,
     writer: &mut Watched<W>,
-) -> Result<Vec<u8, A>, PartFault<A>>
+) -> Result<Vec<u8, A>, Failure<'a, A>>
     requires { HasShortWriting writing.now }
-    ensures writes { WritesPart task.now.looks writing.now task.now.sql.log.now (selection_of task.now.part) (D.remaining (device_of reader.old)) (D.remaining (device_of reader.new))
-        (W.contents (device_of writer.old)) (W.contents (device_of writer.new)) result }
+    ensures writes { OfTold task.now (WritesPart task.now.looks L.remaining later.entry.items writing.now task.now.sql.log.now (selection_of task.now.part) (D.remaining (device_of reader.old)) (D.remaining (device_of reader.new))
+        (W.contents (device_of writer.old)) (W.contents (device_of writer.new))) result }
     ensures untouched { OnErr result (has_failed writer.new ≡ false → writer.new ≡ writer.old) }
+    ensures status { IfErr result (λ f. status_of f ≡ 1) }
 {
-    write_part(
+    match write_part(
         alloc,
         reader,
         task.sql.log.as_bytes(),
         &task.part,
         task.looks,
+        later,
         process.seed,
         writing,
         writer,
-    )
+    ) {
+        Ok(told) => Ok(told),
+        Err(fault) => Err(failure_of(task, fault)),
+    }
+}
+
+/// Why a part isn't written, with the path of the later log at fault.
+fn failure_of<'a, A: Allocator>(task: &PartTask<'a, A>, fault: PartFault<A>) -> Failure<'a, A>
+    ensures told { IsFailureOf task.now fault result }
+    ensures status { status_of result ≡ 1 }
+{
+    match fault {
+        PartFault::LaterLog(n, fault) => match task.later.get(n) {
+            Some(path) => Failure::Later(path, fault),
+            None => Failure::Part(PartFault::LaterLog(n, fault)),
+        },
+        fault => Failure::Part(fault),
+    }
 }
 
 /// Writes the part of a task's log to the result file, which has its name once it is whole, and returns the report.
-fn part_to_file<'a, R: Files, A: Allocator + Copy, D: Read>(
+fn part_to_file<'a, R: Files, A: Allocator + Copy, D: Read, L: Read + Drop>(
     rt: &R,
     alloc: A,
     process: Process,
     reader: &mut Watched<D>,
+    later: Vec<GivenLog<'a, L>, A>,
     task: &PartTask<'a, A>,
     writing: &Writing<'_>,
     wanted: &Wanted<'a>,
 ) -> Result<Vec<u8, A>, Failure<'a, A>>
     requires { HasShortWriting writing.now }
     ensures status { IfErr result (λ f. status_of f ≡ 1) }
-    ensures told { IfOk result (λ told. IsToldOf writing.now task.now (D.remaining (device_of reader.old)) (D.remaining (device_of reader.new)) told.items) }
+    ensures told { IfOk result (λ told. IsToldOf L.remaining later.entry.items writing.now task.now (D.remaining (device_of reader.old)) (D.remaining (device_of reader.new)) told.items) }
 {
     let mut file = ResultFile::create(rt, alloc, wanted)?;
-    match part_to(alloc, process, reader, task, writing, &mut file.writer) {
+    match part_to(
+        alloc,
+        process,
+        reader,
+        later,
+        task,
+        writing,
+        &mut file.writer,
+    ) {
         Ok(told) => {
             file.finish(rt)?;
             Ok(told)
         }
-        Err(fault) => match file.discard(rt) {
+        Err(failure) => match file.discard(rt) {
             Some(failed) => Err(Failure::ResultFile(failed)),
-            None => Err(Failure::Part(fault)),
+            None => Err(failure),
         },
     }
 }

@@ -11,8 +11,8 @@ use Rattle.std.proofs.lemmas.List.Folds.{list_any_at, list_any_none}
 use Rattle.std.proofs.lemmas.List.Sorted.{IsNonDecreasingBy-from_sort, searched}
 use Rattle.blog_trans.specs.Changes.{Change}
 use Rattle.blog_trans.specs.code.InTurn.{GroupEvent}
-use Rattle.blog_undo.specs.Mixed.{leaves}
-use Rattle.blog_later.specs.Prints.{print_of, prints_left}
+use Rattle.blog_undo.specs.Mixed.{TableRow, leaves}
+use Rattle.blog_later.specs.Prints.{prints_left}
 use Rattle.blog_later.specs.code.Counted.{at_most}
 use Rattle.blog_later.specs.code.EventChanges.{event_changes, events_changes}
 use mathlib.Core.Logic.{⊎_elim}
@@ -46,16 +46,16 @@ just-one false n is holds = absurd (false≢true holds)
 
 -- ---- one more event
 
-pub left-append : (cs ds : List Change) → prints_left (cs ++ ds) ≡ prints_left cs ++ prints_left ds
-left-append cs ds = filter_map-append (λ c. option_map print_of (leaves c)) cs ds
+pub left-append : (f : TableRow → ℕ) (cs ds : List Change) → prints_left f (cs ++ ds) ≡ prints_left f cs ++ prints_left f ds
+left-append f cs ds = filter_map-append (λ c. option_map f (leaves c)) cs ds
 
-pub put-more : (e : GroupEvent) (left rest : List GroupEvent) (had has : List ℕ) (all : List ℕ) → left ≡ e ∷ rest → has ≡ had ++ prints_left (event_changes e)
-    → had ++ prints_left (events_changes left) ≡ all → has ++ prints_left (events_changes rest) ≡ all
-put-more e left rest had has all first put is =
-    ap (λ (ps : List ℕ). ps ++ prints_left (events_changes rest)) put
-    ∙ append_assoc had (prints_left (event_changes e)) (prints_left (events_changes rest))
-    ∙ ap (λ (ps : List ℕ). had ++ ps) (sym (left-append (event_changes e) (events_changes rest)))
-    ∙ ap (λ (es : List GroupEvent). had ++ prints_left (events_changes es)) (sym first) ∙ is
+pub put-more : (f : TableRow → ℕ) (e : GroupEvent) (left rest : List GroupEvent) (had has : List ℕ) (all : List ℕ) → left ≡ e ∷ rest → has ≡ had ++ prints_left f (event_changes e)
+    → had ++ prints_left f (events_changes left) ≡ all → has ++ prints_left f (events_changes rest) ≡ all
+put-more f e left rest had has all first put is =
+    ap (λ (ps : List ℕ). ps ++ prints_left f (events_changes rest)) put
+    ∙ append_assoc had (prints_left f (event_changes e)) (prints_left f (events_changes rest))
+    ∙ ap (λ (ps : List ℕ). had ++ ps) (sym (left-append f (event_changes e) (events_changes rest)))
+    ∙ ap (λ (es : List GroupEvent). had ++ prints_left f (events_changes es)) (sym first) ∙ is
 
 -- ---- in order
 

@@ -1,4 +1,5 @@
-mod Counting
+pub mod Counting
 mod EventChanges
+mod OtherTables
 mod Seen
 pub mod Untouched

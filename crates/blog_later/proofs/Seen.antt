@@ -14,12 +14,11 @@ use Rattle.blog_units.specs.Units.{Facts, between}
 use Rattle.blog_units.specs.code.UnitsView.{AreGroups, IsJudged}
 use Rattle.blog_units.specs.declared.unit.Unit as given
 use Rattle.blog_later.specs.Later.{changes_in, is_accepted, is_apart, leaves_alone, may_concern, touches_in, unit_changes}
-use Rattle.blog_later.specs.Prints.{HavePrints, prints_left, takes_among}
+use Rattle.blog_later.specs.Prints.{Left, takes_left}
 use Rattle.blog_later.specs.code.Counted.{at_most, starts}
 use Rattle.blog_later.specs.code.LookedView.{AreSeen}
 use Rattle.blog_later.specs.declared.looked.Looked.{Looked}
 use Rattle.blog_later.proofs.Counting.{at-more, count-append}
-use Rattle.blog_later.proofs.Untouched.{filtered-alike, same-taken}
 
 -- ---- one more unit
 
@@ -40,13 +39,13 @@ changes-more bytes us u holds =
     flat_map-append (unit_changes bytes) us (u ∷ [])
     ∙ ap (λ (cs : List Change). changes_in bytes us ++ cs) (append-nil (unit_changes bytes u) ∙ cond-true (is_accepted bytes u) (changes bytes (between u.start u.stop)) [] holds)
 
-touches-more : (selected : List Change) (bytes : List ℕ) (us : List Facts) (u : Facts) (prints : List ℕ) (n more : ℕ) → is_accepted bytes u ≡ true → HavePrints (prints_left selected) prints
-    → n ≡ at_most (touches_in selected bytes us) → more ≡ at_most (length (filter (takes_among prints) (changes bytes (between u.start u.stop))))
-    → min (n + more) (2 ^ 64 - 1) ≡ at_most (touches_in selected bytes (us ++ u ∷ []))
-touches-more selected bytes us u prints n more holds same is counted =
-    let takes = takes_among (prints_left selected) in
+touches-more : (left : Left) (bytes : List ℕ) (us : List Facts) (u : Facts) (n more : ℕ) → is_accepted bytes u ≡ true
+    → n ≡ at_most (touches_in left bytes us) → more ≡ at_most (length (filter (takes_left left) (changes bytes (between u.start u.stop))))
+    → min (n + more) (2 ^ 64 - 1) ≡ at_most (touches_in left bytes (us ++ u ∷ []))
+touches-more left bytes us u n more holds is counted =
+    let takes = takes_left left in
     let cs = changes bytes (between u.start u.stop) in
-    at-more n more (touches_in selected bytes us) (length (filter takes cs)) is (counted ∙ ap (λ (ds : List Change). at_most (length ds)) (filtered-alike (takes_among prints) takes (same-taken prints (prints_left selected) same) cs))
+    at-more n more (touches_in left bytes us) (length (filter takes cs)) is counted
     ∙ ap at_most (sym (ap (λ (ds : List Change). length (filter takes ds)) (changes-more bytes us u holds) ∙ count-append takes (changes_in bytes us) cs))
 
 -- the groups of one that can be undone by itself
@@ -54,15 +53,15 @@ pub judged-ok : {A : Type 0} (bytes : List ℕ) (unit : given.Unit A) (index : I
     → IsAccepted bytes (between unit.start unit.stop) × (index_bytes index ≡ bytes) × (index_selection index ≡ between unit.start unit.stop)
 judged-ok bytes unit index judged is = subst (λ (r : Result (Index _) Fault). AreGroups bytes unit.start unit.stop r) is judged
 
-pub seen-accepted : {A : Type 0} (selected : List Change) (choice : Choice) (bytes : List ℕ) (us : List Facts) (u : Facts) (prints : List ℕ) (more : ℕ) (old new : Looked A)
-    → fault bytes (between u.start u.stop) ≡ None → HavePrints (prints_left selected) prints → AreSeen selected choice bytes us old
-    → more ≡ at_most (length (filter (takes_among prints) (changes bytes (between u.start u.stop))))
+pub seen-accepted : {A : Type 0} (left : Left) (choice : Choice) (bytes : List ℕ) (us : List Facts) (u : Facts) (more : ℕ) (old new : Looked A)
+    → fault bytes (between u.start u.stop) ≡ None → AreSeen left choice bytes us old
+    → more ≡ at_most (length (filter (takes_left left) (changes bytes (between u.start u.stop))))
     → new.units ≡ min (old.units + 1) (2 ^ 64 - 1) → new.touched ≡ min (old.touched + more) (2 ^ 64 - 1) → new.unknown ≡ old.unknown → new.apart ≡ old.apart
-    → AreSeen selected choice bytes (us ++ u ∷ []) new
-seen-accepted selected choice bytes us u prints more old new accepted same are counted units-are touched-are unknown-are apart-are =
+    → AreSeen left choice bytes (us ++ u ∷ []) new
+seen-accepted left choice bytes us u more old new accepted are counted units-are touched-are unknown-are apart-are =
     let holds : is_accepted bytes u ≡ true = ap is_none accepted in record {
       units = units-are ∙ units-more (is_accepted bytes) us u old.units are.units holds;
-      touched = touched-are ∙ touches-more selected bytes us u prints old.touched more holds same are.touched counted;
+      touched = touched-are ∙ touches-more left bytes us u old.touched more holds are.touched counted;
       unknown = ap (λ v. v.items) unknown-are ∙ are.unknown ∙ ap starts (sym (one-out (may_concern choice bytes) us u (ap (λ b. not b && not (leaves_alone choice bytes u)) holds)));
       apart = ap (λ v. v.items) apart-are ∙ are.apart ∙ ap starts (sym (one-out (is_apart choice bytes) us u (ap (λ b. not b && leaves_alone choice bytes u) holds)));
     }
@@ -70,36 +69,36 @@ seen-accepted selected choice bytes us u prints more old new accepted same are c
 -- ---- on the way through the units of a log
 
 -- what was seen is of some units, which with those that are left and pass the test make up all
-pub record IsLooking {A : Type 0} (selected : List Change) (choice : Choice) (bytes : List ℕ) (all : List Facts) (test : Facts → Bool) (looked : Looked A) (left : List Facts) : Type 0 where
+pub record IsLooking {A : Type 0} (kept : Left) (choice : Choice) (bytes : List ℕ) (all : List Facts) (test : Facts → Bool) (looked : Looked A) (left : List Facts) : Type 0 where
   pub done : List Facts
   pub whole : done ++ filter test left ≡ all
-  pub are : AreSeen selected choice bytes done looked
+  pub are : AreSeen kept choice bytes done looked
 
-pub looking-none : {A : Type 0} (selected : List Change) (choice : Choice) (bytes : List ℕ) (every left : List Facts) (test : Facts → Bool) (looked : Looked A)
-    → left ≡ every → AreSeen selected choice bytes [] looked → IsLooking selected choice bytes (filter test every) test looked left
-looking-none selected choice bytes every left test looked same are = record { done = []; whole = ap (filter test) same; are = are }
+pub looking-none : {A : Type 0} (kept : Left) (choice : Choice) (bytes : List ℕ) (every left : List Facts) (test : Facts → Bool) (looked : Looked A)
+    → left ≡ every → AreSeen kept choice bytes [] looked → IsLooking kept choice bytes (filter test every) test looked left
+looking-none kept choice bytes every left test looked same are = record { done = []; whole = ap (filter test) same; are = are }
 
-pub looking-in : {A : Type 0} (selected : List Change) (choice : Choice) (bytes : List ℕ) (all : List Facts) (test : Facts → Bool) (looked new : Looked A) (u : Facts) (left rest : List Facts)
-    → (s : IsLooking selected choice bytes all test looked left) → left ≡ u ∷ rest → test u ≡ true → AreSeen selected choice bytes (s.done ++ u ∷ []) new
-    → IsLooking selected choice bytes all test new rest
-looking-in selected choice bytes all test looked new u left rest s first inside is =
-    let kept : filter test left ≡ u ∷ filter test rest = ap (filter test) first ∙ cond-true _ _ _ inside in record {
+pub looking-in : {A : Type 0} (kept : Left) (choice : Choice) (bytes : List ℕ) (all : List Facts) (test : Facts → Bool) (looked new : Looked A) (u : Facts) (left rest : List Facts)
+    → (s : IsLooking kept choice bytes all test looked left) → left ≡ u ∷ rest → test u ≡ true → AreSeen kept choice bytes (s.done ++ u ∷ []) new
+    → IsLooking kept choice bytes all test new rest
+looking-in kept choice bytes all test looked new u left rest s first inside is =
+    let shown : filter test left ≡ u ∷ filter test rest = ap (filter test) first ∙ cond-true _ _ _ inside in record {
       done = s.done ++ u ∷ [];
-      whole = append_assoc s.done (u ∷ []) (filter test rest) ∙ ap (λ (xs : List Facts). s.done ++ xs) (sym kept) ∙ s.whole;
+      whole = append_assoc s.done (u ∷ []) (filter test rest) ∙ ap (λ (xs : List Facts). s.done ++ xs) (sym shown) ∙ s.whole;
       are = is;
     }
 
-pub looking-out : {A : Type 0} (selected : List Change) (choice : Choice) (bytes : List ℕ) (all : List Facts) (test : Facts → Bool) (looked : Looked A) (u : Facts) (left rest : List Facts)
-    → IsLooking selected choice bytes all test looked left → left ≡ u ∷ rest → test u ≡ false → IsLooking selected choice bytes all test looked rest
-looking-out selected choice bytes all test looked u left rest s first outside =
-    let kept : filter test left ≡ filter test rest = ap (filter test) first ∙ cond-false _ _ _ outside in record {
+pub looking-out : {A : Type 0} (kept : Left) (choice : Choice) (bytes : List ℕ) (all : List Facts) (test : Facts → Bool) (looked : Looked A) (u : Facts) (left rest : List Facts)
+    → IsLooking kept choice bytes all test looked left → left ≡ u ∷ rest → test u ≡ false → IsLooking kept choice bytes all test looked rest
+looking-out kept choice bytes all test looked u left rest s first outside =
+    let shown : filter test left ≡ filter test rest = ap (filter test) first ∙ cond-false _ _ _ outside in record {
       done = s.done;
-      whole = ap (λ (xs : List Facts). s.done ++ xs) (sym kept) ∙ s.whole;
+      whole = ap (λ (xs : List Facts). s.done ++ xs) (sym shown) ∙ s.whole;
       are = s.are;
     }
 
-pub looking-end : {A : Type 0} (selected : List Change) (choice : Choice) (bytes : List ℕ) (all : List Facts) (test : Facts → Bool) (looked : Looked A) (left : List Facts)
-    → IsLooking selected choice bytes all test looked left → left ≡ [] → AreSeen selected choice bytes all looked
-looking-end selected choice bytes all test looked left s none =
+pub looking-end : {A : Type 0} (kept : Left) (choice : Choice) (bytes : List ℕ) (all : List Facts) (test : Facts → Bool) (looked : Looked A) (left : List Facts)
+    → IsLooking kept choice bytes all test looked left → left ≡ [] → AreSeen kept choice bytes all looked
+looking-end kept choice bytes all test looked left s none =
     let done : s.done ≡ all = sym (append-nil s.done) ∙ ap (λ (xs : List Facts). s.done ++ filter test xs) (sym none) ∙ s.whole in
-    subst (λ (us : List Facts). AreSeen selected choice bytes us looked) done s.are
+    subst (λ (us : List Facts). AreSeen kept choice bytes us looked) done s.are

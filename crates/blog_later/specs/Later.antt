@@ -6,7 +6,7 @@ use Rattle.blog_request.specs.Passing.{is_passed_over, unit_events}
 use Rattle.blog_trans.specs.Acceptance.{fault}
 use Rattle.blog_trans.specs.Changes.{Change, changes}
 use Rattle.blog_units.specs.Units.{Facts, between, facts_of, units}
-use Rattle.blog_later.specs.Prints.{prints_left, takes_among}
+use Rattle.blog_later.specs.Prints.{Left, takes_left}
 
 -- the units of a log that begin at a position or after it
 abbrev pub later_units : List ℕ → ℕ → List Facts
@@ -24,10 +24,10 @@ unit_changes bytes u = if is_accepted bytes u then changes bytes (between u.star
 abbrev pub changes_in : List ℕ → List Facts → List Change
 changes_in bytes us = flat_map (unit_changes bytes) us
 
--- How many of these take a row with the fingerprint of one that selected changes left. No fewer take such a row. More do only if
--- rows that aren't equal have equal fingerprints.
-abbrev pub touches_in : List Change → List ℕ → List Facts → ℕ
-touches_in selected bytes us = length (filter (takes_among (prints_left selected)) (changes_in bytes us))
+-- How many of these take a row by these fingerprints. If they are those of rows that were left, no fewer take such a row, and more do
+-- only if rows that aren't equal have equal fingerprints.
+abbrev pub touches_in : Left → List ℕ → List Facts → ℕ
+touches_in left bytes us = length (filter (takes_left left) (changes_in bytes us))
 
 -- ---- the others
 

@@ -1,5 +1,5 @@
 -- Fingerprints of rows: numbers of 64 bits. Equal rows of a table have equal ones.
-use Rattle.std.specs.Prelude.{◌≡◌, ℕ, Bool, List, [], ◌∷◌, Option, option_map, nat_eq, codes}
+use Rattle.std.specs.Prelude.{◌≡◌, ℕ, Bool, ◌&&◌, List, [], ◌∷◌, Option, option_map, nat_eq, codes}
 use Rattle.std.specs.Hash.FoldHasher.{initial, write, finish}
 use Rattle.std.specs.List.{filter_map, list_any}
 use Rattle.std.specs.Option.{option_map_or}
@@ -29,14 +29,29 @@ table_hasher t = write (write initial t.schema) t.name
 abbrev pub print_of : TableRow → ℕ
 print_of r = finish (with_values (table_hasher r.table) r.row)
 
--- the fingerprints of the rows that changes leave
-abbrev pub prints_left : List Change → List ℕ
-prints_left cs = filter_map (λ c. option_map print_of (leaves c)) cs
+-- the fingerprint of a table: of its names
+abbrev pub table_print : Table → ℕ
+table_print t = finish (table_hasher t)
 
--- a change takes a row with one of these fingerprints
-abbrev pub takes_among : List ℕ → Change → Bool
-takes_among prints c = has_print_among print_of (takes c) prints
+-- the fingerprints of rows, and those of their tables
+pub record Left : Type 0 where
+  pub rows : List ℕ
+  pub tables : List ℕ
+
+-- those of the rows that changes leave
+abbrev pub prints_left : (TableRow → ℕ) → List Change → List ℕ
+prints_left f cs = filter_map (λ c. option_map f (leaves c)) cs
+
+abbrev pub left_of : List Change → Left
+left_of cs = record { rows = prints_left print_of cs; tables = prints_left (λ r. table_print r.table) cs }
+
+-- a change takes a row with one of these fingerprints, of a table with one of these
+abbrev pub takes_left : Left → Change → Bool
+takes_left left c = has_print_among (λ r. table_print r.table) (takes c) left.tables && has_print_among print_of (takes c) left.rows
 
 -- a fingerprint is kept exactly where it is one of these
 abbrev pub HavePrints : List ℕ → List ℕ → Type 0
 HavePrints prints kept = (p : ℕ) → list_any (nat_eq p) kept ≡ list_any (nat_eq p) prints
+
+abbrev pub AreKept : Left → Left → Type 0
+AreKept left kept = HavePrints left.rows kept.rows × HavePrints left.tables kept.tables

@@ -2,6 +2,7 @@
 #![tactic(auto)]
 
 mod laws;
+mod leaving;
 mod left;
 mod looked;
 mod looking;
@@ -9,6 +10,7 @@ mod prints;
 mod touched;
 
 pub use laws::fingerprints_of_left_rows_suffice;
+pub use left::LeftRows;
 pub use looked::Looked;
 pub use looking::look;
 pub use touched::TouchedRows;

@@ -3,11 +3,9 @@
 ghost use Rattle.std.specs.Prelude.{◌++◌, ◌∷◌, IfOk, List, OnOk, []};
 ghost use Rattle.blog_choice.specs.code.ChosenView.{names_choice};
 ghost use Rattle.blog_event.specs.code.LogView.{log_bytes};
-ghost use Rattle.blog_trans.specs.Changes.{Change};
 ghost use Rattle.blog_units.specs.Units.{Facts};
 ghost use Rattle.blog_units.specs.code.UnitsView.{IsJudged, facts_told};
-ghost use Rattle.blog_later.specs.Prints.{HavePrints, prints_left};
-ghost use Rattle.blog_later.specs.code.LookedView.{AreSeen};
+ghost use Rattle.blog_later.specs.code.LookedView.{AreSeen, left_kept};
 
 use crate::left::LeftRows;
 use crate::touched::{TouchedRows, touched_by};
@@ -35,7 +33,7 @@ pub struct Looked<'a, A: Allocator> {
 impl<'a, A: Allocator + Copy> Looked<'a, A> {
     /// Nothing.
     pub(crate) fn none(alloc: A) -> Looked<'a, A>
-        ensures { (selected : List Change) → (choice : _) → (bytes : _) → AreSeen selected choice bytes [] result }
+        ensures { (left : _) → (choice : _) → (bytes : _) → AreSeen left choice bytes [] result }
     {
         Looked {
             units: 0,
@@ -55,8 +53,8 @@ impl<'a, A: Allocator + Copy> Looked<'a, A> {
         unit: &Unit<'a, B>,
     ) -> Result<(), AllocError>
         requires { IsJudged (log_bytes log.now) unit.now }
-        ensures { (selected : List Change) → (us : List Facts) → HavePrints (prints_left selected) left.now.prints.items → AreSeen selected (names_choice names.now) (log_bytes log.now) us self.old
-            → OnOk result (AreSeen selected (names_choice names.now) (log_bytes log.now) (us ++ facts_told unit.now ∷ []) self.new) }
+        ensures { (us : List Facts) → AreSeen (left_kept left.now) (names_choice names.now) (log_bytes log.now) us self.old
+            → OnOk result (AreSeen (left_kept left.now) (names_choice names.now) (log_bytes log.now) (us ++ facts_told unit.now ∷ []) self.new) }
     {
         match &unit.groups {
             Ok(index) => {

@@ -3,41 +3,38 @@
 ghost use Rattle.std.specs.Prelude.{◌≡◌, IfOk, filter, length};
 ghost use Rattle.blog_choice.specs.code.ChosenView.{names_choice};
 ghost use Rattle.blog_event.specs.code.LogView.{log_bytes};
-ghost use Rattle.blog_trans.specs.Changes.{changes};
-ghost use Rattle.blog_trans.specs.code.IndexView.{index_bytes, index_selection};
 ghost use Rattle.blog_later.specs.Later.{is_accepted, is_apart, later_units, may_concern, touches_in};
 ghost use Rattle.blog_later.specs.code.Counted.{at_most, starts};
+ghost use Rattle.blog_later.specs.code.LookedView.{left_kept};
 
 use crate::left::LeftRows;
 use crate::looked::Looked;
 use blog_choice::ChosenNames;
 use blog_event::Log;
-use blog_trans::Index;
 use blog_units::Units;
 use std::alloc::{AllocError, Allocator};
 
 /// Looks at the units of a log that begin at a position or after it, in bytes from the file's start: whether their changes take rows
-/// that the changes of an index left, and which of them can't be looked into, and may concern chosen tables. Fails if out of memory.
+/// that were left, and which of them can't be looked into, and may concern chosen tables. Fails if out of memory.
 ///
 /// Rows are compared by fingerprints of their values. So no row is missed that was left and is taken; two rows that aren't equal have
 /// the same fingerprint in one of 2^64 cases.
-pub fn look<'a, A: Allocator + Copy, B: Allocator>(
+pub fn look<'a, A: Allocator + Copy>(
     alloc: A,
-    selected: &Index<'_, '_, B>,
+    left: &LeftRows<A>,
     names: &ChosenNames<'_, A>,
     log: &Log<'a>,
     at: u32,
 ) -> Result<Looked<'a, A>, AllocError>
     ensures units { IfOk result (λ looked. looked.units ≡ at_most (length (filter (is_accepted (log_bytes log.now)) (later_units (log_bytes log.now) at)))) }
-    ensures touched { IfOk result (λ looked. looked.touched ≡ at_most (touches_in (changes (index_bytes selected.now) (index_selection selected.now)) (log_bytes log.now) (later_units (log_bytes log.now) at))) }
+    ensures touched { IfOk result (λ looked. looked.touched ≡ at_most (touches_in (left_kept left.now) (log_bytes log.now) (later_units (log_bytes log.now) at))) }
     ensures unknown { IfOk result (λ looked. looked.unknown.items ≡ starts (filter (may_concern (names_choice names.now) (log_bytes log.now)) (later_units (log_bytes log.now) at))) }
     ensures apart { IfOk result (λ looked. looked.apart.items ≡ starts (filter (is_apart (names_choice names.now) (log_bytes log.now)) (later_units (log_bytes log.now) at))) }
 {
-    let left = LeftRows::of(alloc, selected)?;
     let mut looked = Looked::none(alloc);
     for unit in Units::new(alloc, log) {
         if unit.start >= at {
-            looked.look(&left, names, log, &unit)?;
+            looked.look(left, names, log, &unit)?;
         }
     }
     Ok(looked)

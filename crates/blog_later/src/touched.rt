@@ -1,6 +1,7 @@
 //! Rows that were left, and that later changes take.
 
-ghost use Rattle.std.specs.Prelude.{◌≡◌, IfOk, filter, if◌then◌else◌, length};
+ghost use Rattle.std.specs.Prelude.{◌≡◌, IfOk, filter, if◌then◌else◌, length, nat_eq, true};
+ghost use Rattle.std.specs.List.{list_any};
 ghost use Rattle.blog_row.specs.TableMap.{Table};
 ghost use Rattle.blog_row.specs.code.RowsView.{row_seen};
 ghost use Rattle.blog_row.specs.code.StoredLayoutView.{stored_columns};
@@ -8,16 +9,17 @@ ghost use Rattle.blog_trans.specs.Changes.{changes};
 ghost use Rattle.blog_trans.specs.code.GroupEventsView.{IsByMap, IsWhole, event_seen};
 ghost use Rattle.blog_trans.specs.code.IndexView.{index_bytes, index_selection};
 ghost use Rattle.blog_trans.specs.declared.group_events.GroupEvent.TheVariants as GroupEvent;
-ghost use Rattle.blog_later.specs.Prints.{table_hasher, takes_among};
+ghost use Rattle.blog_later.specs.Prints.{table_hasher, table_print, takes_left};
 ghost use Rattle.blog_later.specs.code.EventChanges.{event_changes, image_changes};
 ghost use Rattle.blog_later.specs.code.Counted.{at_most};
+ghost use Rattle.blog_later.specs.code.LookedView.{left_kept};
 
 use crate::left::LeftRows;
 use crate::prints::{print_of, table_hasher};
 use blog_row::{Order, RowChange, RowsAction, StoredLayout};
 use blog_trans::{GroupEvent, GroupRows, Index};
 use std::alloc::{AllocError, Allocator};
-use std::hash::FoldHasher;
+use std::hash::{FoldHasher, Hasher};
 
 /// A rows event that takes rows which were left.
 #[derive(Clone, Copy, Debug, PartialEq, Eq)]
@@ -37,15 +39,15 @@ pub struct TouchedRows<'a> {
 /// How many rows events that take left rows are kept.
 const MOST: usize = 20;
 
-/// Returns whether a change takes a row that was left. `hasher` is that of its table.
+/// Returns whether a change takes a row that was left. `hasher` is that of its table, of which rows were left.
 fn is_touched<A: Allocator>(
     left: &LeftRows<A>,
     hasher: FoldHasher,
     layout: &StoredLayout<'_>,
     row: &RowChange<'_>,
 ) -> bool
-    ensures { (t : Table) → hasher ≡ table_hasher t
-        → length (filter (takes_among left.now.prints.items) (image_changes t (stored_columns layout.now) (row_seen row.now).before (row_seen row.now).after)) ≡ (if result then 1 else 0) }
+    ensures { (t : Table) → hasher ≡ table_hasher t → list_any (nat_eq (table_print t)) (left_kept left.now).tables ≡ true
+        → length (filter (takes_left (left_kept left.now)) (image_changes t (stored_columns layout.now) (row_seen row.now).before (row_seen row.now).after)) ≡ (if result then 1 else 0) }
 {
     match row.before {
         Some(image) => left.has(print_of(hasher, layout, image)),
@@ -56,10 +58,13 @@ fn is_touched<A: Allocator>(
 /// Counts the rows that a rows event takes, and that were left.
 fn touched_by_event<A: Allocator>(left: &LeftRows<A>, group: &GroupRows<'_>) -> u64
     requires { IsByMap group.now }
-    ensures { result ≡ at_most (length (filter (takes_among left.now.prints.items) (event_changes (event_seen (GroupEvent.Rows group.now))))) }
+    ensures { result ≡ at_most (length (filter (takes_left (left_kept left.now)) (event_changes (event_seen (GroupEvent.Rows group.now))))) }
 {
     let layout = StoredLayout::new(&group.rows.layout(), group.rows.rows_len());
     let hasher = table_hasher(&group.table);
+    if !left.has_table(hasher.finish()) {
+        return 0;
+    }
     let mut touched = 0u64;
     for row in group.rows.rows() {
         if is_touched(left, hasher, &layout, &row) {
@@ -94,7 +99,7 @@ fn touched_by_one<'a, A: Allocator>(
     first: &mut Vec<TouchedRows<'a>, A>,
 ) -> Result<u64, AllocError>
     requires { IsWhole event.now }
-    ensures { IfOk result (λ n. n ≡ at_most (length (filter (takes_among left.now.prints.items) (event_changes (event_seen event.now))))) }
+    ensures { IfOk result (λ n. n ≡ at_most (length (filter (takes_left (left_kept left.now)) (event_changes (event_seen event.now))))) }
 {
     match event {
         GroupEvent::Rows(rows) => {
@@ -114,7 +119,7 @@ pub(crate) fn touched_by<'a, A: Allocator, B: Allocator>(
     index: &Index<'a, '_, B>,
     first: &mut Vec<TouchedRows<'a>, A>,
 ) -> Result<u64, AllocError>
-    ensures { IfOk result (λ n. n ≡ at_most (length (filter (takes_among left.now.prints.items) (changes (index_bytes index.now) (index_selection index.now))))) }
+    ensures { IfOk result (λ n. n ≡ at_most (length (filter (takes_left (left_kept left.now)) (changes (index_bytes index.now) (index_selection index.now))))) }
 {
     let mut touched = 0u64;
     for event in index.in_turn(Order::Forward) {

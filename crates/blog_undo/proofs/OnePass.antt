@@ -64,7 +64,7 @@ rows-decide ms = sym (passes-is [] ms ∙ ap (λ b. b && is_untouched ms) (none-
 -- ---- by fingerprints
 
 -- a row that is among others has its fingerprint among theirs
-print-among : (f : TableRow → ℕ) (r : Option TableRow) (rows : List TableRow) → is_among r rows ≡ true → has_print_among f r (map f rows) ≡ true
+pub print-among : (f : TableRow → ℕ) (r : Option TableRow) (rows : List TableRow) → is_among r rows ≡ true → has_print_among f r (map f rows) ≡ true
 print-among f r [] e = absurd (false≢true e)
 print-among f None (s ∷ rows) e = print-among f None rows e
 print-among f (Some r) (s ∷ rows) e = ⊎_elim

@@ -1,7 +1,7 @@
 //! Runs of `undo` and `redo`. The SQL that is expected was made from the bytes of the log by another program.
 
 use command_runs::{arguments_of, path_of, run_arguments, run_given, run_log};
-use sample_logs::builder::{BEGIN, DROP_TABLE, Part, T, XID, build, insert};
+use sample_logs::builder::{BEGIN, DROP_TABLE, Part, T, XID, build, delete, insert};
 use sample_logs::small::PLAIN;
 use sample_logs::summed::{CLOSED, CLOSED_PLAIN, IN_USE};
 use std::fs;
@@ -214,6 +214,92 @@ fn what_touches_the_part_since_is_told(rt: HostRuntime) -> Result<(), Fail> {
     check_since(&rt, &log, &options, &lines, last)
 }
 
+/// An undo of a log of one inserted row, with these later logs, prints these lines on standard error. `LOG`, `NEXT` and `LAST` in them
+/// are the names of the logs.
+fn check_later(
+    rt: &HostRuntime,
+    later: &[&[u8]; 2],
+    status: u8,
+    lines: &[(&str, &str)],
+    last: &str,
+) -> Result<(), Fail> {
+    let log = build(rt, &[BEGIN, Part::Map(T), insert(1, &[5]), XID])?;
+    let paths = [
+        path_of(rt, "later-log")?,
+        path_of(rt, "later-next")?,
+        path_of(rt, "later-last")?,
+    ];
+    let names = [paths[0].as_str(), paths[1].as_str(), paths[2].as_str()];
+    fs::write(rt, names[0], &log)?;
+    fs::write(rt, names[1], later[0])?;
+    fs::write(rt, names[2], later[1])?;
+    let outcome = run_arguments(
+        rt,
+        &["undo", "--later", names[1], names[0], "--later", names[2]],
+    )?;
+    for name in names {
+        fs::remove_file(rt, name)?;
+    }
+    let mut wanted = String::new(rt.alloc());
+    for (text, more) in lines {
+        wanted.push_str(match *text {
+            "LOG" => names[0],
+            "NEXT" => names[1],
+            "LAST" => names[2],
+            text => text,
+        })?;
+        wanted.push_str(more)?;
+    }
+    wanted.push_str(last)?;
+    let told = outcome.errors() == wanted.as_bytes();
+    if told
+        && outcome.status == ExitCode::from(status)
+        && outcome.output().is_empty() == (status != 0)
+    {
+        Ok(())
+    } else {
+        Err(Fail::new(format_args!("{wanted}")))
+    }
+}
+
+#[test]
+fn later_logs_are_given(rt: HostRuntime) -> Result<(), Fail> {
+    let other = build(&rt, &[BEGIN, Part::Map(T), delete(1, &[6]), XID])?;
+    let same = build(&rt, &[BEGIN, Part::Map(T), delete(1, &[5]), XID])?;
+    let lines = [
+        ("undoes 1 transaction of ", ""),
+        ("LOG", ": `d`.`t` deletes 1\n"),
+        ("looked at 2 later transactions, up to 259 of ", ""),
+        ("LAST", ": none changes these rows\n"),
+    ];
+    check_later(&rt, &[&other, &other], 0, &lines, CASCADES)?;
+    let last =
+        "binlog: ChangedSince: 2 rows that would be undone were changed since: undo these later changes first, or give --anyway to overwrite them\n";
+    let lines = [
+        ("NEXT", " 196 `d`.`t`: delete\n"),
+        ("LAST", " 196 `d`.`t`: delete\n"),
+    ];
+    check_later(&rt, &[&same, &same], 1, &lines, last)?;
+    let lines = [("binlog: ", ""), ("LAST", ": NotABinlog at 0")];
+    let last = ": the file is no binary log, or an encrypted one: give a binary log\n";
+    check_later(&rt, &[&same, b"no log"], 1, &lines, last)
+}
+
+#[test]
+fn later_logs_are_opened_first(rt: HostRuntime) -> Result<(), Fail> {
+    let log = build(&rt, &[BEGIN, Part::Map(T), insert(1, &[5]), XID])?;
+    let path = path_of(&rt, "later-twice")?;
+    let name = path.as_str();
+    fs::write(&rt, name, &log)?;
+    let twice = run_arguments(&rt, &["undo", "--later", name, "-j", "1", name])?;
+    let absent = run_arguments(&rt, &["undo", "--later", "/no/log", "-j", "1", name])?;
+    fs::remove_file(&rt, name)?;
+    let line = format!(in rt.alloc(); "binlog: the log is given twice: {name}: give it once\n")?;
+    assert!(rt; twice.is_refusal(1, line.as_str()));
+    assert!(rt; absent.begins_refusal(1, "binlog: cannot open the log /no/log: "));
+    Ok(())
+}
+
 /// Each option is heard: with it something else is written, or this part of it.
 #[test]
 fn options_are_heard(rt: HostRuntime) -> Result<(), Fail> {
@@ -357,7 +443,15 @@ fn each_refusal_has_its_line(rt: HostRuntime) -> Result<(), Fail> {
 
 #[test]
 fn wrong_arguments_of_parts_are_told(rt: HostRuntime) -> Result<(), Fail> {
-    let cases: [(&[&str], &str); 10] = [
+    let cases: [(&[&str], &str); 12] = [
+        (
+            &["undo", "--later", "b", "--anyway", "a"],
+            "error: the argument '--later <LOG>' cannot be used with '--anyway'\n",
+        ),
+        (
+            &["redo", "--later", "b", "a"],
+            "error: unexpected argument '--later' found\n",
+        ),
         (
             &["undo"],
             "error: the following required arguments were not provided:\n  <LOG>\n",

@@ -12,7 +12,8 @@ const USAGE: &str = "
 Usage: binlog list [-d NAME] [-T NAME] [-j POS] [--stop-position POS]
                    [--start-datetime TIME] [--stop-datetime TIME]
                    [--utc | --time-zone NAME] [--json] LOG..
-       binlog undo [--anyway] [-j POS] [--stop-position POS] [-d NAME] [-T NAME]
+       binlog undo [--later LOG].. [--anyway] [-j POS] [--stop-position POS]
+                   [-d NAME] [-T NAME]
                    [--dry-run] [-r FILE [--force]] LOG
        binlog redo [-j POS] [--stop-position POS] [-d NAME] [-T NAME]
                    [--dry-run] [-r FILE [--force]] LOG
@@ -31,7 +32,7 @@ const PLAIN_USAGE: &str =
 /// Lines of the help.
 static HELP_LINES: [&str; 15] = [
     "Usage: binlog list [-d NAME] [-T NAME] [-j POS] [--stop-position POS]",
-    "       binlog undo [--anyway] [-j POS] [--stop-position POS] [-d NAME] [-T NAME]",
+    "       binlog undo [--later LOG].. [--anyway] [-j POS] [--stop-position POS]",
     "       binlog redo [-j POS] [--stop-position POS] [-d NAME] [-T NAME]",
     "       binlog plain [-r FILE [--force]] LOG",
     "       binlog split [--size BYTES] [-r FILE [--force]] LOG",

@@ -1,3 +1,3 @@
 mod Alone
-mod Going
+pub mod Going
 mod One

@@ -1,11 +1,18 @@
 //! What came later in a log, and touches a part or doesn't.
 
-use crate::runs::{Came, UNDO, between, part_by};
+use crate::runs::{Came, UNDO, between, given, part_by, part_with};
+use blog_device::{RunFault, Watched};
+use blog_event::Fault;
+use blog_sum::SumFault;
+use list_run::GivenLog;
 use sample_logs::builder::{
     BEGIN, DROP_TABLE, Part, T, XID, build, delete, insert, map_of, put, update,
 };
+use std::io;
 use std::process::Abort;
 use std::test::Fail;
+use testkit::devices::{ALL, Failure, SlowReader, SlowWriter};
+use undo_run::{OpeningFault, PartFault, write_part};
 
 /// A statement about another table.
 const DROP_OTHER: Part<'static> = Part::Query {
@@ -151,9 +158,9 @@ fn other_changes_touch_nothing(rt: HostRuntime) -> Result<(), Fail> {
         "",
     )?;
     // statements about another table
-    let passed = "passed over 1 statement, at 259\n";
+    let passed = "passed over 1 statement, at 259 of binlog.000042\n";
     check_untouched(&rt, &[DROP_OTHER], none, passed)?;
-    let passed = "passed over 2 statements, the first at 259\n";
+    let passed = "passed over 2 statements, the first at 259 of binlog.000042\n";
     check_untouched(&rt, &[DROP_OTHER, DROP_OTHER], none, passed)?;
     // a deleted row leaves none
     let later = [BEGIN, Part::Map(T), delete(1, &[5]), XID];
@@ -222,5 +229,117 @@ fn the_first_twenty_are_told(rt: HostRuntime) -> Result<(), Fail> {
     let (came, _, told) = part_by(&rt, &log, &between(4, Some(stop)), true, &UNDO)?;
     assert_eq!(rt; came, Came::ChangedSince(25));
     assert_eq!(rt; told.iter().filter(|byte| **byte == b'\n').count(), 20);
+    Ok(())
+}
+
+/// This comes of undoing the first transaction of a log with these later logs, and these lines.
+fn check_logs<R: AllocGlobal + Abort>(
+    rt: &R,
+    log: &[u8],
+    stop: u32,
+    later: &[(&str, &[u8])],
+    wanted: Came,
+    lines: &str,
+) -> Result<(), Fail> {
+    let part = between(4, Some(stop));
+    let (came, text, told) = part_with(rt, log, &part, true, later, &UNDO)?;
+    assert_eq!(rt; came, wanted);
+    assert_eq!(rt; str::from_utf8(&told), Ok(lines));
+    let (blind, anyway, _) = part_by(rt, log, &part, false, &UNDO)?;
+    assert_eq!(rt; blind, Came::Done);
+    assert!(rt; text.is_empty() || text == anyway);
+    assert_eq!(rt; text.is_empty(), came != Came::Done);
+    Ok(())
+}
+
+#[test]
+fn later_logs_are_looked_at(rt: HostRuntime) -> Result<(), Fail> {
+    let (log, stop) = log_of(
+        &rt,
+        insert(1, &[5]),
+        &[BEGIN, Part::Map(T), delete(1, &[6]), XID],
+    )?;
+    let other = build(
+        &rt,
+        &[BEGIN, Part::Map(T), insert(1, &[5]), XID, DROP_OTHER],
+    )?;
+    let same = build(&rt, &[BEGIN, Part::Map(T), delete(1, &[5]), XID])?;
+    let dropped = build(&rt, &[DROP_TABLE])?;
+    // nothing touches it: all later transactions are counted, and the last log's end is told
+    let wanted = format!(in rt.alloc();
+        "undoes 1 transaction of binlog.000042: `d`.`t` deletes 1\nlooked at 3 later transactions, up to {} of b: none changes these rows\npassed over 2 statements, the first at 259 of a\n{CASCADES}",
+        other.len()
+    )?;
+    let logs: [(&str, &[u8]); 2] = [("a", &other), ("b", &other)];
+    check_logs(&rt, &log, stop, &logs, Came::Done, wanted.as_str())?;
+    // a row is taken in a later log, and in two
+    let logs: [(&str, &[u8]); 2] = [("a", &other), ("b", &same)];
+    check_logs(
+        &rt,
+        &log,
+        stop,
+        &logs,
+        Came::ChangedSince(1),
+        "b 196 `d`.`t`: delete\n",
+    )?;
+    let logs: [(&str, &[u8]); 3] = [("a", &same), ("b", &other), ("c", &same)];
+    let lines = "a 196 `d`.`t`: delete\nc 196 `d`.`t`: delete\n";
+    check_logs(&rt, &log, stop, &logs, Came::ChangedSince(2), lines)?;
+    // a statement about the table in one
+    let logs: [(&str, &[u8]); 2] = [("a", &dropped), ("b", &other)];
+    let line = "a 120: may change these tables, and can't be looked into\n";
+    check_logs(&rt, &log, stop, &logs, Came::UnknownSince, line)?;
+    // rows that were changed come first, in whichever log they were
+    let logs: [(&str, &[u8]); 2] = [("a", &dropped), ("b", &same)];
+    let lines = "b 196 `d`.`t`: delete\na 120: may change these tables, and can't be looked into\n";
+    check_logs(&rt, &log, stop, &logs, Came::ChangedSince(1), lines)
+}
+
+#[test]
+fn a_damaged_later_log_is_refused(rt: HostRuntime) -> Result<(), Fail> {
+    let (log, stop) = log_of(&rt, insert(1, &[5]), &[])?;
+    let other = build(&rt, &[BEGIN, Part::Map(T), insert(1, &[6]), XID])?;
+    let mut cut = other.to_vec(rt.alloc())?;
+    cut.truncate(other.len().saturating_sub(5));
+    let logs: [(&str, &[u8]); 2] = [("a", &cut), ("b", &other)];
+    let lines =
+        "a 120: may change these tables, and can't be looked into\na 232: the log is damaged, or ends inside an event\n";
+    check_logs(&rt, &log, stop, &logs, Came::UnknownSince, lines)?;
+    // what is no log is told by its number, before anything else
+    let same = build(&rt, &[BEGIN, Part::Map(T), delete(1, &[5]), XID])?;
+    let logs: [(&str, &[u8]); 2] = [("a", &same), ("b", b"no log")];
+    let fault = OpeningFault::Sums(SumFault::Log(Fault::NotABinlog { pos: 0 }));
+    check_logs(&rt, &log, stop, &logs, Came::LaterLog(1, fault), "")
+}
+
+#[test]
+fn a_failed_read_of_a_later_log_is_told(rt: HostRuntime) -> Result<(), Fail> {
+    let (log, stop) = log_of(&rt, insert(1, &[5]), &[])?;
+    let other = build(&rt, &[BEGIN, Part::Map(T), insert(1, &[6]), XID])?;
+    for call in 1..4_u64 {
+        let mut reader = Watched::new(SlowReader::new(&log, ALL, Failure::Never));
+        let mut writer = Watched::new(SlowWriter::new(&rt, ALL, Failure::Never));
+        let mut later = given(rt.alloc(), &[("a", &other)])?;
+        let failure = Failure::At(call, io::ErrorKind::Interrupted);
+        later.push(GivenLog {
+            name: "b",
+            reader: Watched::new(SlowReader::new(&other, 100, failure)),
+        })?;
+        match write_part(
+            rt.alloc(),
+            &mut reader,
+            b"",
+            &between(4, Some(stop)),
+            true,
+            later,
+            0,
+            &UNDO,
+            &mut writer,
+        ) {
+            Err(PartFault::LaterLog(1, OpeningFault::Run(RunFault::Read))) => {}
+            _ => return Err("the read wasn't missed".into()),
+        }
+        assert_eq!(rt; writer.device().calls, 0);
+    }
     Ok(())
 }

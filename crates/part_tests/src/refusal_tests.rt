@@ -1,6 +1,6 @@
 //! Parts that aren't written, and why; and devices and memory that fail.
 
-use crate::runs::{Came, UNDO, between, part_by, part_of};
+use crate::runs::{Came, UNDO, between, given, no_logs, part_of, part_with};
 use blog_device::{RunFault, Watched};
 use blog_event::{Fault, event_at};
 use blog_run::Writing;
@@ -15,7 +15,7 @@ use std::io;
 use std::process::Abort;
 use std::test::Fail;
 use testkit::devices::{ALL, Failure, SlowReader, SlowWriter};
-use undo_run::{PartFault, write_part};
+use undo_run::{OpeningFault, PartFault, write_part};
 
 /// `CLOSED` with another byte at a place.
 fn changed<R: AllocGlobal>(rt: &R, at: usize) -> Result<Vec<u8>, Fail> {
@@ -175,6 +175,7 @@ fn a_schema_without_tables_is_told(rt: HostRuntime) -> Result<(), Fail> {
         b"",
         &part,
         false,
+        no_logs(rt.alloc()),
         0,
         &writing,
         &mut writer,
@@ -201,15 +202,30 @@ fn refuse_each<R: AllocGlobal + Abort>(
     log: &[u8],
     part: &Selection<'_>,
     looks: bool,
+    later: &[(&str, &[u8])],
     least: usize,
 ) -> Result<(), Fail> {
-    let (_, wanted, _) = part_by(rt, log, part, looks, &UNDO)?;
+    let (_, wanted, _) = part_with(rt, log, part, looks, later, &UNDO)?;
     let heap = LocalHeap::new(rt.alloc(), ROOM)?;
     for number in 0..200 {
         let alloc = Refusing::new(&heap, number + 1);
         let mut reader = Watched::new(SlowReader::new(log, ALL, Failure::Never));
         let mut writer = Watched::new(SlowWriter::new(rt, ALL, Failure::Never));
-        match write_part(&alloc, &mut reader, b"", part, looks, 0, &UNDO, &mut writer) {
+        let Ok(logs) = given(&alloc, later) else {
+            assert!(rt; alloc.has_refused());
+            continue;
+        };
+        match write_part(
+            &alloc,
+            &mut reader,
+            b"",
+            part,
+            looks,
+            logs,
+            0,
+            &UNDO,
+            &mut writer,
+        ) {
             Ok(_) => {
                 // a unit in front of the part may have lacked memory, and isn't looked at
                 assert!(rt; writer.device().taken.as_slice() == wanted.as_slice());
@@ -220,7 +236,9 @@ fn refuse_each<R: AllocGlobal + Abort>(
                 continue;
             }
             Err(PartFault::Run(RunFault::Log(Fault::OutOfMemory)))
-            | Err(PartFault::Log(Fault::OutOfMemory)) => {}
+            | Err(PartFault::Log(Fault::OutOfMemory))
+            | Err(PartFault::LaterLog(_, OpeningFault::Run(RunFault::Log(Fault::OutOfMemory)))) =>
+                {}
             Err(_) => return Err("another fault".into()),
         }
         assert!(rt; alloc.has_refused());
@@ -231,7 +249,7 @@ fn refuse_each<R: AllocGlobal + Abort>(
 
 #[test]
 fn a_refused_request_writes_nothing(rt: HostRuntime) -> Result<(), Fail> {
-    refuse_each(&rt, &CLOSED, &between(4, None), false, 6)?;
+    refuse_each(&rt, &CLOSED, &between(4, None), false, &[], 6)?;
     // with what came later
     let parts = [
         BEGIN,
@@ -245,7 +263,13 @@ fn a_refused_request_writes_nothing(rt: HostRuntime) -> Result<(), Fail> {
         OTHER_STATEMENT,
     ];
     let log = build(&rt, &parts)?;
-    refuse_each(&rt, &log, &between(4, Some(259)), true, 14)
+    let part = between(4, Some(259));
+    refuse_each(&rt, &log, &part, true, &[], 14)?;
+    let later = build(
+        &rt,
+        &[OTHER_STATEMENT, BEGIN, Part::Map(T), delete(1, &[6]), XID],
+    )?;
+    refuse_each(&rt, &log, &part, true, &[("a", &later), ("b", &later)], 20)
 }
 
 #[test]
@@ -261,6 +285,7 @@ fn a_failed_read_writes_nothing(rt: HostRuntime) -> Result<(), Fail> {
             b"",
             &part,
             false,
+            no_logs(rt.alloc()),
             0,
             &UNDO,
             &mut writer,
@@ -287,6 +312,7 @@ fn a_failed_write_is_told(rt: HostRuntime) -> Result<(), Fail> {
             b"",
             &part,
             false,
+            no_logs(rt.alloc()),
             0,
             &UNDO,
             &mut writer,

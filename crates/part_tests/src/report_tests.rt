@@ -1,6 +1,6 @@
 //! What is reported of a part.
 
-use crate::runs::{Came, UNDO, between, part_of};
+use crate::runs::{Came, UNDO, between, no_logs, part_of};
 use blog_device::Watched;
 use blog_row::Order;
 use blog_run::Writing;
@@ -107,6 +107,7 @@ fn the_name_of_the_log_is_escaped(rt: HostRuntime) -> Result<(), Fail> {
         name,
         &part,
         false,
+        no_logs(rt.alloc()),
         0,
         &UNDO,
         &mut writer,

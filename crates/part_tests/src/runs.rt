@@ -7,10 +7,11 @@ use blog_event::Fault;
 use blog_row::Order;
 use blog_run::{Writing, WritingFault, write_changes};
 use blog_trans::Selection;
-use std::alloc::Allocator;
+use list_run::GivenLog;
+use std::alloc::{AllocError, Allocator};
 use std::test::Fail;
 use testkit::devices::{ALL, Failure, SlowReader, SlowWriter};
-use undo_run::{PartFault, write_part};
+use undo_run::{OpeningFault, PartFault, write_part};
 
 /// Changes that undo others, as a log.
 pub(crate) const UNDO: Writing<'static> = Writing {
@@ -37,6 +38,7 @@ pub(crate) enum Came {
     NoEventAt(u32),
     Log(Fault),
     NothingSelected,
+    LaterLog(usize, OpeningFault),
     ChangedSince(u64),
     UnknownSince,
     Other,
@@ -49,6 +51,7 @@ fn came_of<A: Allocator>(fault: &PartFault<A>) -> Came {
         PartFault::NoEventAt(pos) => Came::NoEventAt(*pos),
         PartFault::Log(fault) => Came::Log(*fault),
         PartFault::NothingSelected => Came::NothingSelected,
+        PartFault::LaterLog(n, fault) => Came::LaterLog(*n, *fault),
         PartFault::ChangedSince(rows, _) => Came::ChangedSince(*rows),
         PartFault::UnknownSince(_) => Came::UnknownSince,
         PartFault::Run(_) | PartFault::TooLong | PartFault::NoSchema(_) => Came::Other,
@@ -77,12 +80,44 @@ pub(crate) fn part_of<R: AllocGlobal>(
     part_by(rt, log, part, false, writing)
 }
 
+/// No later logs.
+pub(crate) fn no_logs<A: Allocator>(alloc: A) -> Vec<GivenLog<'static, SlowReader<'static>>, A> {
+    Vec::new(alloc)
+}
+
+/// These later logs, by their names, each read by one call.
+pub(crate) fn given<'a, A: Allocator>(
+    alloc: A,
+    logs: &[(&'a str, &'a [u8])],
+) -> Result<Vec<GivenLog<'a, SlowReader<'a>>, A>, AllocError> {
+    let mut all = Vec::new(alloc);
+    for (name, log) in logs {
+        let reader = Watched::new(SlowReader::new(log, ALL, Failure::Never));
+        all.push(GivenLog { name, reader })?;
+    }
+    Ok(all)
+}
+
 /// What comes of writing a part of a log, what was written, and the report, or the lines that a refusal comes with.
 pub(crate) fn part_by<R: AllocGlobal>(
     rt: &R,
     log: &[u8],
     part: &Selection<'_>,
     looks: bool,
+    writing: &Writing<'_>,
+) -> Result<(Came, Vec<u8>, Vec<u8>), Fail>
+    requires { HasShortWriting writing.now }
+{
+    part_with(rt, log, part, looks, &[], writing)
+}
+
+/// The same with later logs.
+pub(crate) fn part_with<R: AllocGlobal>(
+    rt: &R,
+    log: &[u8],
+    part: &Selection<'_>,
+    looks: bool,
+    later: &[(&str, &[u8])],
     writing: &Writing<'_>,
 ) -> Result<(Came, Vec<u8>, Vec<u8>), Fail>
     requires { HasShortWriting writing.now }
@@ -96,6 +131,7 @@ pub(crate) fn part_by<R: AllocGlobal>(
         name,
         part,
         looks,
+        given(rt.alloc(), later)?,
         0,
         writing,
         &mut writer,

@@ -1,2 +1,5 @@
+mod InTurn
+mod Judged
 mod LookedAt
+mod Names
 mod Stages

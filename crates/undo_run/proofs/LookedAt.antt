@@ -1,105 +1,129 @@
--- What is seen of later units, and the names of tables.
-use Rattle.std.proofs.Common.{◌≡◌, ℕ, ◌-◌, ◌^◌, ◌<◌, Bool, true, false, List, [], ◌∷◌, ◌++◌, length, map, drop, Result, Ok, Err, Option, Some, None, refl, sym, ap, ◌∙◌, arith, append_assoc, append-nil, inl, inr, ◌⊎◌}
-use Rattle.std.specs.Prelude.{IfOk, filter, is_some, min, nat_lt, slice_get}
-use Rattle.std.proofs.lemmas.Bool.{cond-false, cond-true, false≢true}
-use Rattle.std.proofs.lemmas.List.{length-map, map-append}
-use Rattle.std.proofs.lemmas.List.Elements.{filter-append}
-use Rattle.blog_choice.specs.Choice.{Choice, Name}
-use Rattle.blog_later.proofs.Untouched.{prints-of-left-suffice}
-use Rattle.blog_later.specs.Later.{changes_in, is_accepted, is_apart, later_units, may_concern, touches_in}
+-- What is seen of logs, one after the other, and what follows from it.
+use Rattle.std.proofs.Common.{◌≡◌, ℕ, ◌+◌, ◌-◌, ◌^◌, ◌≤◌, ◌<◌, true, false, ◌||◌, List, [], ◌∷◌, ◌++◌, length, map, Option, Some, None, refl, sym, ap, ◌∙◌, arith, length-append, append-nil, inl, inr, ◌⊎◌}
+use Rattle.std.specs.Prelude.{filter, is_some, min, option_map, slice_get}
+use Rattle.std.specs.List.{flat_map}
+use Rattle.std.proofs.Math.Bool.{or-false}
+use Rattle.std.proofs.lemmas.Bool.{false≢true}
+use Rattle.std.proofs.lemmas.Grind.{flat_map-append}
+use Rattle.std.proofs.lemmas.List.{length-map}
+use Rattle.std.proofs.lemmas.List.Folds.{list_any-append}
+use Rattle.blog_choice.specs.Choice.{Choice}
+use Rattle.blog_later.proofs.Counting.{at-more, count-append}
+use Rattle.blog_later.proofs.Untouched.{as-many-taken, prints-of-left-suffice}
+use Rattle.blog_later.specs.Laws.{and_later}
+use Rattle.blog_later.specs.Later.{changes_in, is_accepted, is_apart, may_concern, touches_in}
+use Rattle.blog_later.specs.Prints.{AreKept, Left, left_of, takes_left}
 use Rattle.blog_later.specs.code.Counted.{at_most, starts}
-use Rattle.blog_source.specs.Places.{place_of}
-use Rattle.blog_sum.specs.declared.fault.SumFault.{SumFault}
-use Rattle.blog_text.specs.Tables.{rows_in}
-use Rattle.blog_trans.proofs.Turns.{drop-at}
-use Rattle.blog_trans.specs.Changes.{TableCount, changes, counts_of}
-use Rattle.blog_trans.specs.Groups.{groups}
-use Rattle.blog_trans.specs.Selection.{Selection}
+use Rattle.blog_later.specs.declared.looked.Looked.{Looked}
+use Rattle.blog_trans.specs.Changes.{Change}
 use Rattle.blog_undo.proofs.TakingBack.{takes-back}
 use Rattle.blog_units.specs.Units.{Facts}
-use Rattle.undo_run.specs.Parts.{IsChangedSince, IsSafe, IsUnknownSince, changes_and_later, counts_in_part, names_of, selection_in, since_told, stop_in, tables_named, touches_after, unknown_after, units_after}
-use Rattle.undo_run.specs.Reports.{Since}
-use Rattle.undo_run.specs.code.LookedAt.{IsLooked}
+use Rattle.undo_run.specs.After.{AreChanged, AreSafe, Later, MayBeChanged, Place, is_damaged, last_end, later_changes, place_at, places_apart, touches, units_of, unknown_units}
+use Rattle.undo_run.specs.code.SinceView.{AreSeen, IsLooked, place_seen}
+use Rattle.undo_run.specs.declared.since.Since as told
 
--- ---- the names of tables
+-- ---- one more log
 
-names-append : (cs ds : List TableCount) → names_of (cs ++ ds) ≡ names_of cs ++ names_of ds
-names-append cs ds = ap (map name_of) (filter-append (λ c. nat_lt 0 (rows_in c)) cs ds) ∙ map-append name_of (filter (λ c. nat_lt 0 (rows_in c)) cs) (filter (λ c. nat_lt 0 (rows_in c)) ds)
+one-more : {A B : Type 0} (f : A → List B) (xs : List A) (x : A) → flat_map f (xs ++ x ∷ []) ≡ flat_map f xs ++ f x
+one-more f xs x = flat_map-append f xs (x ∷ []) ∙ ap (λ (ys : List _). flat_map f xs ++ ys) (append-nil (f x))
+
+more-counted : {A B : Type 0} (f : A → List B) (xs : List A) (x : A) (n m : ℕ) → n ≡ at_most (length (flat_map f xs)) → m ≡ at_most (length (f x))
+    → min (n + m) (2 ^ 64 - 1) ≡ at_most (length (flat_map f (xs ++ x ∷ [])))
+more-counted f xs x n m is more =
+    at-more n m (length (flat_map f xs)) (length (f x)) is more ∙ ap at_most (sym (ap length (one-more f xs x) ∙ length-append (flat_map f xs) (f x)))
+
+more-touched : (kept : Left) (ls : List Later) (l : Later) (n m : ℕ) → n ≡ at_most (touches kept ls) → m ≡ at_most (touches_in kept l.handed (units_of l))
+    → min (n + m) (2 ^ 64 - 1) ≡ at_most (touches kept (ls ++ l ∷ []))
+more-touched kept ls l n m is more =
+    let cs = changes_in l.handed (units_of l) in
+    at-more n m (touches kept ls) (length (filter (takes_left kept) cs)) is more
+    ∙ ap at_most (sym (ap (λ (all : List Change). length (filter (takes_left kept) all)) (one-more (λ (k : Later). changes_in k.handed (units_of k)) ls l) ∙ count-append (takes_left kept) (later_changes ls) cs))
+
+-- a length that a number of 64 bits has
+pub counted-starts : (us : List Facts) (ns : List ℕ) (n : ℕ) → ns ≡ starts us → n ≡ length ns → n ≤ 2 ^ 64 - 1 → n ≡ at_most (length us)
+counted-starts us ns n are is small = let same : length ns ≡ length us = ap length are ∙ length-map us (λ u. u.start) in omega (arith, is, small, same)
+
+pub counted-places : (f : ℕ → Place) (us : List Facts) (ns : List ℕ) (n : ℕ) → ns ≡ starts us → n ≡ length ns → n ≤ 2 ^ 64 - 1 → n ≡ at_most (length (map f (starts us)))
+counted-places f us ns n are is small = let same : length (map f (starts us)) ≡ length ns = length-map (starts us) f ∙ ap length (sym are) in omega (arith, is, small, same)
+
+pub last-more : (e : Option Place) (ls : List Later) (l : Later) → last_end e (ls ++ l ∷ []) ≡ Some (record { name = l.name; at = l.end })
+last-more e [] l = refl
+last-more e (k ∷ ls) l = last-more (Some (record { name = k.name; at = k.end })) ls l
+
+more-damaged : (ls : List Later) (l : Later) → is_damaged (ls ++ l ∷ []) ≡ (is_damaged ls || is_some l.fault)
+more-damaged ls l = list_any-append (λ k. is_some k.fault) ls (l ∷ []) ∙ ap (λ b. is_damaged ls || b) (or-false (is_some l.fault))
+
+pub with-more : {A : Type 0} (kept : Left) (choice : Choice) (ls : List Later) (l : Later) (looked : Looked A) (old new : told.Since) (unknown apart : ℕ)
+    → IsLooked kept choice l looked → AreSeen kept choice ls old
+    → unknown ≡ length looked.unknown.items → unknown ≤ 2 ^ 64 - 1 → apart ≡ length looked.apart.items → apart ≤ 2 ^ 64 - 1
+    → new.units ≡ min (old.units + looked.units) (2 ^ 64 - 1) → new.touched ≡ min (old.touched + looked.touched) (2 ^ 64 - 1)
+    → new.unknown ≡ min (old.unknown + unknown) (2 ^ 64 - 1) → new.apart ≡ min (old.apart + apart) (2 ^ 64 - 1)
+    → ((ps : List Place) → option_map place_seen old.first ≡ slice_get ps 0 → option_map place_seen new.first ≡ slice_get (ps ++ map (place_at l.name l.handed l.end) looked.apart.items) 0)
+    → option_map place_seen new.end ≡ Some (record { name = l.name; at = l.end }) → new.is_damaged ≡ (old.is_damaged || is_some l.fault)
+    → AreSeen kept choice (ls ++ l ∷ []) new
+with-more kept choice ls l looked old new unknown apart is are unknown-len unknown-small apart-len apart-small units-are touched-are unknown-are apart-are first-is end-is damaged-is =
+    let apart-of : Later → List Place = λ k. map (place_at k.name k.handed k.end) (starts (filter (is_apart choice k.handed) (units_of k))) in record {
+      units = units-are ∙ more-counted (λ k. filter (is_accepted k.handed) (units_of k)) ls l old.units looked.units are.units is.units;
+      touched = touched-are ∙ more-touched kept ls l old.touched looked.touched are.touched is.touched;
+      unknown = unknown-are ∙ more-counted (λ k. filter (may_concern choice k.handed) (units_of k)) ls l old.unknown unknown are.unknown
+          (counted-starts (filter (may_concern choice l.handed) (units_of l)) looked.unknown.items unknown is.unknown unknown-len unknown-small);
+      apart = apart-are ∙ more-counted apart-of ls l old.apart apart are.apart
+          (counted-places (place_at l.name l.handed l.end) (filter (is_apart choice l.handed) (units_of l)) looked.apart.items apart is.apart apart-len apart-small);
+      first = first-is (places_apart choice ls) are.first
+          ∙ ap (λ (ats : List ℕ). slice_get (places_apart choice ls ++ map (place_at l.name l.handed l.end) ats) 0) is.apart
+          ∙ ap (λ (ps : List Place). slice_get ps 0) (sym (one-more apart-of ls l));
+      end = end-is ∙ sym (last-more None ls l);
+      damaged = damaged-is ∙ ap (λ b. b || is_some l.fault) are.damaged ∙ sym (more-damaged ls l);
+    }
+
+-- the first place of more
+pub first-there : (p : Place) (ps qs : List Place) → Some p ≡ slice_get ps 0 → Some p ≡ slice_get (ps ++ qs) 0
+first-there p [] qs e = absurd (some-none e)
   where
-    name_of : TableCount → Name
-    name_of c = record { schema = Some c.table.schema; table = c.table.name }
+    some-none : Some p ≡ None → ⊥
+    some-none e = false≢true (sym (ap is_some e))
+first-there p (q ∷ ps) qs e = e
 
-pub names-more : (had has all : List Name) (c : TableCount) (left rest : List TableCount) → left ≡ c ∷ rest → has ≡ had ++ names_of (c ∷ []) → had ++ names_of left ≡ all → has ++ names_of rest ≡ all
-names-more had has all c left rest first more is =
-    ap (λ (names : List Name). names ++ names_of rest) more ∙ append_assoc had (names_of (c ∷ [])) (names_of rest)
-    ∙ ap (λ (names : List Name). had ++ names) (sym (names-append (c ∷ []) rest)) ∙ ap (λ (cs : List TableCount). had ++ names_of cs) (sym first) ∙ is
+pub first-none : (o : Option Place) (ps qs : List Place) → None ≡ slice_get ps 0 → o ≡ slice_get qs 0 → o ≡ slice_get (ps ++ qs) 0
+first-none o [] qs e is = is
+first-none o (p ∷ ps) qs e is = absurd (false≢true (ap is_some e))
 
-pub named-in : (had has : List Name) (c : TableCount) (name : Name) → has ≡ had ++ name ∷ [] → name ≡ record { schema = Some c.table.schema; table = c.table.name } → nat_lt 0 (rows_in c) ≡ true → has ≡ had ++ names_of (c ∷ [])
-named-in had has c name more same holds = more ∙ ap (λ (n : Name). had ++ n ∷ []) same ∙ sym (ap (λ (cs : List TableCount). had ++ map (λ c. record { schema = Some c.table.schema; table = c.table.name }) cs) (cond-true (nat_lt 0 (rows_in c)) (c ∷ []) [] holds))
+-- ---- what follows from it
 
-pub named-out : (had : List Name) (c : TableCount) → nat_lt 0 (rows_in c) ≡ false → had ≡ had ++ names_of (c ∷ [])
-named-out had c fails = sym (append-nil had) ∙ sym (ap (λ (cs : List TableCount). had ++ map (λ c. record { schema = Some c.table.schema; table = c.table.name }) cs) (cond-false (nat_lt 0 (rows_in c)) (c ∷ []) [] fails))
-
--- ---- what is seen
-
-pub some-more : (n m : ℕ) → n ≡ at_most m → 0 < n → 0 < m
+some-more : (n m : ℕ) → n ≡ at_most m → 0 < n → 0 < m
 some-more n m is some = omega (arith, is, some)
 
-pub none-more : (n m : ℕ) → n ≡ at_most m → n ≡ 0 → m ≡ 0
+none-more : (n m : ℕ) → n ≡ at_most m → n ≡ 0 → m ≡ 0
 none-more n m is none = omega (arith, is, none)
 
-no-units : (us : List Facts) → length us ≡ 0 → us ≡ []
-no-units [] e = refl
-no-units (u ∷ us) e = absurd (omega (arith, e))
+none-left : {A : Type 0} (xs : List A) → length xs ≡ 0 → xs ≡ []
+none-left [] e = refl
+none-left (x ∷ xs) e = absurd (omega (arith, e))
 
-no-fault : (f : Option SumFault) → is_some f ≡ false → f ≡ None
-no-fault None e = refl
-no-fault (Some f) e = absurd (false≢true (sym e))
+touches-left : (selected : List Change) (kept : Left) (ls : List Later) → AreKept (left_of selected) kept → touches kept ls ≡ touches (left_of selected) ls
+touches-left selected kept ls same = as-many-taken kept (left_of selected) same (later_changes ls)
 
--- what was seen, by places in what is handed out
-pub is-looked : (part : Selection) (handed bytes log : List ℕ) (sel : Selection) (choice : Choice) (at units touched : ℕ) (unknown apart : List ℕ)
-    → bytes ≡ handed → log ≡ handed → sel ≡ selection_in part handed → choice ≡ tables_named (counts_of (groups bytes sel)) → at ≡ stop_in part handed
-    → units ≡ at_most (length (filter (is_accepted log) (later_units log at))) → touched ≡ at_most (touches_in (changes bytes sel) log (later_units log at))
-    → unknown ≡ starts (filter (may_concern choice log) (later_units log at)) → apart ≡ starts (filter (is_apart choice log) (later_units log at))
-    → IsLooked part handed units touched unknown apart
-is-looked part handed bytes log sel choice at units touched unknown apart same logged chosen named stops units-are touched-are unknown-are apart-are =
-    let tables : choice ≡ tables_named (counts_in_part part handed) = named ∙ (λ i. tables_named (counts_of (groups (same i) (chosen i)))) in record {
-      units_are = units-are ∙ (λ i. at_most (length (filter (is_accepted (logged i)) (later_units (logged i) (stops i)))));
-      touched_are = touched-are ∙ (λ i. at_most (touches_in (changes (same i) (chosen i)) (logged i) (later_units (logged i) (stops i))));
-      unknown_are = unknown-are ∙ (λ i. starts (filter (may_concern (tables i) (logged i)) (later_units (logged i) (stops i))));
-      apart_are = apart-are ∙ (λ i. starts (filter (is_apart (tables i) (logged i)) (later_units (logged i) (stops i))));
-    }
+pub changed-since : (selected : List Change) (kept : Left) (choice : Choice) (ls : List Later) (since : told.Since) → AreKept (left_of selected) kept → AreSeen kept choice ls since
+    → 0 < since.touched → AreChanged selected ls since.touched
+changed-since selected kept choice ls since same are some =
+    let touched = are.touched ∙ ap at_most (touches-left selected kept ls same) in (touched, some-more since.touched (touches (left_of selected) ls) touched some)
 
-pub changed-since : (part : Selection) (handed : List ℕ) (n : ℕ) → n ≡ at_most (touches_after part handed) → 0 < n → IsChangedSince true part handed n
-changed-since part handed n is some = (refl, is, some-more n (touches_after part handed) is some)
+pub unknown-since : (selected : List Change) (kept : Left) (choice : Choice) (ls : List Later) (since : told.Since) → AreKept (left_of selected) kept → AreSeen kept choice ls since
+    → since.touched ≡ 0 → (0 < since.unknown) ⊎ (since.is_damaged ≡ true) → MayBeChanged selected choice ls
+unknown-since selected kept choice ls since same are none (inl some) =
+    let touched = are.touched ∙ ap at_most (touches-left selected kept ls same) in
+    (none-more since.touched (touches (left_of selected) ls) touched none, inl (some-more since.unknown (length (unknown_units choice ls)) are.unknown some))
+unknown-since selected kept choice ls since same are none (inr damaged) =
+    let touched = are.touched ∙ ap at_most (touches-left selected kept ls same) in
+    (none-more since.touched (touches (left_of selected) ls) touched none, inr (sym are.damaged ∙ damaged))
 
-pub unknown-since : (part : Selection) (handed : List ℕ) (fault : Option SumFault) (n : ℕ) (unknown : List ℕ) → n ≡ at_most (touches_after part handed) → n ≡ 0
-    → unknown ≡ starts (unknown_after part handed) → (0 < length unknown) ⊎ (is_some fault ≡ true) → IsUnknownSince true part handed fault
-unknown-since part handed fault n unknown is none are (inl some) =
-    let same : length unknown ≡ length (unknown_after part handed) = ap length are ∙ length-map (unknown_after part handed) (λ u. u.start) in
-    (refl, none-more n (touches_after part handed) is none, inl (omega (arith, some, same)))
-unknown-since part handed fault n unknown is none are (inr damaged) = (refl, none-more n (touches_after part handed) is none, inr damaged)
-
-pub safe : (part : Selection) (handed : List ℕ) (fault : Option SumFault) (n : ℕ) (unknown : List ℕ) → n ≡ at_most (touches_after part handed) → n ≡ 0
-    → unknown ≡ starts (unknown_after part handed) → length unknown ≡ 0 → is_some fault ≡ false → IsSafe part handed fault
-safe part handed fault n unknown is none are empty whole =
-    let ms = changes_and_later part handed in
-    let untouched = prints-of-left-suffice (changes handed (selection_in part handed)) (changes_in handed (units_after part handed)) (none-more n (touches_after part handed) is none) in record {
+pub safe-since : (selected : List Change) (kept : Left) (choice : Choice) (ls : List Later) (since : told.Since) → AreKept (left_of selected) kept → AreSeen kept choice ls since
+    → since.touched ≡ 0 → since.unknown ≡ 0 → since.is_damaged ≡ false → AreSafe selected choice ls
+safe-since selected kept choice ls since same are none known whole =
+    let touched = are.touched ∙ ap at_most (touches-left selected kept ls same) in
+    let untouched = prints-of-left-suffice selected (later_changes ls) (none-more since.touched (touches (left_of selected) ls) touched none) in record {
       untouched = untouched;
-      taken_back = λ before after applied. takes-back ms before after untouched applied;
-      known = no-units (unknown_after part handed) (sym (ap length are ∙ length-map (unknown_after part handed) (λ u. u.start)) ∙ empty);
-      whole = no-fault fault whole;
+      taken_back = λ before after applied. takes-back (and_later selected (later_changes ls)) before after untouched applied;
+      known = none-left (unknown_units choice ls) (none-more since.unknown (length (unknown_units choice ls)) are.unknown known);
+      whole = sym are.damaged ∙ whole;
     }
-
--- what is told of it
-pub told-since : (part : Selection) (handed : List ℕ) (end last units : ℕ) (apart places : List ℕ) → last ≡ end → units ≡ at_most (length (filter (is_accepted handed) (units_after part handed)))
-    → apart ≡ starts (filter (is_apart (tables_named (counts_in_part part handed)) handed) (units_after part handed)) → places ≡ map (place_of handed end) apart
-    → Some (record { units = units; end = last; apart = places }) ≡ since_told true part handed end
-told-since part handed end last units apart places ends units-are apart-are placed =
-    let all : places ≡ map (place_of handed end) (starts (filter (is_apart (tables_named (counts_in_part part handed)) handed) (units_after part handed))) = placed ∙ ap (map (place_of handed end)) apart-are in
-    (λ i. Some (record { units = units-are i; end = ends i; apart = all i }))
-
--- four facts of what a call gives make a fifth
-pub all-given : {T E : Type 0} {P Q R S All : T → Type 0} (r : Result T E) → ((x : T) → P x → Q x → R x → S x → All x) → IfOk r P → IfOk r Q → IfOk r R → IfOk r S → IfOk r All
-all-given (Ok x) all p q r s = all x p q r s
-all-given (Err e) all p q r s = tt

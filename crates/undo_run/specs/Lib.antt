@@ -1,3 +1,4 @@
+pub mod After
 pub mod Parts
 pub mod Reports
 pub mod code

@@ -1,37 +1,37 @@
 -- A part of a server's log: its changes are made once more, or undone. Places are positions in that log.
-use Rattle.std.specs.Prelude.{◌≡◌, ◌⊎◌, ℕ, ◌<◌, ◌≤◌, ◌==◌, ◌&&◌, ◌||◌, nat_le, nat_lt, Bool, true, false, if◌then◌else◌, List, [], length, map, filter, Option, Some, None, option_map, is_some, Result, Ok, Err}
+use Rattle.std.specs.Prelude.{◌≡◌, ◌⊎◌, ℕ, ◌<◌, ◌≤◌, ◌==◌, ◌&&◌, ◌||◌, nat_le, nat_lt, Bool, true, false, if◌then◌else◌, List, [], ◌∷◌, length, map, filter, slice_get, ⊤, Option, Some, None, option_map, Vec, Result, Ok, Err}
 use Rattle.std.specs.List.{list_any}
 use Rattle.std.specs.Option.{option_map_or}
 use Rattle.std.specs.Io.KnownBytes.{Appends, Keeps}
 use Rattle.blog_choice.specs.Choice.{Choice, Name}
 use Rattle.blog_device.specs.Devices.{AppendsBeginning, PassesLimit, ReadsLog, greatest_length}
+use Rattle.list_run.specs.Listed.{AreRead, NamedLog}
+use Rattle.blog_device.specs.Watched.{device_of}
 use Rattle.blog_device.specs.declared.fault.RunFault.TheVariants as run
+use Rattle.list_run.specs.declared.given.GivenLog.{GivenLog}
 use Rattle.blog_event.specs.declared.fault.Fault.{Fault}
 use Rattle.blog_event.specs.declared.fault.Fault.TheVariants.{OutOfMemory, TooLong as TooLongLog}
 use Rattle.blog_event.specs.Fault.{name_of, position_of as fault_position}
-use Rattle.blog_flash.specs.States.{State, apply_all}
-use Rattle.blog_later.specs.Later.{changes_in, is_accepted, is_apart, later_units, may_concern, touches_in}
-use Rattle.blog_later.specs.Laws.{and_later}
-use Rattle.blog_later.specs.code.Counted.{at_most, starts}
+use Rattle.blog_later.specs.code.Counted.{at_most}
 use Rattle.blog_source.specs.Found.{Found, found_of, source_refusal}
 use Rattle.blog_source.specs.Handed.{handed_log}
+use Rattle.blog_source.specs.Laws.{whole_reading}
 use Rattle.blog_source.specs.Places.{first_of, place_of, position_of}
 use Rattle.blog_source.specs.declared.reading.Reading.{Reading}
 use Rattle.blog_sum.specs.declared.fault.SumFault.{SumFault}
 use Rattle.blog_text.specs.Tables.{rows_in}
 use Rattle.blog_trans.specs.Acceptance.{IsAccepted, IsRefusal, fault}
-use Rattle.blog_trans.specs.Changes.{TableCount, changes, counts_of}
+use Rattle.blog_trans.specs.Changes.{Change, TableCount, changes, counts_of}
 use Rattle.blog_trans.specs.Groups.{groups}
 use Rattle.blog_trans.specs.Selection.{Selection}
-use Rattle.blog_undo.specs.Laws.{AsIfNever}
-use Rattle.blog_undo.specs.Mixed.{Marked, all_changes, is_untouched}
-use Rattle.blog_units.specs.Units.{Facts}
 use Rattle.blog_run.specs.Writing.{CanBeWritten, end_of_text, lacks, text_of}
 use Rattle.blog_run.specs.declared.writing.Writing.{Writing}
+use Rattle.undo_run.specs.After.{AreChanged, AreSafe, Later, MayBeChanged, accepted_units, last_end, places_apart}
 use Rattle.undo_run.specs.Reports.{Since, report}
+use Rattle.undo_run.specs.declared.fault.OpeningFault.{OpeningFault}
+use Rattle.undo_run.specs.declared.fault.OpeningFault.TheVariants as opening
 use Rattle.undo_run.specs.declared.fault.PartFault.{PartFault}
-use Rattle.undo_run.specs.declared.fault.PartFault.TheVariants.{Run, Sums, NoEventAt, Log, NothingSelected, ChangedSince, UnknownSince, TooLong, NoSchema}
-use Rattle.std.specs.Prelude.{Vec}
+use Rattle.undo_run.specs.declared.fault.PartFault.TheVariants.{Run, Sums, NoEventAt, Log, NothingSelected, LaterLog, ChangedSince, UnknownSince, TooLong, NoSchema}
 
 -- ---- what a part is
 
@@ -134,8 +134,23 @@ pub record IsSound (part : Selection) (handed : List ℕ) (end : ℕ) (damage : 
 abbrev pub stop_in : Selection → List ℕ → ℕ
 stop_in part handed = option_map_or (position_of handed) part.stop (length handed)
 
-abbrev pub units_after : Selection → List ℕ → List Facts
-units_after part handed = later_units handed (stop_in part handed)
+-- the log itself, from the stop on
+abbrev pub rest_of : List ℕ → Selection → List ℕ → ℕ → Option SumFault → Later
+rest_of name part handed end fault = record { name = name; handed = handed; at = stop_in part handed; end = end; fault = fault }
+
+-- a later log, from its first event on
+abbrev pub whole_log : NamedLog → Later
+whole_log log = record {
+  name = log.name;
+  handed = handed_log whole_reading log.bytes;
+  at = 0;
+  end = (found_of whole_reading log.bytes).end;
+  fault = (found_of whole_reading log.bytes).fault;
+}
+
+-- what came after a part: the rest of its log, and the later logs
+abbrev pub after : Bool → List ℕ → Selection → List ℕ → List NamedLog → List Later
+after looks name part bytes logs = rest_of name part (handed_of looks part bytes) (found_in looks part bytes).end (found_in looks part bytes).fault ∷ map whole_log logs
 
 -- the names of those of some tables whose rows are changed
 abbrev pub names_of : List TableCount → List Name
@@ -145,32 +160,24 @@ names_of counts = map (λ c. record { schema = Some c.table.schema; table = c.ta
 abbrev pub tables_named : List TableCount → Choice
 tables_named counts = record { database = None; tables = names_of counts; excluded = [] }
 
--- its changes, and the later ones
-abbrev pub changes_and_later : Selection → List ℕ → List Marked
-changes_and_later part handed = and_later (changes handed (selection_in part handed)) (changes_in handed (units_after part handed))
+-- the changes of a part, and the tables whose rows it changes
+abbrev pub changes_of_part : Selection → List ℕ → List Change
+changes_of_part part handed = changes handed (selection_in part handed)
 
--- how many rows of the part were changed since, and where units begin that may concern its tables
-abbrev pub touches_after : Selection → List ℕ → ℕ
-touches_after part handed = touches_in (changes handed (selection_in part handed)) handed (units_after part handed)
+abbrev pub tables_of_part : Selection → List ℕ → Choice
+tables_of_part part handed = tables_named (counts_in_part part handed)
 
-abbrev pub unknown_after : Selection → List ℕ → List Facts
-unknown_after part handed = filter (may_concern (tables_named (counts_in_part part handed)) handed) (units_after part handed)
-
--- Nothing that came later touches a part: no later change takes a row that one of its changes left; no later unit may concern its
--- tables and can't be looked into; and the log is read to its end. So from every state on which its changes and the later ones apply:
--- undoing its changes makes no fault, and the tables are then as if only the later changes had been made.
-pub record IsSafe (part : Selection) (handed : List ℕ) (fault : Option SumFault) : Type 0 where
-  pub untouched : is_untouched (changes_and_later part handed) ≡ true
-  pub taken_back : (before after : State) → apply_all (all_changes (changes_and_later part handed)) before ≡ Some after → AsIfNever (changes_and_later part handed) before after
-  pub known : unknown_after part handed ≡ []
-  pub whole : fault ≡ None
+-- nothing that came later touches them
+abbrev pub IsSafe : Selection → List ℕ → List Later → Type 0
+IsSafe part handed ls = AreSafe (changes_of_part part handed) (tables_of_part part handed) ls
 
 -- what is told of it
-abbrev pub since_told : Bool → Selection → List ℕ → ℕ → Option Since
-since_told looks part handed end = if looks then Some (record {
-  units = at_most (length (filter (is_accepted handed) (units_after part handed)));
-  end = end;
-  apart = map (place_of handed end) (starts (filter (is_apart (tables_named (counts_in_part part handed)) handed) (units_after part handed)));
+abbrev pub since_told : Bool → Selection → List ℕ → List Later → Option Since
+since_told looks part handed ls = if looks then Some (record {
+  units = at_most (length (accepted_units ls));
+  end = last_end None ls;
+  apart = at_most (length (places_apart (tables_of_part part handed) ls));
+  first = slice_get (places_apart (tables_of_part part handed) ls) 0;
 }) else None
 
 -- ---- what comes of writing it
@@ -183,8 +190,11 @@ abbrev pub IsSoundIn : Bool → Selection → List ℕ → Type 0
 IsSoundIn looks part bytes = IsSound part (handed_of looks part bytes) (found_in looks part bytes).end (damage_in looks part bytes)
 
 -- its changes can be written, or what undoes them; where what came later is looked at, it touches none of them
-abbrev pub CanBe : Bool → Writing → Selection → List ℕ → Type 0
-CanBe looks w part bytes = IsSoundIn looks part bytes × (looks ≡ true → IsSafe part (handed_of looks part bytes) (found_in looks part bytes).fault)
+abbrev pub IsSafeIn : Bool → Selection → List ℕ → List Later → Type 0
+IsSafeIn looks part bytes ls = looks ≡ true → IsSafe part (handed_of looks part bytes) ls
+
+abbrev pub CanBe : Bool → Writing → Selection → List ℕ → List Later → Type 0
+CanBe looks w part bytes ls = IsSoundIn looks part bytes × IsSafeIn looks part bytes ls
     × CanBeWritten w.sql w.order w.limit (handed_of looks part bytes) (selection_in part (handed_of looks part bytes))
 
 -- what is written of them
@@ -192,49 +202,72 @@ abbrev pub part_text : Bool → Writing → Selection → List ℕ → List ℕ
 part_text looks w part bytes = text_of w.sql w.order w.limit (handed_of looks part bytes) (selection_in part (handed_of looks part bytes))
 
 -- what is reported of them, for a log of this name
-abbrev pub part_report : Bool → Writing → List ℕ → Selection → List ℕ → List ℕ
-part_report looks w name part bytes =
+abbrev pub part_report : Bool → Writing → List ℕ → Selection → List ℕ → List Later → List ℕ
+part_report looks w name part bytes ls =
     let handed = handed_of looks part bytes in
-    report w.order name (length (groups handed (selection_in part handed))) (counts_in_part part handed) (since_told looks part handed (found_in looks part bytes).end)
+    report w.order name (length (groups handed (selection_in part handed))) (counts_in_part part handed) (since_told looks part handed ls)
 
 -- rows of the part were changed since
-abbrev pub IsChangedSince : Bool → Selection → List ℕ → ℕ → Type 0
-IsChangedSince looks part handed rows = (looks ≡ true) × (rows ≡ at_most (touches_after part handed)) × (0 < touches_after part handed)
+abbrev pub IsChangedSince : Bool → Selection → List ℕ → List Later → ℕ → Type 0
+IsChangedSince looks part handed ls rows = (looks ≡ true) × AreChanged (changes_of_part part handed) ls rows
 
--- none were, as far as is known; but a later unit may concern the part's tables, or the log isn't read to its end
-abbrev pub IsUnknownSince : Bool → Selection → List ℕ → Option SumFault → Type 0
-IsUnknownSince looks part handed fault = (looks ≡ true) × (touches_after part handed ≡ 0) × ((0 < length (unknown_after part handed)) ⊎ (is_some fault ≡ true))
+-- none were, as far as is known; but a later unit may concern the part's tables, or a log isn't read to its end
+abbrev pub IsUnknownSince : Bool → Selection → List ℕ → List Later → Type 0
+IsUnknownSince looks part handed ls = (looks ≡ true) × MayBeChanged (changes_of_part part handed) (tables_of_part part handed) ls
+
+-- The later logs, as they were read. None is where what came later isn't looked at.
+abbrev pub AreLater : {R : Type 0} → Bool → (R → Option (List ℕ)) → List (GivenLog R) → List NamedLog → Type 0
+AreLater true known givens logs = AreRead known givens logs
+AreLater false known givens logs = logs ≡ []
+
+-- nothing can be read of the n-th later log
+abbrev pub FailsToOpen : {R : Type 0} → (R → Option (List ℕ)) → GivenLog R → OpeningFault → Type 0
+FailsToOpen known given (opening.Run run.Read) = ⊤
+FailsToOpen known given (opening.Run run.Write) = ⊥
+FailsToOpen known given (opening.Run (run.Log f)) = (f ≡ OutOfMemory)
+    ⊎ ((f ≡ TooLongLog 0) × ((left : Option (List ℕ)) × PassesLimit greatest_length (known (device_of given.reader)) left))
+FailsToOpen known given (opening.Sums f) = (bytes : List ℕ) × ((left : Option (List ℕ)) × ReadsLog (known (device_of given.reader)) left bytes) × (source_refusal bytes ≡ Some f)
+
+abbrev pub FailsLater : {R : Type 0} → (R → Option (List ℕ)) → List (GivenLog R) → ℕ → OpeningFault → Type 0
+FailsLater known givens n fault = (given : GivenLog _) × (slice_get givens n ≡ Some given) × FailsToOpen known given fault
 
 -- of a log that was read and opened
 abbrev pub OfOpened : Selection → Option (List ℕ) → Option (List ℕ) → (List ℕ → Type 0) → Type 0
 OfOpened part old new P = (bytes : List ℕ) × IsOpened part old new bytes × P bytes
 
+-- of that log, and of later ones that were read
+abbrev pub OfLooked : {R : Type 0} → Bool → (R → Option (List ℕ)) → List (GivenLog R) → List ℕ → Selection → Option (List ℕ) → Option (List ℕ) → (List ℕ → List Later → Type 0) → Type 0
+OfLooked looks known givens name part old new P =
+    OfOpened part old new (λ bytes. (logs : List NamedLog) × AreLater looks known givens logs × P bytes (after looks name part bytes logs))
+
 -- What comes of reading a log and writing a part of it: all of it is written, and this is the report; or a beginning, where a write
 -- failed; or nothing.
-abbrev pub WritesPart : {A : Type 0} → Bool → Writing → List ℕ → Selection → Option (List ℕ) → Option (List ℕ) → Option (List ℕ) → Option (List ℕ) → Result (Vec ℕ A) (PartFault A) → Type 0
-WritesPart looks w name part old new had has (Ok told) =
-    OfOpened part old new (λ bytes. CanBe looks w part bytes × Appends had has (part_text looks w part bytes) × (told.items ≡ part_report looks w name part bytes))
-WritesPart looks w name part old new had has (Err (Run run.Write)) =
-    OfOpened part old new (λ bytes. CanBe looks w part bytes × AppendsBeginning had has (part_text looks w part bytes))
-WritesPart looks w name part old new had has (Err (Run run.Read)) = Keeps had has
-WritesPart looks w name part old new had has (Err (Run (run.Log f))) = ((f ≡ OutOfMemory) ⊎ ((f ≡ TooLongLog 0) × PassesLimit greatest_length old new)) × Keeps had has
-WritesPart looks w name part old new had has (Err (Sums f)) = (((bytes : List ℕ) × ReadsLog old new bytes × (source_refusal bytes ≡ Some f))
+abbrev pub WritesPart : {A R : Type 0} → Bool → (R → Option (List ℕ)) → List (GivenLog R) → Writing → List ℕ → Selection → Option (List ℕ) → Option (List ℕ) → Option (List ℕ) → Option (List ℕ) → Result (Vec ℕ A) (PartFault A) → Type 0
+WritesPart looks known givens w name part old new had has (Ok told) = OfLooked looks known givens name part old new
+    (λ bytes ls. CanBe looks w part bytes ls × Appends had has (part_text looks w part bytes) × (told.items ≡ part_report looks w name part bytes ls))
+WritesPart looks known givens w name part old new had has (Err (Run run.Write)) = OfLooked looks known givens name part old new
+    (λ bytes ls. CanBe looks w part bytes ls × AppendsBeginning had has (part_text looks w part bytes))
+WritesPart looks known givens w name part old new had has (Err (Run run.Read)) = Keeps had has
+WritesPart looks known givens w name part old new had has (Err (Run (run.Log f))) = ((f ≡ OutOfMemory) ⊎ ((f ≡ TooLongLog 0) × PassesLimit greatest_length old new)) × Keeps had has
+WritesPart looks known givens w name part old new had has (Err (Sums f)) = (((bytes : List ℕ) × ReadsLog old new bytes × (source_refusal bytes ≡ Some f))
     ⊎ OfOpened part old new (λ bytes. EndsEarly part (handed_of looks part bytes) (found_in looks part bytes).end (damage_in looks part bytes) f)) × Keeps had has
-WritesPart looks w name part old new had has (Err (NoEventAt pos)) =
+WritesPart looks known givens w name part old new had has (Err (NoEventAt pos)) =
     OfOpened part old new (λ bytes. LacksStart part (handed_of looks part bytes) (found_in looks part bytes).end (damage_in looks part bytes) pos) × Keeps had has
-WritesPart looks w name part old new had has (Err (Log f)) =
+WritesPart looks known givens w name part old new had has (Err (Log f)) =
     OfOpened part old new (λ bytes. HasFault part (handed_of looks part bytes) (found_in looks part bytes).end (damage_in looks part bytes) f) × Keeps had has
-WritesPart looks w name part old new had has (Err NothingSelected) =
+WritesPart looks known givens w name part old new had has (Err NothingSelected) =
     OfOpened part old new (λ bytes. HasNoRows part (handed_of looks part bytes) (found_in looks part bytes).end (damage_in looks part bytes)) × Keeps had has
-WritesPart looks w name part old new had has (Err (ChangedSince rows lines)) =
-    OfOpened part old new (λ bytes. IsSoundIn looks part bytes × IsChangedSince looks part (handed_of looks part bytes) rows) × Keeps had has
-WritesPart looks w name part old new had has (Err (UnknownSince lines)) =
-    OfOpened part old new (λ bytes. IsSoundIn looks part bytes × IsUnknownSince looks part (handed_of looks part bytes) (found_in looks part bytes).fault) × Keeps had has
-WritesPart looks w name part old new had has (Err TooLong) = OfOpened part old new (λ bytes. IsSoundIn looks part bytes
-    × (looks ≡ true → IsSafe part (handed_of looks part bytes) (found_in looks part bytes).fault)
+WritesPart looks known givens w name part old new had has (Err (LaterLog n f)) =
+    OfOpened part old new (λ bytes. IsSoundIn looks part bytes × (looks ≡ true) × FailsLater known givens n f) × Keeps had has
+WritesPart looks known givens w name part old new had has (Err (ChangedSince rows lines)) = OfLooked looks known givens name part old new
+    (λ bytes ls. IsSoundIn looks part bytes × IsChangedSince looks part (handed_of looks part bytes) ls rows) × Keeps had has
+WritesPart looks known givens w name part old new had has (Err (UnknownSince lines)) = OfLooked looks known givens name part old new
+    (λ bytes ls. IsSoundIn looks part bytes × IsUnknownSince looks part (handed_of looks part bytes) ls) × Keeps had has
+WritesPart looks known givens w name part old new had has (Err TooLong) = OfLooked looks known givens name part old new
+    (λ bytes ls. IsSoundIn looks part bytes × IsSafeIn looks part bytes ls
     × (4294967295 < end_of_text w.sql w.order w.limit (handed_of looks part bytes) (selection_in part (handed_of looks part bytes)))) × Keeps had has
-WritesPart looks w name part old new had has (Err (NoSchema text)) = OfOpened part old new (λ bytes. IsSoundIn looks part bytes
-    × (looks ≡ true → IsSafe part (handed_of looks part bytes) (found_in looks part bytes).fault)
+WritesPart looks known givens w name part old new had has (Err (NoSchema text)) = OfLooked looks known givens name part old new
+    (λ bytes ls. IsSoundIn looks part bytes × IsSafeIn looks part bytes ls
     × ((n : ℕ) × (lacks w.sql (groups (handed_of looks part bytes) (selection_in part (handed_of looks part bytes))) ≡ Some n))) × Keeps had has
 
 -- the answer is that a write failed, or that a read did

@@ -1,5 +1,5 @@
 -- What is reported of changes that are made once more, or undone.
-use Rattle.std.specs.Prelude.{ℕ, ◌==◌, ◌||◌, nat_lt, Bool, if◌then◌else◌, List, [], ◌∷◌, ◌++◌, length, Option, Some, None, codes}
+use Rattle.std.specs.Prelude.{ℕ, ◌==◌, ◌||◌, nat_lt, Bool, if◌then◌else◌, List, [], ◌∷◌, ◌++◌, Option, Some, None, codes}
 use Rattle.std.specs.Fmt.{decimal}
 use Rattle.std.specs.List.{flat_map, list_any}
 use Rattle.blog_row.specs.declared.order.Order.{Order}
@@ -7,6 +7,7 @@ use Rattle.blog_row.specs.declared.order.Order.TheVariants.{Forward, Backward}
 use Rattle.blog_text.specs.Escapes.{escaped}
 use Rattle.blog_text.specs.Tables.{count_text, next_count}
 use Rattle.blog_trans.specs.Changes.{TableCount}
+use Rattle.undo_run.specs.After.{Place}
 
 -- the rows of a table: as they are changed, and undone the other way round
 abbrev pub turned : Order → TableCount → TableCount
@@ -29,12 +30,13 @@ abbrev pub rows_told : Order → List TableCount → List ℕ
 rows_told order [] = []
 rows_told order (c ∷ cs) = count_text (turned order c) ++ flat_map (next_told order) cs
 
--- what was seen of later units: how many can be undone by themselves; where the reading ended; and where those begin that can't be, and
--- don't concern the tables
+-- what was seen of later units: how many can be undone by themselves; where the reading ended; how many others there are, which don't
+-- concern the tables, and where the first of them begins
 pub record Since : Type 0 where
   pub units : ℕ
-  pub end : ℕ
-  pub apart : List ℕ
+  pub end : Option Place
+  pub apart : ℕ
+  pub first : Option Place
 
 -- how many can be, up to where, and how many others
 abbrev pub units_words : ℕ → List ℕ
@@ -43,8 +45,12 @@ units_words n = if n == 1 then codes " later transaction" else codes " later tra
 abbrev pub units_text : ℕ → List ℕ
 units_text n = codes "looked at " ++ (decimal n ++ units_words n)
 
-abbrev pub end_text : List ℕ → ℕ → List ℕ
-end_text name end = codes ", up to " ++ (decimal end ++ (codes " of " ++ (escaped name ++ codes ": none changes these rows\n")))
+abbrev pub place_text : Place → List ℕ
+place_text p = decimal p.at ++ (codes " of " ++ escaped p.name)
+
+abbrev pub end_text : Option Place → List ℕ
+end_text (Some p) = codes ", up to " ++ (place_text p ++ codes ": none changes these rows\n")
+end_text None = codes ": none changes these rows\n"
 
 abbrev pub statements_words : ℕ → List ℕ
 statements_words n = if n == 1 then codes " statement, at " else codes " statements, the first at "
@@ -52,12 +58,12 @@ statements_words n = if n == 1 then codes " statement, at " else codes " stateme
 abbrev pub statements_text : ℕ → List ℕ
 statements_text n = codes "passed over " ++ (decimal n ++ statements_words n)
 
-abbrev pub apart_text : List ℕ → List ℕ
-apart_text [] = []
-apart_text (at ∷ later) = statements_text (length (at ∷ later)) ++ (decimal at ++ codes "\n")
+abbrev pub apart_text : ℕ → Option Place → List ℕ
+apart_text n (Some p) = statements_text n ++ (place_text p ++ codes "\n")
+apart_text n None = []
 
-abbrev pub looked_text : List ℕ → Since → List ℕ
-looked_text name since = units_text since.units ++ (end_text name since.end ++ apart_text since.apart)
+abbrev pub looked_text : Since → List ℕ
+looked_text since = units_text since.units ++ (end_text since.end ++ apart_text since.apart since.first)
 
 -- what is told of later changes that weren't looked at
 abbrev pub unlooked_text : Order → List ℕ
@@ -65,9 +71,9 @@ unlooked_text Forward = []
 unlooked_text Backward = codes "changes made to these rows since are not looked for, and are overwritten\n"
 
 -- what is told of later changes
-abbrev pub since_text : Order → List ℕ → Option Since → List ℕ
-since_text order name (Some since) = looked_text name since
-since_text order name None = unlooked_text order
+abbrev pub since_text : Order → Option Since → List ℕ
+since_text order (Some since) = looked_text since
+since_text order None = unlooked_text order
 
 -- rows are updated or deleted
 abbrev pub has_followers : TableCount → Bool
@@ -84,4 +90,4 @@ changes_told order name n counts =
 
 -- the report
 abbrev pub report : Order → List ℕ → ℕ → List TableCount → Option Since → List ℕ
-report order name n counts since = changes_told order name n counts ++ (since_text order name since ++ cascades_text order counts)
+report order name n counts since = changes_told order name n counts ++ (since_text order since ++ cascades_text order counts)

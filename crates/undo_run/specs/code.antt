@@ -1,4 +1,3 @@
 -- What only contracts of code need: its structs as values, and what comes of each step of a run.
-pub mod LookedAt
 pub mod SinceView
 pub mod Steps

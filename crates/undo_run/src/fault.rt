@@ -3,12 +3,31 @@
 ghost use Rattle.std.specs.Prelude.{◌≡◌};
 ghost use Rattle.blog_device.specs.declared.fault.RunFault.TheVariants.{Log as OfLog};
 ghost use Rattle.blog_event.specs.declared.fault.Fault.TheVariants.{OutOfMemory};
+ghost use Rattle.undo_run.specs.code.Steps.{opening_cause};
+ghost use Rattle.undo_run.specs.declared.fault.OpeningFault.TheVariants as opening;
 ghost use Rattle.undo_run.specs.declared.fault.PartFault.TheVariants.{Run};
 
 use blog_device::RunFault;
 use blog_event::Fault;
 use blog_sum::SumFault;
 use std::alloc::{AllocError, Allocator};
+
+/// Why a log isn't opened.
+#[derive(Clone, Copy, Debug, PartialEq, Eq)]
+pub enum OpeningFault {
+    /// A read failed, or the log can't be held.
+    Run(RunFault),
+    /// It is no log, or one that can't be read.
+    Sums(SumFault),
+}
+
+impl From<RunFault> for OpeningFault {
+    ghost from_gives = { λ run fault. fault ≡ opening.Run run };
+
+    fn from(fault: RunFault) -> OpeningFault {
+        OpeningFault::Run(fault)
+    }
+}
 
 /// Why a part of a log isn't written. But for `Run(Write)` nothing was written.
 #[derive(Drop)]
@@ -23,6 +42,8 @@ pub enum PartFault<A: Allocator> {
     Log(Fault),
     /// The part changes no rows.
     NothingSelected,
+    /// The later log of this number, from 0 on, isn't opened.
+    LaterLog(usize, OpeningFault),
     /// So many rows of the part were changed since. These lines say where, and what else isn't known.
     ChangedSince(u64, Vec<u8, A>),
     /// What came later may concern the part's tables, and can't be looked into. These lines say where.
@@ -38,6 +59,17 @@ impl<A: Allocator> From<RunFault> for PartFault<A> {
 
     fn from(fault: RunFault) -> PartFault<A> {
         PartFault::Run(fault)
+    }
+}
+
+impl<A: Allocator> From<OpeningFault> for PartFault<A> {
+    ghost from_gives = { λ cause fault. fault ≡ opening_cause cause };
+
+    fn from(fault: OpeningFault) -> PartFault<A> {
+        match fault {
+            OpeningFault::Run(fault) => PartFault::Run(fault),
+            OpeningFault::Sums(fault) => PartFault::Sums(fault),
+        }
     }
 }
 

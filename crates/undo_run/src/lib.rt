@@ -3,10 +3,14 @@
 
 mod fault;
 mod later;
+mod lines;
+mod opening;
 mod part;
 mod reports;
+mod seen;
 mod since;
+mod tables;
 mod written_part;
 
-pub use fault::PartFault;
+pub use fault::{OpeningFault, PartFault};
 pub use written_part::write_part;

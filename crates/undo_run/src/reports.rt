@@ -19,13 +19,13 @@ pub(crate) fn report_of<A: Allocator, B: Allocator>(
     name: &[u8],
     order: Order,
     index: &Index<'_, '_, B>,
-    since: &Option<Since<B>>,
+    since: &Option<Since<'_>>,
 ) -> Result<Vec<u8, A>, AllocError>
     ensures { IfOk result (λ told. told.items ≡ report order name.now (length (index_groups index.now)) (counts_in index.now) (option_map since_seen since.now)) }
 {
     let mut out = Vec::new(alloc);
     put_changes(&mut out, name, order, index)?;
-    put_later(&mut out, name, order, since)?;
+    put_later(&mut out, order, since)?;
     put_text(&mut out, cascades_text(order, index))?;
     Ok(out)
 }
@@ -70,16 +70,15 @@ fn unlooked_text(order: Order) -> &'static [u8]
 }
 
 /// Appends what is told of later changes.
-fn put_later<A: Allocator, B: Allocator>(
+fn put_later<A: Allocator>(
     out: &mut Vec<u8, A>,
-    name: &[u8],
     order: Order,
-    since: &Option<Since<B>>,
+    since: &Option<Since<'_>>,
 ) -> Result<(), AllocError>
-    ensures { OnOk result (out.new.items ≡ out.old.items ++ since_text order name.now (option_map since_seen since.now)) }
+    ensures { OnOk result (out.new.items ≡ out.old.items ++ since_text order (option_map since_seen since.now)) }
 {
     match since {
-        Some(since) => put_since(out, name, since),
+        Some(since) => put_since(out, since),
         None => put_text(out, unlooked_text(order)),
     }
 }

@@ -1,21 +1,47 @@
-//! What is told of later changes that touch none of a part's.
+//! What was seen of what came later, and what is told where it touches nothing of a part.
 
-ghost use Rattle.std.specs.Prelude.{◌≡◌, ◌++◌, OnOk};
-ghost use Rattle.undo_run.specs.Reports.{apart_text, end_text, looked_text, statements_text, statements_words, units_text, units_words};
-ghost use Rattle.undo_run.specs.code.SinceView.{since_seen};
+ghost use Rattle.std.specs.Prelude.{◌≡◌, ◌++◌, OnOk, option_map};
+ghost use Rattle.undo_run.specs.Reports.{apart_text, end_text, looked_text, place_text, statements_text, statements_words, units_text, units_words};
+ghost use Rattle.undo_run.specs.code.SinceView.{place_seen, since_seen};
 
 use blog_text::{put_escaped, put_number, put_text};
 use std::alloc::{AllocError, Allocator};
 
-/// What was seen of later units.
-#[derive(Drop)]
-pub(crate) struct Since<A: Allocator> {
-    /// How many can be undone by themselves, so that their changes are known.
+/// A place in the server's log of a name.
+#[derive(Clone, Copy)]
+pub(crate) struct Place<'n> {
+    /// The log's name.
+    pub(crate) name: &'n [u8],
+    /// In bytes from its start.
+    pub(crate) at: u32,
+}
+
+/// What was seen of what logs have after the changes of a part.
+#[derive(Clone, Copy)]
+pub(crate) struct Since<'n> {
+    /// How many units can be undone by themselves, so that their changes are known.
     pub(crate) units: u64,
-    /// Where the reading ended, in bytes from the start of the server's log.
-    pub(crate) end: u32,
-    /// Where those begin that can't be undone by themselves, and don't concern the part's tables.
-    pub(crate) apart: Vec<u32, A>,
+    /// How many rows they take that the part's changes left.
+    pub(crate) touched: u64,
+    /// How many of the others may concern the part's tables.
+    pub(crate) unknown: u64,
+    /// How many of them don't.
+    pub(crate) apart: u64,
+    /// Where the first of these begins.
+    pub(crate) first: Option<Place<'n>>,
+    /// Where the reading of the last log ended.
+    pub(crate) end: Option<Place<'n>>,
+    /// Whether a log is damaged there.
+    pub(crate) is_damaged: bool,
+}
+
+/// Appends a place.
+fn put_place<A: Allocator>(out: &mut Vec<u8, A>, place: &Place<'_>) -> Result<(), AllocError>
+    ensures { OnOk result (out.new.items ≡ out.old.items ++ place_text (place_seen place.now)) }
+{
+    put_number(out, u64::from(place.at))?;
+    put_text(out, b" of ")?;
+    put_escaped(out, place.name)
 }
 
 /// What follows a number of later transactions.
@@ -39,18 +65,18 @@ fn put_units<A: Allocator>(out: &mut Vec<u8, A>, units: u64) -> Result<(), Alloc
 }
 
 /// Appends up to where they were looked at.
-fn put_end<A: Allocator>(out: &mut Vec<u8, A>, name: &[u8], end: u32) -> Result<(), AllocError>
-    ensures { OnOk result (out.new.items ≡ out.old.items ++ end_text name.now end) }
+fn put_end<A: Allocator>(out: &mut Vec<u8, A>, end: &Option<Place<'_>>) -> Result<(), AllocError>
+    ensures { OnOk result (out.new.items ≡ out.old.items ++ end_text (option_map place_seen end.now)) }
 {
-    put_text(out, b", up to ")?;
-    put_number(out, u64::from(end))?;
-    put_text(out, b" of ")?;
-    put_escaped(out, name)?;
+    if let Some(place) = end {
+        put_text(out, b", up to ")?;
+        put_place(out, place)?;
+    }
     put_text(out, b": none changes these rows\n")
 }
 
 /// What follows a number of statements.
-fn statements_words(n: usize) -> &'static [u8]
+fn statements_words(n: u64) -> &'static [u8]
     ensures { result.now ≡ statements_words n }
 {
     if n == 1 {
@@ -61,35 +87,40 @@ fn statements_words(n: usize) -> &'static [u8]
 }
 
 /// Appends a number of statements.
-fn put_statements<A: Allocator>(out: &mut Vec<u8, A>, n: usize) -> Result<(), AllocError>
+fn put_statements<A: Allocator>(out: &mut Vec<u8, A>, n: u64) -> Result<(), AllocError>
     ensures { OnOk result (out.new.items ≡ out.old.items ++ statements_text n) }
 {
     put_text(out, b"passed over ")?;
-    put_number(out, n as u64)?;
+    put_number(out, n)?;
     put_text(out, statements_words(n))
 }
 
 /// Appends how many statements were passed over.
-fn put_apart<A: Allocator>(out: &mut Vec<u8, A>, apart: &[u32]) -> Result<(), AllocError>
-    ensures { OnOk result (out.new.items ≡ out.old.items ++ apart_text apart.now) }
+fn put_apart<A: Allocator>(
+    out: &mut Vec<u8, A>,
+    n: u64,
+    first: &Option<Place<'_>>,
+) -> Result<(), AllocError>
+    ensures { OnOk result (out.new.items ≡ out.old.items ++ apart_text n (option_map place_seen first.now)) }
 {
-    if apart.is_empty() {
-        return Ok(());
+    match first {
+        Some(place) => {
+            put_statements(out, n)?;
+            put_place(out, place)?;
+            put_text(out, b"\n")
+        }
+        None => Ok(()),
     }
-    put_statements(out, apart.len())?;
-    put_number(out, u64::from(apart[0]))?;
-    put_text(out, b"\n")
 }
 
-/// Appends what is told of later units of the log of a name.
-pub(crate) fn put_since<A: Allocator, B: Allocator>(
+/// Appends what is told of what came later.
+pub(crate) fn put_since<A: Allocator>(
     out: &mut Vec<u8, A>,
-    name: &[u8],
-    since: &Since<B>,
+    since: &Since<'_>,
 ) -> Result<(), AllocError>
-    ensures { OnOk result (out.new.items ≡ out.old.items ++ looked_text name.now (since_seen since.now)) }
+    ensures { OnOk result (out.new.items ≡ out.old.items ++ looked_text (since_seen since.now)) }
 {
     put_units(out, since.units)?;
-    put_end(out, name, since.end)?;
-    put_apart(out, &since.apart)
+    put_end(out, &since.end)?;
+    put_apart(out, since.apart, &since.first)
 }

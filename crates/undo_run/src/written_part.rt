@@ -7,19 +7,21 @@ ghost use Rattle.blog_source.specs.code.SourceView.{end_of, fault_of, log_of};
 ghost use Rattle.blog_trans.specs.Selection.{selection_of};
 ghost use Rattle.blog_trans.specs.code.IndexView.{index_bytes, index_selection};
 ghost use Rattle.undo_run.specs.Parts.{WritesPart, is_failed_read, is_failed_write, selection_in};
-ghost use Rattle.undo_run.specs.code.Steps.{Looks, OpensPart, WritesOpened};
+ghost use Rattle.undo_run.specs.code.Steps.{Looks, WritesOpened};
 
 use crate::fault::PartFault;
 use crate::later::look_later;
+use crate::opening::open_log;
 use crate::part::select_part;
 use crate::reports::report_of;
 use crate::since::Since;
 use advice::no_schema;
-use blog_device::{RunFault, Watched, read_log};
+use blog_device::{RunFault, Watched};
 use blog_event::Fault;
 use blog_run::{Writing, WritingFault, write_groups};
-use blog_source::{Reading, Source};
+use blog_source::Source;
 use blog_trans::{Index, Selection};
+use list_run::GivenLog;
 use std::alloc::{AllocError, Allocator};
 use std::io::{Read, Write};
 
@@ -30,74 +32,60 @@ use std::io::{Read, Write};
 /// The part is a selection by places: positions in the server's log, with its checksums. Its start is where an event begins, or the end
 /// of the log; one up to 4 is the first event.
 ///
-/// `looks` says whether what came after the part's stop is looked at, to the end of the log. It fails with `ChangedSince` if later
-/// changes take rows that the part's changes left, and else with `UnknownSince` if the log is damaged there or has something that may
-/// concern the part's tables, and can't be looked into. Without `looks` what is at the stop or after it isn't read.
+/// `looks` says whether what came after the part's stop is looked at: the rest of the log, and then the later logs, each of which is read
+/// when its turn comes, to its end. It fails with `ChangedSince` if later changes take rows that the part's changes left, and else with
+/// `UnknownSince` if one of the logs is damaged there or has something that may concern the part's tables, and can't be looked into.
+/// Without `looks` what is at the stop or after it isn't read, and no later log is.
 ///
 /// Fails at the first of these that holds: with `Run` if the reader fails or the log is too long, or if memory is refused; with `Sums` if
 /// the log can't be opened; with `NoEventAt` if no event begins at the start, or with `Sums` if the log ends too early or is damaged in
 /// front of it; with `Log` or `Sums` of the first fault in the order of the log; with `NothingSelected` if no rows are changed; with
-/// `ChangedSince` or `UnknownSince`; with `NoSchema` if the changes have no table of a schema that is to have another name; with `TooLong`. The writer wasn't called then.
+/// `LaterLog` of the first later log that isn't opened, by its number; with `ChangedSince` or `UnknownSince`; with `NoSchema` if the changes have no table of a schema that is to have another name; with `TooLong`. The writer wasn't called then.
 /// Fails with `Run(Write)` if a write failed; the writer then has a beginning of what is written.
 ///
 /// Names and ids of tables are hashed by the seed (`Log::with_seed`). What is written doesn't depend on it.
-pub fn write_part<A: Allocator + Copy, R: Read, W: Write>(
+pub fn write_part<'n, A: Allocator + Copy, R: Read, L: Read + Drop, W: Write>(
     alloc: A,
     reader: &mut Watched<R>,
-    name: &[u8],
+    name: &'n [u8],
     part: &Selection<'_>,
     looks: bool,
+    later: Vec<GivenLog<'n, L>, A>,
     seed: u64,
     writing: &Writing<'_>,
     writer: &mut Watched<W>,
 ) -> Result<Vec<u8, A>, PartFault<A>>
     requires { HasShortWriting writing.now }
-    ensures writes { WritesPart looks writing.now name.now (selection_of part.now) (R.remaining (device_of reader.old)) (R.remaining (device_of reader.new))
+    ensures writes { WritesPart looks L.remaining later.entry.items writing.now name.now (selection_of part.now) (R.remaining (device_of reader.old)) (R.remaining (device_of reader.new))
         (W.contents (device_of writer.old)) (W.contents (device_of writer.new)) result }
     ensures untouched { OnErr result (has_failed writer.new ≡ false → writer.new ≡ writer.old) }
     ensures reader_mark { has_failed reader.new ≡ (has_failed reader.old || is_failed_read result) }
     ensures writer_mark { has_failed writer.new ≡ (has_failed writer.old || is_failed_write result) }
 {
-    let source = open_part(alloc, reader, part, looks)?;
-    write_opened(alloc, &source, name, part, looks, seed, writing, writer)
-}
-
-/// Reads a server's log up to the stop of a part, or to its end where what came later is looked at.
-fn open_part<A: Allocator, R: Read>(
-    alloc: A,
-    reader: &mut Watched<R>,
-    part: &Selection<'_>,
-    looks: bool,
-) -> Result<Source<A>, PartFault<A>>
-    ensures opens { OpensPart looks (selection_of part.now) (R.remaining (device_of reader.old)) (R.remaining (device_of reader.new)) result }
-    ensures mark { has_failed reader.new ≡ (has_failed reader.old || is_failed_read result) }
-{
-    let log = read_log(alloc, reader)?;
-    let how = Reading {
-        stop: if looks { None } else { part.stop },
-        skip_damaged: false,
-    };
-    match Source::open(log, how) {
-        Ok(source) => Ok(source),
-        Err(fault) => Err(PartFault::Sums(fault)),
-    }
+    let stop = if looks { None } else { part.stop };
+    let source = open_log(alloc, reader, stop)?;
+    write_opened(
+        alloc, &source, name, part, looks, later, seed, writing, writer,
+    )
 }
 
 /// Looks at what came after a part of the log of a source, if that is asked for.
-fn look_if<'l, A: Allocator + Copy>(
+fn look_if<'n, 'l, A: Allocator + Copy, L: Read + Drop>(
     alloc: A,
     source: &'l Source<A>,
-    name: &[u8],
+    name: &'n [u8],
     part: &Selection<'_>,
     index: &Index<'l, 'l, A>,
     looks: bool,
-) -> Result<Option<Since<A>>, PartFault<A>>
+    later: Vec<GivenLog<'n, L>, A>,
+    seed: u64,
+) -> Result<Option<Since<'n>>, PartFault<A>>
     requires bytes { index_bytes index.now ≡ log_of source.now }
     requires selection { index_selection index.now ≡ selection_in (selection_of part.now) (log_of source.now) }
-    ensures { Looks looks (selection_of part.now) (log_of source.now) (end_of source.now) (fault_of source.now) result }
+    ensures { Looks looks L.remaining later.entry.items name.now (selection_of part.now) (log_of source.now) (end_of source.now) (fault_of source.now) result }
 {
     if looks {
-        match look_later(alloc, source, name, part, index) {
+        match look_later(alloc, source, name, part, index, later, seed) {
             Ok(since) => Ok(Some(since)),
             Err(fault) => Err(fault),
         }
@@ -107,24 +95,28 @@ fn look_if<'l, A: Allocator + Copy>(
 }
 
 /// Writes a part of the log of a source.
-fn write_opened<A: Allocator + Copy, W: Write>(
+fn write_opened<'n, A: Allocator + Copy, L: Read + Drop, W: Write>(
     alloc: A,
     source: &Source<A>,
-    name: &[u8],
+    name: &'n [u8],
     part: &Selection<'_>,
     looks: bool,
+    later: Vec<GivenLog<'n, L>, A>,
     seed: u64,
     writing: &Writing<'_>,
     writer: &mut Watched<W>,
 ) -> Result<Vec<u8, A>, PartFault<A>>
     requires { HasShortWriting writing.now }
-    ensures writes { WritesOpened looks writing.now name.now (selection_of part.now) (log_of source.now) (end_of source.now) (fault_of source.now)
+    ensures writes { WritesOpened looks L.remaining later.entry.items writing.now name.now (selection_of part.now) (log_of source.now) (end_of source.now) (fault_of source.now)
         (W.contents (device_of writer.old)) (W.contents (device_of writer.new)) result }
     ensures untouched { OnErr result (has_failed writer.new ≡ false → writer.new ≡ writer.old) }
     ensures mark { has_failed writer.new ≡ (has_failed writer.old || is_failed_write result) }
 {
     let index = select_part(alloc, source, part, looks, seed)?;
-    let since = look_if(alloc, source, name, part, &index, looks)?;
+    let since = match look_if(alloc, source, name, part, &index, looks, later, seed) {
+        Ok(since) => since,
+        Err(fault) => return Err(fault),
+    };
     let told = report_of(alloc, name, writing.order, &index, &since)?;
     match write_groups(alloc, writer, &index, writing) {
         Ok(()) => Ok(told),

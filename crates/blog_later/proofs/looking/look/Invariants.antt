@@ -2,10 +2,9 @@ use Rattle.std.proofs.Common.{◌≡◌}
 use Rattle.std.specs.Prelude.{nat_le}
 use Rattle.blog_choice.specs.code.ChosenView.{names_choice}
 use Rattle.blog_event.specs.code.LogView.{log_bytes}
-use Rattle.blog_trans.specs.Changes.{changes}
-use Rattle.blog_trans.specs.code.IndexView.{index_bytes, index_selection}
 use Rattle.blog_units.specs.code.UnitsView.{units_left, units_log}
 use Rattle.blog_later.specs.Later.{later_units}
+use Rattle.blog_later.specs.code.LookedView.{left_kept}
 use Rattle.blog_later.proofs.Seen.{IsLooking}
 use Rattle.blog_later.proofs.looking.look.Given as goal
 
@@ -15,5 +14,5 @@ invariant-loop-unit g l = record {
   next : (goal.iterator-loop-unit g).can_next l.unit-iterator;
   finite : (goal.iterator-loop-unit g).is_finite l.unit-iterator;
   log : units_log l.unit-iterator ≡ l.log;
-  looking : IsLooking (changes (index_bytes l.selected) (index_selection l.selected)) (names_choice l.names) (log_bytes l.log) (later_units (log_bytes l.log) l.at) (λ u. nat_le l.at u.start) l.looked (units_left l.unit-iterator);
+  looking : IsLooking (left_kept l.left) (names_choice l.names) (log_bytes l.log) (later_units (log_bytes l.log) l.at) (λ u. nat_le l.at u.start) l.looked (units_left l.unit-iterator);
 }

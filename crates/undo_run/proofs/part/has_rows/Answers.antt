@@ -1,4 +1,4 @@
-use Rattle.std.proofs.Common.{Bool, List, sym, ◌∙◌}
+use Rattle.std.proofs.Common.{Bool, sym, ◌∙◌}
 use Rattle.std.specs.Prelude.{nat_lt}
 use Rattle.blog_text.specs.Tables.{rows_in}
 use Rattle.blog_text.specs.code.Counted.{counts_in}

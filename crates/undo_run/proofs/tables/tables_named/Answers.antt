@@ -3,8 +3,8 @@ use Rattle.blog_choice.specs.code.Views.{name_value}
 use Rattle.blog_text.specs.code.Counted.{counts_in}
 use Rattle.blog_trans.specs.code.IndexView.{table_counted}
 use Rattle.blog_trans.proofs.Turns.{drop-at}
-use Rattle.undo_run.proofs.LookedAt.{names-more}
-use Rattle.undo_run.proofs.later.tables_named.Goals as goal
+use Rattle.undo_run.proofs.Names.{names-more}
+use Rattle.undo_run.proofs.tables.tables_named.Goals as goal
 
 pub loop-n-preserved : goal.loop-n-preserved
 loop-n-preserved g c =

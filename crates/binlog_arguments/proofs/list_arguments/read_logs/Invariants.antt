@@ -1,6 +1,0 @@
-use Rattle.std.proofs.Common.{◌≡◌, Bor, List, map, take, ℕ}
-use Rattle.binlog_arguments.proofs.list_arguments.read_logs.Given as goal
-
--- the logs are those of the paths so far
-abbrev pub invariant-loop-path : goal.invariant-loop-path
-invariant-loop-path g l = map (λ (path : Bor (List ℕ)). path.now) l.logs.items ≡ map (λ (path : Bor (List ℕ)). path.now) (take l.path-index l.paths)

@@ -1,0 +1,8 @@
+use Rattle.std.proofs.Common.{◌∙◌}
+use Rattle.blog_later.proofs.Counting.{found-sorted}
+use Rattle.blog_later.proofs.left.LeftRows.has_table.Goals as goal
+
+pub returns : goal.returns
+returns g c =
+    c.is_ok.ensures.value
+    ∙ found-sorted c.args.self.now.tables.items c.args.print c.binary_search.result (rw c.deref.ensures.value at c.binary_search.ensures.position) c.args.self.now.tables_sorted

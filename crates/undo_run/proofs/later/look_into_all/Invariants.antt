@@ -1,0 +1,17 @@
+use Rattle.std.proofs.Common.{◌≡◌, ◌++◌, List, length}
+use Rattle.std.specs.Vec.Iter.{into_iter_items, into_iter_len}
+use Rattle.blog_choice.specs.code.ChosenView.{names_choice}
+use Rattle.blog_later.specs.code.LookedView.{left_kept}
+use Rattle.undo_run.specs.After.{Later}
+use Rattle.undo_run.specs.code.SinceView.{AreSeen}
+use Rattle.undo_run.proofs.InTurn.{AreGoing}
+use Rattle.undo_run.proofs.later.look_into_all.Given as goal
+
+-- the logs so far are looked at, and these are they
+abbrev pub invariant-logs : goal.invariant-logs
+invariant-logs g l = record {
+  number : l.n ≡ length l.yielded;
+  rest : l.yielded ++ into_iter_items l.given-iterator ≡ l.fn.later.items;
+  left : length (into_iter_items l.given-iterator) ≡ into_iter_len l.given-iterator;
+  going : (ls : List Later) → AreSeen (left_kept l.left) (names_choice l.names) ls l.fn.since → AreGoing g.L.Read.remaining l.yielded (left_kept l.left) (names_choice l.names) ls l.since;
+}

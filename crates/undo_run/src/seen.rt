@@ -1,0 +1,102 @@
+//! Looking at what one more log has after a part.
+
+ghost use Rattle.std.specs.Prelude.{◌≡◌, ◌++◌, ◌∷◌, IfOk, List, [], map, option_map, slice_get};
+ghost use Rattle.blog_choice.specs.Choice.{Choice};
+ghost use Rattle.blog_choice.specs.code.ChosenView.{names_choice};
+ghost use Rattle.blog_event.specs.code.LogView.{log_bytes};
+ghost use Rattle.blog_later.specs.code.LookedView.{left_kept};
+ghost use Rattle.blog_source.specs.code.SourceView.{end_of, fault_of, log_of};
+ghost use Rattle.undo_run.specs.After.{Later, Place as APlace, place_at};
+ghost use Rattle.undo_run.specs.code.SinceView.{AreSeen, IsLooked, later_of, place_seen};
+
+use crate::lines::Lines;
+use crate::since::{Place, Since};
+use blog_choice::ChosenNames;
+use blog_event::Log;
+use blog_later::{LeftRows, Looked, look};
+use blog_source::Source;
+use std::alloc::{AllocError, Allocator};
+
+/// The first place, where the first so far is given, and the first of more is the place of the first of some positions.
+fn first_place<'n, B: Allocator>(
+    first: Option<Place<'n>>,
+    name: &'n [u8],
+    source: &Source<B>,
+    positions: &[u32],
+) -> Option<Place<'n>>
+    ensures { (ps : List APlace) → option_map place_seen first.entry ≡ slice_get ps 0
+        → option_map place_seen result ≡ slice_get (ps ++ map (place_at name.now (log_of source.now) (end_of source.now)) positions.now) 0 }
+{
+    match first {
+        Some(place) => Some(place),
+        None => match positions.first() {
+            Some(at) => Some(Place {
+                name,
+                at: source.place(*at),
+            }),
+            None => None,
+        },
+    }
+}
+
+impl<'n> Since<'n> {
+    /// What was seen of no log.
+    pub(crate) fn none() -> Since<'n>
+        ensures { (kept : _) → (choice : Choice) → AreSeen kept choice [] result }
+    {
+        Since {
+            units: 0,
+            touched: 0,
+            unknown: 0,
+            apart: 0,
+            first: None,
+            end: None,
+            is_damaged: false,
+        }
+    }
+
+    /// What was seen with one more log.
+    fn with<B: Allocator, C: Allocator>(
+        &self,
+        name: &'n [u8],
+        source: &Source<B>,
+        looked: &Looked<'_, C>,
+    ) -> Since<'n>
+        ensures { (kept : _) → (choice : Choice) → (at : _) → (ls : List Later) → IsLooked kept choice (later_of name.now source.now at) looked.now → AreSeen kept choice ls self.now
+            → AreSeen kept choice (ls ++ later_of name.now source.now at ∷ []) result }
+    {
+        Since {
+            units: self.units.saturating_add(looked.units),
+            touched: self.touched.saturating_add(looked.touched),
+            unknown: self.unknown.saturating_add(looked.unknown.len() as u64),
+            apart: self.apart.saturating_add(looked.apart.len() as u64),
+            first: first_place(self.first, name, source, &looked.apart),
+            end: Some(Place {
+                name,
+                at: source.end(),
+            }),
+            is_damaged: self.is_damaged || source.fault().is_some(),
+        }
+    }
+}
+
+/// Looks at what one more log has after a position, in bytes from the start of what is handed out of it, and returns what was seen so far.
+pub(crate) fn look_on<'n, A: Allocator + Copy, B: Allocator>(
+    alloc: A,
+    since: &Since<'n>,
+    lines: &mut Lines<A>,
+    name: &'n [u8],
+    source: &Source<B>,
+    log: &Log<'_>,
+    at: u32,
+    left: &LeftRows<A>,
+    names: &ChosenNames<'_, A>,
+) -> Result<Since<'n>, AllocError>
+    requires { log_bytes log.now ≡ log_of source.now }
+    ensures { (ls : List Later) → AreSeen (left_kept left.now) (names_choice names.now) ls since.now
+        → IfOk result (AreSeen (left_kept left.now) (names_choice names.now) (ls ++ later_of name.now source.now at ∷ [])) }
+{
+    let looked = look(alloc, left, names, log, at)?;
+    lines.put(name, source, &looked)?;
+    Ok(since.with(name, source, &looked))
+}
