@@ -1,6 +1,6 @@
 //! What came later in a log, and touches a part or doesn't.
 
-use crate::runs::{Came, UNDO, between, given, part_by, part_with};
+use crate::runs::{Came, UNDO, between, part_by, part_with};
 use blog_device::{RunFault, Watched};
 use blog_event::Fault;
 use blog_sum::SumFault;
@@ -312,34 +312,50 @@ fn a_damaged_later_log_is_refused(rt: HostRuntime) -> Result<(), Fail> {
     check_logs(&rt, &log, stop, &logs, Came::LaterLog(1, fault), "")
 }
 
+/// A call fails of those that read the second of two later logs.
+fn check_failed_read<'l, R: AllocGlobal + Abort>(
+    rt: &R,
+    log: &'l [u8],
+    stop: u32,
+    other: &'l [u8],
+    call: u64,
+) -> Result<(), Fail> {
+    let mut reader = Watched::new(SlowReader::new(log, ALL, Failure::Never));
+    let mut writer = Watched::new(SlowWriter::new(rt, ALL, Failure::Never));
+    let failure = Failure::At(call, io::ErrorKind::Interrupted);
+    let mut later = Vec::new(rt.alloc());
+    later.push(GivenLog {
+        name: "a",
+        reader: Watched::new(SlowReader::new(other, ALL, Failure::Never)),
+    })?;
+    later.push(GivenLog {
+        name: "b",
+        reader: Watched::new(SlowReader::new(other, 100, failure)),
+    })?;
+    match write_part(
+        rt.alloc(),
+        &mut reader,
+        b"",
+        &between(4, Some(stop)),
+        true,
+        later,
+        0,
+        &UNDO,
+        &mut writer,
+    ) {
+        Err(PartFault::LaterLog(1, OpeningFault::Run(RunFault::Read))) => {}
+        _ => return Err("the read wasn't missed".into()),
+    }
+    assert_eq!(rt; writer.device().calls, 0);
+    Ok(())
+}
+
 #[test]
 fn a_failed_read_of_a_later_log_is_told(rt: HostRuntime) -> Result<(), Fail> {
     let (log, stop) = log_of(&rt, insert(1, &[5]), &[])?;
     let other = build(&rt, &[BEGIN, Part::Map(T), insert(1, &[6]), XID])?;
     for call in 1..4_u64 {
-        let mut reader = Watched::new(SlowReader::new(&log, ALL, Failure::Never));
-        let mut writer = Watched::new(SlowWriter::new(&rt, ALL, Failure::Never));
-        let mut later = given(rt.alloc(), &[("a", &other)])?;
-        let failure = Failure::At(call, io::ErrorKind::Interrupted);
-        later.push(GivenLog {
-            name: "b",
-            reader: Watched::new(SlowReader::new(&other, 100, failure)),
-        })?;
-        match write_part(
-            rt.alloc(),
-            &mut reader,
-            b"",
-            &between(4, Some(stop)),
-            true,
-            later,
-            0,
-            &UNDO,
-            &mut writer,
-        ) {
-            Err(PartFault::LaterLog(1, OpeningFault::Run(RunFault::Read))) => {}
-            _ => return Err("the read wasn't missed".into()),
-        }
-        assert_eq!(rt; writer.device().calls, 0);
+        check_failed_read(&rt, &log, stop, &other, call)?;
     }
     Ok(())
 }

@@ -197,12 +197,12 @@ const OTHER_STATEMENT: Part<'static> = Part::Query {
 const ROOM: usize = 1 << 18;
 
 /// Each request for memory of a run over a part of a log is refused in turn. There are at least so many.
-fn refuse_each<R: AllocGlobal + Abort>(
+fn refuse_each<'l, R: AllocGlobal + Abort>(
     rt: &R,
-    log: &[u8],
+    log: &'l [u8],
     part: &Selection<'_>,
     looks: bool,
-    later: &[(&str, &[u8])],
+    later: &'l [(&'l str, &'l [u8])],
     least: usize,
 ) -> Result<(), Fail> {
     let (_, wanted, _) = part_with(rt, log, part, looks, later, &UNDO)?;
@@ -269,7 +269,8 @@ fn a_refused_request_writes_nothing(rt: HostRuntime) -> Result<(), Fail> {
         &rt,
         &[OTHER_STATEMENT, BEGIN, Part::Map(T), delete(1, &[6]), XID],
     )?;
-    refuse_each(&rt, &log, &part, true, &[("a", &later), ("b", &later)], 20)
+    let logs: [(&str, &[u8]); 2] = [("a", &later), ("b", &later)];
+    refuse_each(&rt, &log, &part, true, &logs, 20)
 }
 
 #[test]
