@@ -69,8 +69,8 @@ man_examples() {
 }
 
 # The folder in which an example, or those of a man page, run: binlog.000042 has checksums for binlog, and none for flashback; to
-# list there is binlog.000041 too, and to cut undo.binlog, which undoes the plain log. Where the pages have 4021 and 9144, the transaction
-# that deletes begins at 811 and stops at 1215, and in the plain log at 842 and at 1143.
+# list there is binlog.000041 too, to undo the two logs after it, and to cut undo.binlog, which undoes the plain log. Where the pages
+# have 4021 and 9144, the transaction that deletes begins at 811 and stops at 1215, and in the plain log at 842 and at 1143.
 begin_folder() {
     rm -rf "$work/here"
     mkdir "$work/here"
@@ -79,6 +79,11 @@ begin_folder() {
         "binlog list"*)
             cp examples/mysql/crc32_closed.binlog "$work/here/binlog.000041"
             cp examples/mysql/crc32_closed.binlog "$work/here/binlog.000042"
+            ;;
+        "binlog undo"*)
+            cp examples/mysql/crc32_closed.binlog "$work/here/binlog.000042"
+            cp examples/mysql/insert.binlog "$work/here/binlog.000043"
+            cp examples/mysql/update.binlog "$work/here/binlog.000044"
             ;;
         "binlog split"* | "binlog sql"*) cp "$work/logs/undo" "$work/here/undo.binlog" ;;
         binlog*) cp examples/mysql/crc32_closed.binlog "$work/here/binlog.000042" ;;
