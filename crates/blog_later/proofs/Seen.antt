@@ -68,37 +68,25 @@ seen-accepted left choice bytes us u more old new accepted are counted units-are
 
 -- ---- on the way through the units of a log
 
--- what was seen is of some units, which with those that are left and pass the test make up all
-pub record IsLooking {A : Type 0} (kept : Left) (choice : Choice) (bytes : List ℕ) (all : List Facts) (test : Facts → Bool) (looked : Looked A) (left : List Facts) : Type 0 where
+-- what was seen is of some units, which with those that are left make up all
+pub record IsLooking {A : Type 0} (kept : Left) (choice : Choice) (bytes : List ℕ) (all : List Facts) (looked : Looked A) (left : List Facts) : Type 0 where
   pub done : List Facts
-  pub whole : done ++ filter test left ≡ all
+  pub whole : done ++ left ≡ all
   pub are : AreSeen kept choice bytes done looked
 
-pub looking-none : {A : Type 0} (kept : Left) (choice : Choice) (bytes : List ℕ) (every left : List Facts) (test : Facts → Bool) (looked : Looked A)
-    → left ≡ every → AreSeen kept choice bytes [] looked → IsLooking kept choice bytes (filter test every) test looked left
-looking-none kept choice bytes every left test looked same are = record { done = []; whole = ap (filter test) same; are = are }
+pub looking-none : {A : Type 0} (kept : Left) (choice : Choice) (bytes : List ℕ) (all left : List Facts) (looked : Looked A) → left ≡ all → AreSeen kept choice bytes [] looked → IsLooking kept choice bytes all looked left
+looking-none kept choice bytes all left looked same are = record { done = []; whole = same; are = are }
 
-pub looking-in : {A : Type 0} (kept : Left) (choice : Choice) (bytes : List ℕ) (all : List Facts) (test : Facts → Bool) (looked new : Looked A) (u : Facts) (left rest : List Facts)
-    → (s : IsLooking kept choice bytes all test looked left) → left ≡ u ∷ rest → test u ≡ true → AreSeen kept choice bytes (s.done ++ u ∷ []) new
-    → IsLooking kept choice bytes all test new rest
-looking-in kept choice bytes all test looked new u left rest s first inside is =
-    let shown : filter test left ≡ u ∷ filter test rest = ap (filter test) first ∙ cond-true _ _ _ inside in record {
-      done = s.done ++ u ∷ [];
-      whole = append_assoc s.done (u ∷ []) (filter test rest) ∙ ap (λ (xs : List Facts). s.done ++ xs) (sym shown) ∙ s.whole;
-      are = is;
-    }
+pub looking-on : {A : Type 0} (kept : Left) (choice : Choice) (bytes : List ℕ) (all : List Facts) (looked new : Looked A) (u : Facts) (left rest : List Facts)
+    → (s : IsLooking kept choice bytes all looked left) → left ≡ u ∷ rest → AreSeen kept choice bytes (s.done ++ u ∷ []) new → IsLooking kept choice bytes all new rest
+looking-on kept choice bytes all looked new u left rest s first is = record {
+  done = s.done ++ u ∷ [];
+  whole = append_assoc s.done (u ∷ []) rest ∙ ap (λ (xs : List Facts). s.done ++ xs) (sym first) ∙ s.whole;
+  are = is;
+}
 
-pub looking-out : {A : Type 0} (kept : Left) (choice : Choice) (bytes : List ℕ) (all : List Facts) (test : Facts → Bool) (looked : Looked A) (u : Facts) (left rest : List Facts)
-    → IsLooking kept choice bytes all test looked left → left ≡ u ∷ rest → test u ≡ false → IsLooking kept choice bytes all test looked rest
-looking-out kept choice bytes all test looked u left rest s first outside =
-    let shown : filter test left ≡ filter test rest = ap (filter test) first ∙ cond-false _ _ _ outside in record {
-      done = s.done;
-      whole = ap (λ (xs : List Facts). s.done ++ xs) (sym shown) ∙ s.whole;
-      are = s.are;
-    }
-
-pub looking-end : {A : Type 0} (kept : Left) (choice : Choice) (bytes : List ℕ) (all : List Facts) (test : Facts → Bool) (looked : Looked A) (left : List Facts)
-    → IsLooking kept choice bytes all test looked left → left ≡ [] → AreSeen kept choice bytes all looked
-looking-end kept choice bytes all test looked left s none =
-    let done : s.done ≡ all = sym (append-nil s.done) ∙ ap (λ (xs : List Facts). s.done ++ filter test xs) (sym none) ∙ s.whole in
+pub looking-end : {A : Type 0} (kept : Left) (choice : Choice) (bytes : List ℕ) (all : List Facts) (looked : Looked A) (left : List Facts)
+    → IsLooking kept choice bytes all looked left → left ≡ [] → AreSeen kept choice bytes all looked
+looking-end kept choice bytes all looked left s none =
+    let done : s.done ≡ all = sym (append-nil s.done) ∙ ap (λ (xs : List Facts). s.done ++ xs) (sym none) ∙ s.whole in
     subst (λ (us : List Facts). AreSeen kept choice bytes us looked) done s.are

@@ -1,16 +1,16 @@
 -- What a log has after a position, and which of it may concern chosen tables.
-use Rattle.std.specs.Prelude.{ℕ, Bool, not, ◌&&◌, nat_le, if◌then◌else◌, List, [], map, filter, length, is_none}
+use Rattle.std.specs.Prelude.{ℕ, Bool, not, ◌&&◌, if◌then◌else◌, List, [], map, filter, length, is_none}
 use Rattle.std.specs.List.{flat_map}
 use Rattle.blog_choice.specs.Choice.{Choice}
 use Rattle.blog_request.specs.Passing.{is_passed_over, unit_events}
 use Rattle.blog_trans.specs.Acceptance.{fault}
 use Rattle.blog_trans.specs.Changes.{Change, changes}
-use Rattle.blog_units.specs.Units.{Facts, between, facts_of, units}
+use Rattle.blog_units.specs.Units.{Facts, between, facts_of, units_from}
 use Rattle.blog_later.specs.Prints.{Left, takes_left}
 
--- the units of a log that begin at a position or after it
+-- the units of the events of a log that begin at a position or after it
 abbrev pub later_units : List ℕ → ℕ → List Facts
-later_units bytes at = filter (λ u. nat_le at u.start) (map facts_of (units bytes))
+later_units bytes at = map facts_of (units_from bytes at)
 
 -- ---- units that can be undone by themselves
 

@@ -14,7 +14,7 @@ use blog_event::Log;
 use blog_units::Units;
 use std::alloc::{AllocError, Allocator};
 
-/// Looks at the units of a log that begin at a position or after it, in bytes from the file's start: whether their changes take rows
+/// Looks at the units of the events of a log that begin at a position or after it, in bytes from the file's start: whether their changes take rows
 /// that were left, and which of them can't be looked into, and may concern chosen tables. Fails if out of memory.
 ///
 /// Rows are compared by fingerprints of their values. So no row is missed that was left and is taken; two rows that aren't equal have
@@ -32,10 +32,8 @@ pub fn look<'a, A: Allocator + Copy>(
     ensures apart { IfOk result (λ looked. looked.apart.items ≡ starts (filter (is_apart (names_choice names.now) (log_bytes log.now)) (later_units (log_bytes log.now) at))) }
 {
     let mut looked = Looked::none(alloc);
-    for unit in Units::new(alloc, log) {
-        if unit.start >= at {
-            looked.look(left, names, log, &unit)?;
-        }
+    for unit in Units::from_position(alloc, log, at) {
+        looked.look(left, names, log, &unit)?;
     }
     Ok(looked)
 }

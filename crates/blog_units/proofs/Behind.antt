@@ -1,11 +1,12 @@
 -- The events behind a position, and positions at which events end.
-use Rattle.std.proofs.Common.{◌≡◌, ℕ, ◌+◌, ◌≤◌, Bool, true, false, ◌&&◌, nat_lt, List, [], ◌∷◌, length, drop, Option, Some, None, refl, sym, subst, ap, ◌∙◌, inl, arith}
-use Rattle.std.proofs.lemmas.Bool.{le-ltb, lt-leb, lt-ltb}
+use Rattle.std.proofs.Common.{◌≡◌, ℕ, ◌+◌, ◌≤◌, ◌<◌, Bool, true, false, ◌&&◌, nat_lt, List, [], ◌∷◌, length, drop, Option, Some, None, refl, sym, subst, ap, ◌∙◌, inl, arith}
+use Rattle.std.specs.Prelude.{filter, nat_le}
+use Rattle.std.proofs.lemmas.Bool.{cond-false, cond-true, le-leb, le-ltb, lt-leb, lt-ltb}
 use Rattle.std.proofs.lemmas.List.{length-drop}
 use Rattle.std.proofs.lemmas.Option.{same_Some}
 use Rattle.blog_event.specs.declared.event.Event as told
 use Rattle.blog_event.specs.Event.{Event, event_at, event_of, event_size}
-use Rattle.blog_event.specs.File.{Placed, placed_from, end_of, read}
+use Rattle.blog_event.specs.File.{Placed, placed_from, end_of, events_from, read}
 use Rattle.blog_event.specs.code.Going.{AreRead}
 use Rattle.blog_event.specs.Opening.{opening_fault}
 use Rattle.blog_event.proofs.Going.{are-read-only, event-within, opened-reads-on}
@@ -35,13 +36,36 @@ pub behind-none : (bytes : List ℕ) (at : ℕ) → event_at (drop at bytes) ≡
 behind-none bytes at none = ap (placed_from at) (events-left-none bytes at none)
 
 -- those of a log behind its first
+pub events-first : (bytes : List ℕ) (at : ℕ) → LogReads bytes None at → drop 1 (placed_from 4 (read bytes None)) ≡ events_behind bytes at
+events-first bytes at reads =
+    let same = are-read-only bytes None at _ reads.later (are-left bytes at) reads.left.are in
+    ap (λ (es : List Event). drop 1 (placed_from 4 es)) reads.read_is
+    ∙ ap (λ (n : ℕ). placed_from n reads.later) reads.starts
+    ∙ ap (placed_from at) same
+
 pub behind-first : (bytes : List ℕ) (at : ℕ) → LogReads bytes None at → units bytes ≡ units_in None (events_behind bytes at)
 unfolding units
-behind-first bytes at reads =
-    let same = are-read-only bytes None at _ reads.later (are-left bytes at) reads.left.are in
-    ap (λ (es : List Event). units_in None (drop 1 (placed_from 4 es))) reads.read_is
-    ∙ ap (λ (n : ℕ). units_in None (placed_from n reads.later)) reads.starts
-    ∙ ap (λ (es : List Event). units_in None (placed_from at es)) same
+behind-first bytes at reads = ap (units_in None) (events-first bytes at reads)
+
+-- ---- those from a position on
+
+-- an event in front of it is left out
+pub front-out : (bytes : List ℕ) (at pos : ℕ) (p : Placed) (rest : List Placed) → events_behind bytes pos ≡ p ∷ rest → p.pos ≡ pos → pos < at
+    → filter (λ p. nat_le at p.pos) (events_behind bytes pos) ≡ filter (λ p. nat_le at p.pos) rest
+front-out bytes at pos p rest first is below =
+    ap (filter (λ p. nat_le at p.pos)) first
+    ∙ cond-false (nat_le at p.pos) (p ∷ filter (λ p. nat_le at p.pos) rest) (filter (λ p. nat_le at p.pos) rest) (lt-leb at p.pos (omega (arith, is, below)))
+
+all-from : (at pos : ℕ) (es : List Event) → at ≤ pos → filter (λ p. nat_le at p.pos) (placed_from pos es) ≡ placed_from pos es
+all-from at pos [] behind = refl
+all-from at pos (e ∷ es) behind =
+    let rest = placed_from (pos + event_size e) es in
+    cond-true (nat_le at pos) (record { pos = pos; event = e } ∷ filter (λ p. nat_le at p.pos) rest) (filter (λ p. nat_le at p.pos) rest) (le-leb at pos behind)
+    ∙ ap (λ (ps : List Placed). record { pos = pos; event = e } ∷ ps) (all-from at (pos + event_size e) es (omega (arith, behind)))
+
+-- those behind it are all
+pub all-behind : (bytes : List ℕ) (at pos : ℕ) → at ≤ pos → filter (λ p. nat_le at p.pos) (events_behind bytes pos) ≡ events_behind bytes pos
+all-behind bytes at pos behind = all-from at pos (events_from (length bytes) None pos (drop pos bytes)) behind
 
 -- ---- boundaries
 

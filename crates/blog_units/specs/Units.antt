@@ -1,6 +1,6 @@
 -- The units of a log: what of it is undone, or refused, by itself. A unit is a transaction, or what stands outside of
 -- transactions and may not stand there, with the Gtid event in front of it.
-use Rattle.std.specs.Prelude.{ℕ, ◌+◌, ◌==◌, ◌&&◌, ◌||◌, Bool, true, false, not, nat_le, nat_lt, if◌then◌else◌, List, [], ◌∷◌, length, take, drop, find, Option, Some, None, option_map, bytes_eq, codes, slice_index}
+use Rattle.std.specs.Prelude.{ℕ, ◌+◌, ◌==◌, ◌&&◌, ◌||◌, Bool, true, false, not, nat_le, nat_lt, if◌then◌else◌, List, [], ◌∷◌, length, take, drop, filter, find, Option, Some, None, option_map, bytes_eq, codes, slice_index}
 use Rattle.std.specs.Option.{option_map_or}
 use Rattle.byteorder.specs.Endian.{little_number}
 use Rattle.blog_event.specs.Event.{Event, event_size}
@@ -99,6 +99,13 @@ units_in (Some part) (p ∷ ps) =
 -- those of a log: of its events behind the first
 unfoldable pub units : List ℕ → List Unit
 units bytes = units_in None (drop 1 (placed_from 4 (read bytes None)))
+
+-- those of the events of a log, behind the first, that begin at a position or after it
+abbrev pub events_from : List ℕ → ℕ → List Placed
+events_from bytes at = filter (λ p. nat_le at p.pos) (drop 1 (placed_from 4 (read bytes None)))
+
+abbrev pub units_from : List ℕ → ℕ → List Unit
+units_from bytes at = units_in None (events_from bytes at)
 
 -- ---- what is told of a unit
 

@@ -2,7 +2,8 @@
 
 ghost use Rattle.std.specs.Prelude.{◌≡◌, length, map};
 ghost use Rattle.blog_event.specs.code.LogView.{log_bytes};
-ghost use Rattle.blog_units.specs.code.Boundaries.{IsBoundary};
+ghost use Rattle.blog_units.specs.Units.{events_from};
+ghost use Rattle.blog_units.specs.code.Boundaries.{IsBoundary, events_behind};
 
 use crate::unit::{Seen, Unit, global_id, go_through, groups_between, is_whole, next_first};
 use blog_event::Log;
@@ -19,7 +20,7 @@ pub struct Units<'a, A: Allocator = Global> {
 }
 
 impl<'a, A: Allocator> Units<'a, A> {
-    ghost use Rattle.blog_units.specs.Units.{facts_of, units};
+    ghost use Rattle.blog_units.specs.Units.{facts_of, units, units_from};
     ghost use Rattle.blog_units.specs.code.UnitsView.{units_left, units_log};
 
     /// The units of a log, in its order. Memory for the groups of each is taken from `alloc`.
@@ -33,6 +34,34 @@ impl<'a, A: Allocator> Units<'a, A> {
             at: log.first(),
         }
     }
+
+    /// The units of the events of a log that begin at a position or after it, in bytes from the file's start. The log's first event is
+    /// in none. Memory for the groups of each unit is taken from `alloc`.
+    pub fn from_position(alloc: A, log: &Log<'a>, at: u32) -> Self
+        ensures units { units_left result ≡ map facts_of (units_from (log_bytes log.now) at) }
+        ensures log { units_log result ≡ log.now }
+    {
+        Units {
+            log: *log,
+            alloc,
+            at: first_from(log, at),
+        }
+    }
+}
+
+/// Where the first event of a log begins that begins at a position or after it, but for the log's first; or where the events end.
+fn first_from(log: &Log<'_>, at: u32) -> u32
+    ensures boundary { IsBoundary (log_bytes log.now) result }
+    ensures events { events_behind (log_bytes log.now) result ≡ events_from (log_bytes log.now) at }
+{
+    let mut pos = log.first();
+    'below: while pos < at {
+        let Ok(event) = log.event_at(pos) else {
+            return pos;
+        };
+        pos += event.header.size;
+    }
+    pos
 }
 
 impl<'a, A: Allocator + Copy> Iterator for Units<'a, A> {

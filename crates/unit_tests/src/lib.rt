@@ -4,4 +4,6 @@
 #[cfg(test)]
 mod range_tests;
 #[cfg(test)]
+mod told_tests;
+#[cfg(test)]
 mod walk_tests;

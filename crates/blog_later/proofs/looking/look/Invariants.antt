@@ -1,5 +1,4 @@
 use Rattle.std.proofs.Common.{◌≡◌}
-use Rattle.std.specs.Prelude.{nat_le}
 use Rattle.blog_choice.specs.code.ChosenView.{names_choice}
 use Rattle.blog_event.specs.code.LogView.{log_bytes}
 use Rattle.blog_units.specs.code.UnitsView.{units_left, units_log}
@@ -14,5 +13,5 @@ invariant-loop-unit g l = record {
   next : (goal.iterator-loop-unit g).can_next l.unit-iterator;
   finite : (goal.iterator-loop-unit g).is_finite l.unit-iterator;
   log : units_log l.unit-iterator ≡ l.log;
-  looking : IsLooking (left_kept l.left) (names_choice l.names) (log_bytes l.log) (later_units (log_bytes l.log) l.at) (λ u. nat_le l.at u.start) l.looked (units_left l.unit-iterator);
+  looking : IsLooking (left_kept l.left) (names_choice l.names) (log_bytes l.log) (later_units (log_bytes l.log) l.at) l.looked (units_left l.unit-iterator);
 }
