@@ -5,7 +5,7 @@ use crate::failure::Failure;
 use blog_choice::{TableChoice, TableName};
 use blog_device::{RunFault, Watched, put, read_log};
 use blog_flash::{Mode, Selection, flashback, run};
-use blog_list::{Form, Style, list};
+use blog_list::{Form, Sorting, Style, list};
 use blog_request::Wanted;
 use blog_row::Order;
 use blog_run::{Writing, write_changes};
@@ -121,6 +121,7 @@ pub fn list_all(
         form,
         zone,
         gtids: true,
+        sorting: Sorting::Place,
         seed: 0,
     };
     let end = list(alloc, alloc, &source, &of_tables(&[]), &style, output)?;
@@ -145,6 +146,7 @@ pub fn list_table<'n>(
         form: Form::Text,
         zone: TimeZone::UTC,
         gtids: false,
+        sorting: Sorting::Place,
         seed: 0,
     };
     let end = list(alloc, alloc, &source, &wanted, &style, output)?;

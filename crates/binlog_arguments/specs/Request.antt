@@ -12,6 +12,8 @@ use Rattle.console.specs.Positions.{IsPosition, IsPositionOf, IsWrongPosition}
 use Rattle.console.specs.Told.{AsksForText}
 use Rattle.blog_list.specs.declared.listing.Form.{Form}
 use Rattle.blog_list.specs.declared.listing.Form.TheVariants as form
+use Rattle.blog_list.specs.declared.listing.Sorting.{Sorting}
+use Rattle.blog_list.specs.declared.listing.Sorting.TheVariants.{Place, Rows}
 use Rattle.blog_list.specs.declared.times.Side.{Side}
 use Rattle.blog_list.specs.declared.times.Side.TheVariants.{Start, Stop}
 use Rattle.blog_list.specs.Times.{IsRead as IsReadTime}
@@ -114,6 +116,11 @@ abbrev pub form_of : Bool → Form
 form_of true = form.Json
 form_of false = form.Text
 
+-- by rows where that is the value of an option, and else in the order of the log
+abbrev pub sorting_of : Option (List ℕ) → Sorting
+sorting_of None = Place
+sorting_of (Some order) = if bytes_eq order (codes "rows") then Rows else Place
+
 -- the values of an option, in order
 abbrev pub all_values : Found → List ℕ → List (List ℕ)
 all_values found name = option_map_or raw_values (matched_of found name) []
@@ -131,6 +138,7 @@ pub record IsListTask {A : Type 0} (found : Found) (task : ListTask A) : Type 0 
   pub logs : map (λ path. path.now) task.logs.items ≡ all_values found (codes "LOG")
   pub form : task.form ≡ form_of (is_given found (codes "json"))
   pub show_gtids : task.show_gtids ≡ is_given found (codes "show-gtid")
+  pub sorting : task.sorting ≡ sorting_of (first_value found (codes "sort"))
   pub reading : task.reading ≡ record { stop = None; skip_damaged = is_given found (codes "skip-damaged") }
   pub start : IsPositionOf (first_value found (codes "start-position")) task.start
   pub stop : IsPositionOf (first_value found (codes "stop-position")) task.stop

@@ -84,7 +84,7 @@ pub const LIST_USAGE: &str = "\
 binlog list [-d NAME] [-T [NAME.]NAME].. [--exclude-table [NAME.]NAME].. [--thread N]..
                    [-j POS] [--stop-position POS] [--gtid GTID]..
                    [--start-datetime TIME] [--stop-datetime TIME] [--utc | --time-zone NAME]
-                   [--show-gtid] [--skip-damaged] [--json] LOG..";
+                   [--sort rows] [--show-gtid] [--skip-damaged] [--json] LOG..";
 
 /// What there is to know of `list`, with examples.
 pub const LIST_AFTER_HELP: &str = "\
@@ -95,6 +95,8 @@ found, they are in UTC. When clocks are set back, they show an hour twice: a TIM
 earlier one for --start-datetime, and the later one for --stop-datetime.
 Names are compared byte by byte. With -d or -T units that can't be undone are listed too, since what
 they change isn't known, but for statements that name no chosen table, such as ALTER TABLE of another.
+With --sort rows the transactions of each log that change the most rows come first, with -d or -T the
+most rows of the chosen tables; what can't be undone comes last. The lines of a log are held in memory.
 
 Examples:
   binlog list binlog.000042
@@ -118,6 +120,8 @@ Examples:
       those before this time
   binlog list --utc binlog.000042
       times in UTC
+  binlog list --sort rows binlog.000042
+      the largest first
   binlog list --show-gtid binlog.000042
       with their GTIDs
   binlog list --gtid 283c105d-e730-11f1-97ff-02fc00000001:5-9 binlog.000042

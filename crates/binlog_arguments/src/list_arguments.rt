@@ -6,17 +6,17 @@ ghost use Rattle.console.specs.Positions.{IsPositionOf};
 ghost use Rattle.jiff.specs.Words.{plain_zone};
 ghost use Rattle.blog_choice.specs.Choice.{read_name};
 ghost use Rattle.blog_choice.specs.code.Views.{name_value};
-ghost use Rattle.binlog_arguments.specs.Request.{AreIds, AreNumbers, HasTask, IsWrong, IsListTask, IsTimeOf, IsZoneAsked, RefusesIds, RefusesList, RefusesNumbers, RefusesTime, all_values, form_of, is_given};
+ghost use Rattle.binlog_arguments.specs.Request.{AreIds, AreNumbers, HasTask, IsWrong, IsListTask, IsTimeOf, IsZoneAsked, RefusesIds, RefusesList, RefusesNumbers, RefusesTime, all_values, form_of, is_given, sorting_of};
 ghost use Rattle.binlog_arguments.specs.declared.arguments.ArgumentsFault.TheVariants.{OutOfMemory};
 
 use crate::arguments::{ArgumentsFault, is_given, read_number};
 use crate::options::{
-    DATABASE, EXCLUDED_TABLE, GTID, JSON, LOG, SHOW_GTID, SKIP_DAMAGED, START, START_TIME, STOP,
-    STOP_TIME, TABLE, THREAD, TIME_ZONE, UTC,
+    BY_ROWS, DATABASE, EXCLUDED_TABLE, GTID, JSON, LOG, SHOW_GTID, SKIP_DAMAGED, SORT, START,
+    START_TIME, STOP, STOP_TIME, TABLE, THREAD, TIME_ZONE, UTC,
 };
 use crate::zones::{Zone, named_zone, system_zone};
 use blog_choice::{TableChoice, TableName};
-use blog_list::{Form, Side, TimeFault, seconds_of};
+use blog_list::{Form, Side, Sorting, TimeFault, seconds_of};
 use blog_request::{GlobalIds, Wanted};
 use blog_source::Reading;
 use clap::{ArgMatches, Command};
@@ -52,6 +52,8 @@ pub struct ListTask<'a, A: Allocator> {
     pub form: Form,
     /// Whether GTIDs are listed.
     pub show_gtids: bool,
+    /// How the units of each log are sorted.
+    pub sorting: Sorting,
     /// How the log is read.
     pub reading: Reading,
     /// The time zone in which times are printed.
@@ -112,6 +114,7 @@ pub(crate) fn read_list<'a, R: Files + Env + AllocGlobal, A: Allocator + Copy>(
         excluded: read_tables(alloc, found, EXCLUDED_TABLE)?,
         form: read_form(found),
         show_gtids: is_given(found, SHOW_GTID),
+        sorting: read_sorting(found),
         reading: Reading {
             stop: None,
             skip_damaged: is_given(found, SKIP_DAMAGED),
@@ -247,6 +250,16 @@ fn read_form(found: &ArgMatches<'_>) -> Form
 /// What a time zone is, as it is told of a name that is none.
 const ZONE: &str =
     "a time zone that this machine has a file of: give an IANA name such as Europe/Berlin, or install tzdata";
+
+/// How the units of each log are sorted.
+fn read_sorting(found: &ArgMatches<'_>) -> Sorting
+    ensures { result ≡ sorting_of (first_value (found_of found.now) (codes "sort")) }
+{
+    match found.get_str(SORT) {
+        Some(order) if order == BY_ROWS => Sorting::Rows,
+        _ => Sorting::Place,
+    }
+}
 
 /// The time zone that is asked for: UTC, that of a name, or else the machine's.
 fn read_zone<'a, R: Files + Env + AllocGlobal, A: Allocator + Copy>(

@@ -43,6 +43,10 @@ pub const THREAD: &str = "thread";
 pub const GTID: &str = "gtid";
 /// The name of `--show-gtid`.
 pub const SHOW_GTID: &str = "show-gtid";
+/// The name of `--sort`.
+pub const SORT: &str = "sort";
+/// Its value for a list by rows.
+pub const BY_ROWS: &str = "rows";
 /// The name of `--skip-damaged`.
 pub const SKIP_DAMAGED: &str = "skip-damaged";
 /// The name of `-j`.
@@ -239,6 +243,9 @@ fn list_arguments<'a>(alloc: Global) -> Result<Command<'a>, AllocError> {
     let zone = option(alloc, TIME_ZONE, "NAME").help(
         "Read and print times in this time zone, such as Europe/Berlin",
     );
+    let sorted = option(alloc, SORT, "ORDER")
+        .value_parser(ValueParser::Names(&[BY_ROWS]))
+        .help("List the transactions of each log by how many rows they change, the most first");
     let json = flag(alloc, JSON).help("Write JSON, an object a line");
     let logs = Arg::new(alloc, LOG)
         .help("The binary logs, files")
@@ -248,6 +255,7 @@ fn list_arguments<'a>(alloc: Global) -> Result<Command<'a>, AllocError> {
         .arg(damaged)?
         .arg(utc)?
         .arg(zone.conflicts_with(UTC)?)?
+        .arg(sorted)?
         .arg(json)?
         .arg(logs.required(true).action(ArgAction::Append))
 }

@@ -189,7 +189,7 @@ may_list (Err error) = false
 -- the list of given logs that a task asks for comes to this
 abbrev pub ListsGiven : {A R : Type 0} → (R → Option (List ℕ)) → ListTask A → List (GivenLog R) → Option (List ℕ) → Option (List ℕ) → Result Unit (ℕ × ListFault) → Type 0
 ListsGiven known task givens had has listed = (wanted : Wanted) × HasTask task wanted × ((zone : TimeZone) × IsZoneOf task.zone zone
-    × (0 < length givens → ListsLogs known task.form zone task.show_gtids (record { how = task.reading; wanted = wanted; count = length givens }) givens had has listed))
+    × (0 < length givens → ListsLogs known task.form zone task.show_gtids (record { how = task.reading; wanted = wanted; sorting = task.sorting; count = length givens }) givens had has listed))
 
 -- a part of a list, or all of it, may be written before this failure
 abbrev pub MayFollowList : {A : Type 0} → Failure A → Type 0

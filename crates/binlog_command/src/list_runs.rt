@@ -54,6 +54,7 @@ fn list_given<'a, A: Allocator + Copy, D: Read + Drop, O: Write, E: Write>(
     let style = Style {
         form: task.form,
         gtids: task.show_gtids,
+        sorting: task.sorting,
         zone: task.zone.time_zone(),
         seed,
     };

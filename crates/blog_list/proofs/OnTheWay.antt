@@ -31,7 +31,11 @@ use Rattle.blog_list.specs.declared.totals.Totals.{Totals}
 use Rattle.blog_list.specs.Lines.{LogList, Refusal, Shown, all_refused, all_rows, rows_of, rows_shown, sum_damaged, sum_passed_over, sum_refused, sum_rows, sum_units, totals_lines}
 use Rattle.blog_list.specs.Shown.{changes_in, changes_of, changes_shown, in_front, is_passed, passed_over_of, rows_or, shown, shown_with, wanted_of}
 use Rattle.blog_list.specs.Texts.{AreLines, IsLine, name_above, totals_of}
-use Rattle.blog_list.specs.code.Held.{HasBegun, HasListed, HasWritten, has_no_memory}
+use Rattle.blog_choice.specs.Choice.{Choice}
+use Rattle.blog_list.specs.Sorted.{IsArranged}
+use Rattle.blog_list.specs.declared.listing.Sorting.{Sorting}
+use Rattle.blog_list.specs.declared.listing.Sorting.TheVariants.{Place, Rows}
+use Rattle.blog_list.specs.code.Held.{HasBegun, HasListed, HasWritten, Sheet, has_no_memory}
 use Rattle.blog_list.specs.code.Told.{PutsLineIn, shown_told}
 use Rattle.blog_list.specs.code.Totals.{AreTotals, CountsLog, HasAdded, HasCounted, HasDamaged, totals_put, totals_text}
 
@@ -57,16 +61,8 @@ rows-more (x ∷ xs) s = let more = rows-more xs s in omega arith
 abbrev pub listed_of : Wanted → List ℕ → (ℕ → ℕ) → List Facts → List Shown
 listed_of w log place us = map (shown log place) (wanted_of w log us)
 
--- how lines are written: in this form, in this zone, with ids or without, with times in a column of this width, behind what was
--- held before
-pub record Sheet : Type 0 where
-  pub form : Form
-  pub zone : TimeZone
-  pub gtids : Bool
-  pub width : ℕ
-  pub before : List ℕ
-
 pub record IsListing (sheet : Sheet) (l : LogList) (later : List Shown) (had has : Option (List ℕ)) (held : List ℕ) : Type 0 where
+  pub in_turn : l.sorting ≡ Place
   pub done : List Shown
   pub chosen : done ++ later ≡ l.units
   pub written : List ℕ
@@ -76,9 +72,10 @@ pub record IsListing (sheet : Sheet) (l : LogList) (later : List Shown) (had has
   pub text : written ++ held ≡ sheet.before ++ (name_above sheet.form l.name ++ lines)
 
 -- at first the line of the log's name is held
-pub listing-none : (sheet : Sheet) (l : LogList) (later : List Shown) (had : Option (List ℕ)) (held : List ℕ) → later ≡ l.units → held ≡ sheet.before ++ name_above sheet.form l.name
-    → IsListing sheet l later had had held
-listing-none sheet l later had held same is = record {
+pub listing-none : (sheet : Sheet) (l : LogList) (later : List Shown) (had : Option (List ℕ)) (held : List ℕ) → l.sorting ≡ Place → later ≡ l.units
+    → held ≡ sheet.before ++ name_above sheet.form l.name → IsListing sheet l later had had held
+listing-none sheet l later had held in_turn same is = record {
+  in_turn = in_turn;
   done = [];
   chosen = same;
   written = [];
@@ -89,9 +86,10 @@ listing-none sheet l later had held same is = record {
 }
 
 -- the line of the next one is held
-listing-more : (sheet : Sheet) (l : LogList) (later rest : List Shown) (had has : Option (List ℕ)) (held more line : List ℕ) (s : Shown)
+pub listing-more : (sheet : Sheet) (l : LogList) (later rest : List Shown) (had has : Option (List ℕ)) (held more line : List ℕ) (s : Shown)
     → IsListing sheet l later had has held → later ≡ s ∷ rest → IsLine sheet.form sheet.zone sheet.gtids sheet.width l.name s line → more ≡ held ++ line → IsListing sheet l rest had has more
 listing-more sheet l later rest had has held more line s list first is grown = record {
+  in_turn = list.in_turn;
   done = list.done ++ s ∷ [];
   chosen = append_assoc list.done (s ∷ []) rest ∙ ap (λ (ss : List Shown). list.done ++ ss) (sym first) ∙ list.chosen;
   written = list.written;
@@ -112,6 +110,7 @@ listing-same sheet l later rest had has held list same = subst (λ (ss : List Sh
 pub listing-written : (sheet : Sheet) (l : LogList) (later : List Shown) (had has now : Option (List ℕ)) (held rest : List ℕ)
     → IsListing sheet l later had has held → HasWritten has now held rest → IsListing sheet l later had now rest
 listing-written sheet l later had has now held rest list (part, appended, split) = record {
+  in_turn = list.in_turn;
   done = list.done;
   chosen = list.chosen;
   written = list.written ++ part;
@@ -123,12 +122,21 @@ listing-written sheet l later had has now held rest list (part, appended, split)
 
 -- ---- their end
 
+-- units that aren't sorted
+arranged-in-turn : (sorting : Sorting) (choice : Choice) (units : List Shown) → sorting ≡ Place → IsArranged sorting choice units units
+arranged-in-turn Place choice units is = refl
+arranged-in-turn Rows choice units is = cc
+
 -- a beginning of what is held is written, and no more
 pub listing-broken : (sheet : Sheet) (l : LogList) (later : List Shown) (had has now : Option (List ℕ)) (held : List ℕ)
     → IsListing sheet l later had has held → AppendsBeginning has now held → HasBegun sheet.form sheet.zone sheet.gtids sheet.width l had now sheet.before
 listing-broken sheet l later had has now held list (front, rest, split, appended) = (
   name_above sheet.form l.name ++ list.lines,
-  inr (record l { units = list.done }, (later, list.chosen, refl), (list.lines, list.lines_are, refl)),
+  inr (
+    record l { units = list.done; sorting = Place },
+    inr (l.units, later, arranged-in-turn l.sorting l.choice l.units list.in_turn, list.chosen, refl, refl),
+    (list.done, refl, (list.lines, list.lines_are, refl)),
+  ),
   (
     list.written ++ front,
     rest,
@@ -152,7 +160,8 @@ pub listing-end : (sheet : Sheet) (l : LogList) (later : List Shown) (had has : 
 listing-end sheet l later had has held list none =
     let all_done : list.done ≡ l.units = sym (append-nil list.done) ∙ ap (λ (ss : List Shown). list.done ++ ss) (sym none) ∙ list.chosen in
     let lines_are = subst (λ (ss : List Shown). AreLines sheet.form sheet.zone sheet.gtids sheet.width l.name ss list.lines) all_done list.lines_are in
-    (name_above sheet.form l.name ++ list.lines, (list.lines, lines_are, refl), (list.written, list.appended, list.text))
+    let arranged = arranged-in-turn l.sorting l.choice l.units list.in_turn in
+    (name_above sheet.form l.name ++ list.lines, (l.units, arranged, (list.lines, lines_are, refl)), (list.written, list.appended, list.text))
 
 -- ---- the numbers
 
@@ -332,6 +341,19 @@ is-concern : {A : Type 0} (w : Wanted) (log : List ℕ) (unit : Unit A) (concern
     → concern ≡ concern_of w log (facts_told unit) (changes_told unit.groups) → concern_of w log (facts_told unit) (changes_of log (facts_told unit)) ≡ concern
 is-concern w log unit concern same is = ap (concern_of w log (facts_told unit)) (sym same) ∙ sym is
 
+-- the next unit is wanted, or isn't
+pub wanted-next : {A : Type 0} (w : Wanted) (log : List ℕ) (place : ℕ → ℕ) (left rest : List Facts) (unit : Unit A) (concern : Concern)
+    → left ≡ facts_told unit ∷ rest → changes_told unit.groups ≡ changes_of log (facts_told unit) → is_before unit.start w.stop ≡ true
+    → concern ≡ concern_of w log (facts_told unit) (changes_told unit.groups) → is_wanted concern ≡ true → listed_of w log place left ≡ shown_told log place unit ∷ listed_of w log place rest
+wanted-next w log place left rest unit concern first same earlier is wanted =
+    wanted-first w log place (facts_told unit) left rest (shown_told log place unit) first (told-is-shown log place unit same) earlier (ap is_wanted (is-concern w log unit concern same is) ∙ wanted)
+
+pub unwanted-next : {A : Type 0} (w : Wanted) (log : List ℕ) (place : ℕ → ℕ) (left rest : List Facts) (unit : Unit A) (concern : Concern)
+    → left ≡ facts_told unit ∷ rest → changes_told unit.groups ≡ changes_of log (facts_told unit) → is_before unit.start w.stop ≡ true
+    → concern ≡ concern_of w log (facts_told unit) (changes_told unit.groups) → is_wanted concern ≡ false → listed_of w log place left ≡ listed_of w log place rest
+unwanted-next w log place left rest unit concern first same earlier is unwanted =
+    unwanted-first w log place (facts_told unit) left rest first earlier (ap is_wanted (is-concern w log unit concern same is) ∙ unwanted)
+
 -- the line of a wanted unit was appended
 pub listing-wanted : {A B : Type 0} (before : List ℕ) (form : Form) (gtids : Bool) (column : TimeColumn B) (w : Wanted) (log : List ℕ) (place : ℕ → ℕ) (l : LogList) (left rest : List Facts)
     → (had has : Option (List ℕ)) (held more : List ℕ) (unit : Unit A) (concern : Concern)
@@ -341,7 +363,7 @@ pub listing-wanted : {A B : Type 0} (before : List ℕ) (form : Form) (gtids : B
     → IsListing (record { form = form; zone = plain_zone column.zone; gtids = gtids; width = length column.heading.items; before = before }) l (listed_of w log place rest) had has more
 listing-wanted before form gtids column w log place l left rest had has held more unit concern list first same earlier is wanted (line, shows, grown) =
     let s : Shown = shown_told log place unit in
-    let chosen = wanted-first w log place (facts_told unit) left rest s first (told-is-shown log place unit same) earlier (ap is_wanted (is-concern w log unit concern same is) ∙ wanted) in
+    let chosen = wanted-next w log place left rest unit concern first same earlier is wanted in
     listing-more (record { form = form; zone = plain_zone column.zone; gtids = gtids; width = length column.heading.items; before = before }) l (listed_of w log place left) (listed_of w log place rest) had has held more line s
     list chosen shows grown
 
@@ -352,7 +374,7 @@ pub listing-unwanted : {A : Type 0} (sheet : Sheet) (w : Wanted) (log : List ℕ
     → concern ≡ concern_of w log (facts_told unit) (changes_told unit.groups) → is_wanted concern ≡ false → IsListing sheet l (listed_of w log place rest) had has held
 listing-unwanted sheet w log place l left rest had has held unit concern list first same earlier is unwanted =
     listing-same sheet l (listed_of w log place left) (listed_of w log place rest) had has held list
-    (unwanted-first w log place (facts_told unit) left rest first earlier (ap is_wanted (is-concern w log unit concern same is) ∙ unwanted))
+    (unwanted-next w log place left rest unit concern first same earlier is unwanted)
 
 -- a unit is counted
 pub counting-more : {A : Type 0} (concern : Concern) (w : Wanted) (log : List ℕ) (place : ℕ → ℕ) (l : LogList) (left rest : List Facts) (old mid new : Totals) (unit : Unit A)

@@ -30,7 +30,7 @@ pub log-broken : (form : Form) (zone : TimeZone) (gtids : Bool) (width : ℕ) (l
 log-broken form zone gtids width l had has now before after last none same (text, is, (part, appended, split)) (front, rest, cut, end) =
     let whole : part ++ last ≡ text = ap (λ (bytes : List ℕ). part ++ bytes) same ∙ split ∙ ap (λ (front : List ℕ). front ++ text) none in (
       text,
-      inr (l, ([], append-nil l.units, refl), is),
+      inr (l, inl refl, is),
       (part ++ front, rest, sym whole ∙ ap (λ (bytes : List ℕ). part ++ bytes) cut ∙ sym (append_assoc part front rest), Appends-trans had has now part front appended end),
     )
 
@@ -79,6 +79,18 @@ up-to-none form own_form zone own_zone gtids own_gtids heading held text front n
 pub list-unbegun : (form : Form) (zone : TimeZone) (gtids : Bool) (ls : List LogList) (had : Option (List ℕ)) → AppendsListBeginning form zone gtids ls had had
 list-unbegun form zone gtids ls had = ([], inl refl, ([], [], refl, Appends-nil had))
 
+-- a writer's list of the log is sorted as the list is
+pub sorted-begun : (form : Form) (zone : TimeZone) (gtids : Bool) (width : ℕ) (own l : LogList) (had now : Option (List ℕ)) (before : List ℕ) → own ≡ l
+    → HasBegun form zone gtids width own had now before → HasBegun form zone gtids width l had now before
+sorted-begun form zone gtids width own l had now before same begun = subst (λ (x : LogList). HasBegun form zone gtids width x had now before) same begun
+
+pub sorted-listed : (form : Form) (zone : TimeZone) (gtids : Bool) (width : ℕ) (own l : LogList) (had has : Option (List ℕ)) (before after : List ℕ) → own ≡ l
+    → HasListed form zone gtids width own had has before after → HasListed form zone gtids width l had has before after
+sorted-listed form zone gtids width own l had has before after same listed = subst (λ (x : LogList). HasListed form zone gtids width x had has before after) same listed
+
+pub sorted-counts : (old new : Totals) (own l : LogList) → own ≡ l → CountsLog old new own → CountsLog old new l
+sorted-counts old new own l same counts = subst (λ (x : LogList). CountsLog old new x) same counts
+
 -- a beginning of what is listed of the log is written
 pub list-begun : (form own_form : Form) (zone own_zone : TimeZone) (gtids own_gtids : Bool) (heading held : List ℕ) (l : LogList) (had now : Option (List ℕ)) → IsHeaded form own_form zone own_zone gtids own_gtids heading held
     → HasBegun own_form own_zone own_gtids (length heading) l had now held → AppendsListBeginning form zone gtids (l ∷ []) had now
@@ -92,7 +104,7 @@ pub list-left : (form own_form : Form) (zone own_zone : TimeZone) (gtids own_gti
     → HasListed own_form own_zone own_gtids (length heading) l had has held after → AppendsListBeginning form zone gtids (l ∷ []) had has
 list-left form own_form zone own_zone gtids own_gtids heading held after l had has front (text, is, (part, appended, split)) = (
   held ++ text,
-  inr (inr (l ∷ [], ([], append-nil l.units, refl), up-to-one form own_form zone own_zone gtids own_gtids heading held l text front is)),
+  inr (inr (l ∷ [], inl refl, up-to-one form own_form zone own_zone gtids own_gtids heading held l text front is)),
   (part, after, sym split, appended),
 )
 

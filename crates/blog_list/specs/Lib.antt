@@ -3,6 +3,7 @@ pub mod Json
 pub mod Lines
 pub mod Lists
 pub mod Shown
+pub mod Sorted
 pub mod Texts
 pub mod Times
 pub mod code

@@ -7,6 +7,8 @@ use Rattle.std.specs.Fmt.{decimal}
 use Rattle.hex.specs.Hex.{encode_lower}
 use Rattle.blog_trans.specs.Changes.{TableCount}
 use Rattle.blog_units.specs.Units.{Id}
+use Rattle.blog_choice.specs.Choice.{Choice}
+use Rattle.blog_list.specs.declared.listing.Sorting.{Sorting}
 use Rattle.blog_text.specs.Escapes.{beginning, escaped, marks}
 use Rattle.blog_text.specs.Tables.{counts_text}
 
@@ -28,11 +30,13 @@ pub record Shown : Type 0 where
   pub id : Option Id
   pub changes : Result (List TableCount) Refusal
 
--- What is listed of a log: its name, where that is shown; what is shown of its units; and how many statements and how many damaged
--- events were passed over.
+-- What is listed of a log: its name, where that is shown; what is shown of its units, in the order of the log; how these are sorted, and
+-- the choice of tables; and how many statements and how many damaged events were passed over.
 pub record LogList : Type 0 where
   pub name : Option (List ℕ)
   pub units : List Shown
+  pub sorting : Sorting
+  pub choice : Choice
   pub passed_over : ℕ
   pub damaged : ℕ
 

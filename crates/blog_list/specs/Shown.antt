@@ -16,6 +16,8 @@ use Rattle.blog_request.specs.declared.wanted.Concern.{Concern}
 use Rattle.blog_request.specs.declared.wanted.Concern.TheVariants.{Wanted as IsWanted, PassedOver, Other}
 use Rattle.blog_request.specs.declared.wanted.Wanted.{Wanted}
 use Rattle.blog_request.specs.Wanted.{concern_of, is_before, is_wanted_unit}
+use Rattle.blog_choice.specs.code.Views.{choice_value}
+use Rattle.blog_list.specs.declared.listing.Sorting.{Sorting}
 use Rattle.blog_list.specs.Lines.{LogList, Refusal, Shown}
 
 -- ---- what is shown
@@ -129,11 +131,13 @@ passed_over_of w log us = count_by (λ u. is_passed (concern_of w log u (changes
 abbrev pub wanted_shown : Wanted → List ℕ → (ℕ → ℕ) → List Shown
 wanted_shown w log place = map (shown log place) (wanted_of w log (map facts_of (units log)))
 
--- what is listed of a log with this name, in which so many damaged events were passed over
-abbrev pub log_list : Option (List ℕ) → Wanted → List ℕ → (ℕ → ℕ) → ℕ → LogList
-log_list name w log place damaged = record {
+-- what is listed of a log with this name, sorted so, in which so many damaged events were passed over
+abbrev pub log_list : Option (List ℕ) → Sorting → Wanted → List ℕ → (ℕ → ℕ) → ℕ → LogList
+log_list name sorting w log place damaged = record {
   name = name;
   units = wanted_shown w log place;
+  sorting = sorting;
+  choice = choice_value w.choice;
   passed_over = passed_over_of w log (map facts_of (units log));
   damaged = damaged;
 }

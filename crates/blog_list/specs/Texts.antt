@@ -9,6 +9,8 @@ use Rattle.blog_list.specs.declared.listing.Form.TheVariants.{Text, Json}
 use Rattle.blog_list.specs.Columns.{IsHeading}
 use Rattle.blog_list.specs.Json.{json_line, json_totals, totals_in}
 use Rattle.blog_list.specs.Lines.{LogList, Shown, header, name_line, totals_lines, unit_line}
+use Rattle.blog_list.specs.Sorted.{IsArranged}
+use Rattle.blog_list.specs.declared.listing.Sorting.TheVariants.{Place}
 use Rattle.blog_list.specs.Times.{IsRfc3339Text, IsTimeText}
 
 -- ---- what each form has
@@ -49,10 +51,10 @@ AreLines form zone gtids width name [] lines = lines ≡ []
 AreLines form zone gtids width name (s ∷ ss) lines =
     (line rest : List ℕ) × IsLine form zone gtids width name s line × AreLines form zone gtids width name ss rest × (lines ≡ line ++ rest)
 
--- what is listed of a log
+-- what is listed of a log: the lines of its units, which are sorted
 abbrev pub IsLogText : Form → TimeZone → Bool → ℕ → LogList → List ℕ → Type 0
-IsLogText form zone gtids width l text =
-    (lines : List ℕ) × AreLines form zone gtids width l.name l.units lines × (text ≡ name_above form l.name ++ lines)
+IsLogText form zone gtids width l text = (arranged : List Shown) × IsArranged l.sorting l.choice l.units arranged
+    × ((lines : List ℕ) × AreLines form zone gtids width l.name arranged lines × (text ≡ name_above form l.name ++ lines))
 
 abbrev pub AreLogTexts : Form → TimeZone → Bool → ℕ → List LogList → List ℕ → Type 0
 AreLogTexts form zone gtids width [] text = text ≡ []
@@ -69,9 +71,10 @@ IsUpTo form zone gtids ls text = (heading lines : List ℕ)
 abbrev pub IsListText : Form → TimeZone → Bool → List LogList → List ℕ → Type 0
 IsListText form zone gtids ls text = (front : List ℕ) × IsUpTo form zone gtids ls front × (text ≡ front ++ totals_of form ls)
 
--- the first units of a log, under its name
+-- what is listed of a log, or the first units of that, under its name
 abbrev pub IsPartOf : LogList → LogList → Type 0
-IsPartOf part l = (later : List Shown) × (part.units ++ later ≡ l.units) × (part.name ≡ l.name)
+IsPartOf part l = (part ≡ l) ⊎ ((arranged later : List Shown) × IsArranged l.sorting l.choice l.units arranged
+    × (part.units ++ later ≡ arranged) × (part.sorting ≡ Place) × (part.name ≡ l.name))
 
 -- the first logs, or none; of the last of them the first units
 abbrev pub AreFirst : List LogList → List LogList → Type 0

@@ -12,12 +12,13 @@ mod list_end;
 mod list_writer;
 mod listing;
 mod places;
+mod ranking;
 mod texts;
 mod times;
 mod totals;
 
 pub use laws::parts_are_a_list;
 pub use list_writer::ListWriter;
-pub use listing::{Form, Style, list, list_counted};
+pub use listing::{Form, Sorting, Style, list, list_counted};
 pub use times::{Side, TimeFault, rfc_3339_text, seconds_of, time_text};
 pub use totals::Totals;

@@ -9,6 +9,7 @@ ghost use Rattle.blog_event.specs.code.LogView.{log_bytes};
 ghost use Rattle.blog_event.specs.declared.fault.Fault.TheVariants.{OutOfMemory};
 ghost use Rattle.blog_device.specs.Devices.{AppendsBeginning, is_write_fault};
 ghost use Rattle.blog_device.specs.Watched.{device_of, has_failed};
+ghost use Rattle.blog_choice.specs.code.ChosenView.{names_choice};
 ghost use Rattle.blog_source.specs.code.SourceView.{damaged_of, log_of};
 ghost use Rattle.blog_request.specs.Wanted.{is_wanted};
 ghost use Rattle.blog_units.specs.Units.{facts_of, units};
@@ -18,14 +19,16 @@ ghost use Rattle.blog_list.specs.Lists.{Lists};
 ghost use Rattle.blog_list.specs.Shown.{last_whole, log_list};
 ghost use Rattle.blog_list.specs.Texts.{AppendsLog, AppendsLogBeginning, header_of, name_above, totals_of};
 ghost use Rattle.blog_list.specs.code.Held.{HasBegun, HasListed, HasWritten, has_no_memory};
+ghost use Rattle.blog_list.specs.code.Ranked.{HasBroken, HasHeld, HasKept, IsEmptyRanking};
 ghost use Rattle.blog_list.specs.code.Told.{PutsLineIn, end_listed, listed, shown_told, source_place};
 ghost use Rattle.blog_list.specs.code.Totals.{AreTotals, CountsLog, totals_put};
-ghost use Rattle.blog_list.specs.code.WriterView.{form_of, gtids_of, heading_of, zone_of};
+ghost use Rattle.blog_list.specs.code.WriterView.{form_of, gtids_of, heading_of, sheet_of, sorting_of, zone_of};
 
 use crate::column::TimeColumn;
 use crate::list_end::early_end;
-use crate::listing::{Form, Style};
+use crate::listing::{Form, Sorting, Style};
 use crate::places::wanted_inside;
+use crate::ranking::{Ranking, fewer};
 use crate::totals::Totals;
 use crate::{json, lines, totals};
 use blog_choice::ChosenNames;
@@ -59,6 +62,7 @@ impl<'z, A: Allocator + Copy> ListWriter<'z, A> {
     pub fn new(global: Global, alloc: A, style: &Style<'z>) -> Result<Self, AllocError>
         ensures form { IfOk result (λ list. form_of list ≡ style.now.form) }
         ensures gtids { IfOk result (λ list. gtids_of list ≡ style.now.gtids) }
+        ensures sorting { IfOk result (λ list. sorting_of list ≡ style.now.sorting) }
         ensures zone { IfOk result (λ list. zone_of list ≡ plain_zone style.now.zone) }
         ensures heading { IfOk result (λ list. IsHeading (plain_zone style.now.zone) (heading_of list)) }
     {
@@ -84,8 +88,8 @@ impl<'z, A: Allocator + Copy> ListWriter<'z, A> {
     }
 
     /// Writes a line for each wanted unit of the log of a source, and counts them. If there is a name, a line of it is above
-    /// theirs, or it is in each object of JSON. They are written while they are found, by some 64 KB at once. Positions that
-    /// are given and written are those of the server's log.
+    /// theirs, or it is in each object of JSON. In the order of the log they are written while they are found; they are written by
+    /// some 64 KB at once. Positions that are given and written are those of the server's log.
     ///
     /// Returns why the list of the log ends early, as `list`. Fails with `Log` of the fault of a log that can't be opened, of
     /// which nothing is written. The totals mean nothing after a failure.
@@ -100,9 +104,9 @@ impl<'z, A: Allocator + Copy> ListWriter<'z, A> {
         ensures refused { IsSome (opening_fault (log_of source.now)) → writer.new ≡ writer.old }
         ensures lists { Lists (log_of source.now) result }
         ensures mark { has_failed writer.new ≡ (has_failed writer.old || is_write_fault result) }
-        ensures text { OnOk result (AppendsLog (form_of self.now) (zone_of self.now) (gtids_of self.now) (length (heading_of self.now)) (listed (option_copied name.entry) source.now wanted.now) (O.contents (device_of writer.old)) (O.contents (device_of writer.new))) }
-        ensures beginning { OnErr result (AppendsLogBeginning (form_of self.now) (zone_of self.now) (gtids_of self.now) (length (heading_of self.now)) (listed (option_copied name.entry) source.now wanted.now) (O.contents (device_of writer.old)) (O.contents (device_of writer.new))) }
-        ensures counted { OnOk result (CountsLog totals.old totals.new (listed (option_copied name.entry) source.now wanted.now)) }
+        ensures text { OnOk result (AppendsLog (form_of self.now) (zone_of self.now) (gtids_of self.now) (length (heading_of self.now)) (listed (option_copied name.entry) (sorting_of self.now) source.now wanted.now) (O.contents (device_of writer.old)) (O.contents (device_of writer.new))) }
+        ensures beginning { OnErr result (AppendsLogBeginning (form_of self.now) (zone_of self.now) (gtids_of self.now) (length (heading_of self.now)) (listed (option_copied name.entry) (sorting_of self.now) source.now wanted.now) (O.contents (device_of writer.old)) (O.contents (device_of writer.new))) }
+        ensures counted { OnOk result (CountsLog totals.old totals.new (listed (option_copied name.entry) (sorting_of self.now) source.now wanted.now)) }
         ensures end { IfOk result (λ end. end ≡ end_listed source.now wanted.now) }
     {
         let log = match open_log(source, self.style.seed) {
@@ -145,9 +149,9 @@ impl<'z, A: Allocator + Copy> ListWriter<'z, A> {
     ) -> Result<Option<bool>, RunFault>
         ensures fault { IfErr result (λ e. (e ≡ RunFault.Log OutOfMemory) ⊎ (e ≡ RunFault.Write)) }
         ensures mark { has_failed writer.new ≡ (has_failed writer.old || is_write_fault result) }
-        ensures text { OnOk result (AppendsLog (form_of self.now) (zone_of self.now) (gtids_of self.now) (length (heading_of self.now)) (log_list (option_copied name.entry) wanted.now (log_bytes log.now) (source_place source.now) (damaged_of source.now)) (O.contents (device_of writer.old)) (O.contents (device_of writer.new))) }
-        ensures beginning { OnErr result (AppendsLogBeginning (form_of self.now) (zone_of self.now) (gtids_of self.now) (length (heading_of self.now)) (log_list (option_copied name.entry) wanted.now (log_bytes log.now) (source_place source.now) (damaged_of source.now)) (O.contents (device_of writer.old)) (O.contents (device_of writer.new))) }
-        ensures counted { OnOk result (CountsLog totals.old totals.new (log_list (option_copied name.entry) wanted.now (log_bytes log.now) (source_place source.now) (damaged_of source.now))) }
+        ensures text { OnOk result (AppendsLog (form_of self.now) (zone_of self.now) (gtids_of self.now) (length (heading_of self.now)) (log_list (option_copied name.entry) (sorting_of self.now) wanted.now (log_bytes log.now) (source_place source.now) (damaged_of source.now)) (O.contents (device_of writer.old)) (O.contents (device_of writer.new))) }
+        ensures beginning { OnErr result (AppendsLogBeginning (form_of self.now) (zone_of self.now) (gtids_of self.now) (length (heading_of self.now)) (log_list (option_copied name.entry) (sorting_of self.now) wanted.now (log_bytes log.now) (source_place source.now) (damaged_of source.now)) (O.contents (device_of writer.old)) (O.contents (device_of writer.new))) }
+        ensures counted { OnOk result (CountsLog totals.old totals.new (log_list (option_copied name.entry) (sorting_of self.now) wanted.now (log_bytes log.now) (source_place source.now) (damaged_of source.now))) }
         ensures end { IfOk result (λ whole. whole ≡ last_whole wanted.now.stop (map facts_of (units (log_bytes log.now)))) }
     {
         let mut text = Vec::new(self.alloc);
@@ -169,9 +173,47 @@ impl<'z, A: Allocator + Copy> ListWriter<'z, A> {
     ) -> Result<Option<bool>, RunFault>
         ensures fault { IfErr result (λ e. (e ≡ RunFault.Log OutOfMemory) ⊎ (e ≡ RunFault.Write)) }
         ensures mark { has_failed writer.new ≡ (has_failed writer.old || is_write_fault result) }
-        ensures text { OnOk result (HasListed (form_of self.now) (zone_of self.now) (gtids_of self.now) (length (heading_of self.now)) (log_list (option_copied name.entry) wanted.now (log_bytes log.now) (source_place source.now) (damaged_of source.now)) (O.contents (device_of writer.old)) (O.contents (device_of writer.new)) text.old.items text.new.items) }
-        ensures beginning { OnErr result (HasBegun (form_of self.now) (zone_of self.now) (gtids_of self.now) (length (heading_of self.now)) (log_list (option_copied name.entry) wanted.now (log_bytes log.now) (source_place source.now) (damaged_of source.now)) (O.contents (device_of writer.old)) (O.contents (device_of writer.new)) text.old.items) }
-        ensures counted { OnOk result (CountsLog totals.old totals.new (log_list (option_copied name.entry) wanted.now (log_bytes log.now) (source_place source.now) (damaged_of source.now))) }
+        ensures text { OnOk result (HasListed (form_of self.now) (zone_of self.now) (gtids_of self.now) (length (heading_of self.now)) (log_list (option_copied name.entry) (sorting_of self.now) wanted.now (log_bytes log.now) (source_place source.now) (damaged_of source.now)) (O.contents (device_of writer.old)) (O.contents (device_of writer.new)) text.old.items text.new.items) }
+        ensures beginning { OnErr result (HasBegun (form_of self.now) (zone_of self.now) (gtids_of self.now) (length (heading_of self.now)) (log_list (option_copied name.entry) (sorting_of self.now) wanted.now (log_bytes log.now) (source_place source.now) (damaged_of source.now)) (O.contents (device_of writer.old)) (O.contents (device_of writer.new)) text.old.items) }
+        ensures counted { OnOk result (CountsLog totals.old totals.new (log_list (option_copied name.entry) (sorting_of self.now) wanted.now (log_bytes log.now) (source_place source.now) (damaged_of source.now))) }
+        ensures end { IfOk result (λ whole. whole ≡ last_whole wanted.now.stop (map facts_of (units (log_bytes log.now)))) }
+    {
+        let mut ranking = Ranking::none(self.alloc);
+        let whole = self.put_units(
+            text,
+            &mut ranking,
+            source,
+            log,
+            name,
+            wanted,
+            totals,
+            writer,
+        )?;
+        match self.style.sorting {
+            Sorting::Place => {}
+            Sorting::Rows => ranking.put_lines(text, writer)?,
+        }
+        Ok(whole)
+    }
+
+    /// The same, but that lines which are to be sorted are held in a ranking, which is empty at first.
+    fn put_units<O: Write>(
+        &self,
+        text: &mut Vec<u8, A>,
+        ranking: &mut Ranking<A>,
+        source: &Source<A>,
+        log: &Log<'_>,
+        name: Option<&[u8]>,
+        wanted: &Wanted<'_>,
+        totals: &mut Totals,
+        writer: &mut Watched<O>,
+    ) -> Result<Option<bool>, RunFault>
+        requires { IsEmptyRanking ranking.old }
+        ensures fault { IfErr result (λ e. (e ≡ RunFault.Log OutOfMemory) ⊎ (e ≡ RunFault.Write)) }
+        ensures mark { has_failed writer.new ≡ (has_failed writer.old || is_write_fault result) }
+        ensures text { OnOk result (HasHeld (sheet_of self.now text.old.items) (log_list (option_copied name.entry) (sorting_of self.now) wanted.now (log_bytes log.now) (source_place source.now) (damaged_of source.now)) (O.contents (device_of writer.old)) (O.contents (device_of writer.new)) text.new.items ranking.new) }
+        ensures beginning { OnErr result (HasBegun (form_of self.now) (zone_of self.now) (gtids_of self.now) (length (heading_of self.now)) (log_list (option_copied name.entry) (sorting_of self.now) wanted.now (log_bytes log.now) (source_place source.now) (damaged_of source.now)) (O.contents (device_of writer.old)) (O.contents (device_of writer.new)) text.old.items) }
+        ensures counted { OnOk result (CountsLog totals.old totals.new (log_list (option_copied name.entry) (sorting_of self.now) wanted.now (log_bytes log.now) (source_place source.now) (damaged_of source.now))) }
         ensures end { IfOk result (λ whole. whole ≡ last_whole wanted.now.stop (map facts_of (units (log_bytes log.now)))) }
     {
         self.put_name(text, name)?;
@@ -189,11 +231,43 @@ impl<'z, A: Allocator + Copy> ListWriter<'z, A> {
             let concern = wanted.concern(&names, log, &unit);
             totals.count(concern, &unit);
             if is_listed(concern) {
-                self.put_unit(text, source, log, name, &unit)?;
-                write_full(text, writer)?;
+                self.keep_unit(text, ranking, &names, source, log, name, &unit, writer)?;
             }
         }
         Ok(Some(whole))
+    }
+
+    /// Appends the line of a unit, and writes what is collected once it is a chunk; or holds the line, if it is to be sorted.
+    fn keep_unit<O: Write>(
+        &self,
+        text: &mut Vec<u8, A>,
+        ranking: &mut Ranking<A>,
+        names: &ChosenNames<'_, A>,
+        source: &Source<A>,
+        log: &Log<'_>,
+        name: Option<&[u8]>,
+        unit: &Unit<'_, A>,
+        writer: &mut Watched<O>,
+    ) -> Result<(), RunFault>
+        ensures fault { IfErr result (λ e. (e ≡ RunFault.Log OutOfMemory) ⊎ (e ≡ RunFault.Write)) }
+        ensures mark { has_failed writer.new ≡ (has_failed writer.old || is_write_fault result) }
+        ensures text { OnOk result (HasKept (sorting_of self.now) (form_of self.now) self.now.times (gtids_of self.now) (names_choice names.now) (option_copied name.entry) (shown_told (log_bytes log.now) (source_place source.now) unit.now)
+            (O.contents (device_of writer.old)) (O.contents (device_of writer.new)) text.old.items text.new.items ranking.old ranking.new) }
+        ensures beginning { OnErr result (HasBroken (sorting_of self.now) (form_of self.now) self.now.times (gtids_of self.now) (option_copied name.entry) (shown_told (log_bytes log.now) (source_place source.now) unit.now)
+            (O.contents (device_of writer.old)) (O.contents (device_of writer.new)) text.old.items) }
+    {
+        match self.style.sorting {
+            Sorting::Place => {
+                self.put_unit(text, source, log, name, unit)?;
+                write_full(text, writer)
+            }
+            Sorting::Rows => {
+                let start = ranking.held.len();
+                self.put_unit(&mut ranking.held, source, log, name, unit)?;
+                ranking.add(fewer(&names.choice(), unit), start)?;
+                Ok(())
+            }
+        }
     }
 
     /// Appends the line above all others, if the form has one.
@@ -284,7 +358,7 @@ fn is_listed(concern: Concern) -> bool
 }
 
 /// Writes what is collected once it is a chunk.
-fn write_full<A: Allocator, O: Write>(
+pub(crate) fn write_full<A: Allocator, O: Write>(
     text: &mut Vec<u8, A>,
     writer: &mut Watched<O>,
 ) -> Result<(), RunFault>

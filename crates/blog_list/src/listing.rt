@@ -36,6 +36,15 @@ pub enum Form {
     Json,
 }
 
+/// In which order the units of a log are listed.
+#[derive(Clone, Copy, Debug, PartialEq, Eq)]
+pub enum Sorting {
+    /// In that of the log.
+    Place,
+    /// The most rows of chosen tables first, and those with as many in the order of the log. A unit that can't be undone has none.
+    Rows,
+}
+
 /// How a list is written.
 #[derive(Clone, Copy)]
 pub struct Style<'z> {
@@ -45,12 +54,15 @@ pub struct Style<'z> {
     pub zone: TimeZone<'z>,
     /// Whether lines of text have global transaction ids. Those of JSON always have.
     pub gtids: bool,
+    /// In which order units are listed. By rows, memory is taken for the lines of a log.
+    pub sorting: Sorting,
     /// The seed by which names and ids of tables are hashed (`Log::with_seed`). No line depends on it.
     pub seed: u64,
 }
 
 /// Lists the wanted units of a log: a line for each, a line that counts them, and a line each for the statements and for the
-/// damaged events that were passed over, if there were any. They are written while they are found, by some 64 KB at once.
+/// damaged events that were passed over, if there were any. In the order of the log they are written while they are found; they are
+/// written by some 64 KB at once.
 ///
 /// The log is that of a source. Positions that are given and written are those of the server's log.
 ///
@@ -71,8 +83,8 @@ pub fn list<A: Allocator + Copy, O: Write>(
     ensures refused { IsSome (opening_fault (log_of source.now)) → writer.new ≡ writer.old }
     ensures lists { Lists (log_of source.now) result }
     ensures mark { has_failed writer.new ≡ (has_failed writer.old || is_write_fault result) }
-    ensures text { OnOk result (AppendsList style.now.form (plain_zone style.now.zone) style.now.gtids (listed None source.now wanted.now ∷ []) (O.contents (device_of writer.old)) (O.contents (device_of writer.new))) }
-    ensures beginning { OnErr result (AppendsListBeginning style.now.form (plain_zone style.now.zone) style.now.gtids (listed None source.now wanted.now ∷ []) (O.contents (device_of writer.old)) (O.contents (device_of writer.new))) }
+    ensures text { OnOk result (AppendsList style.now.form (plain_zone style.now.zone) style.now.gtids (listed None style.now.sorting source.now wanted.now ∷ []) (O.contents (device_of writer.old)) (O.contents (device_of writer.new))) }
+    ensures beginning { OnErr result (AppendsListBeginning style.now.form (plain_zone style.now.zone) style.now.gtids (listed None style.now.sorting source.now wanted.now ∷ []) (O.contents (device_of writer.old)) (O.contents (device_of writer.new))) }
     ensures end { IfOk result (λ end. end ≡ end_listed source.now wanted.now) }
 {
     let mut totals = Totals::NONE;
@@ -92,8 +104,8 @@ pub fn list_counted<A: Allocator + Copy, O: Write>(
     ensures refused { IsSome (opening_fault (log_of source.now)) → writer.new ≡ writer.old }
     ensures lists { Lists (log_of source.now) result }
     ensures mark { has_failed writer.new ≡ (has_failed writer.old || is_write_fault result) }
-    ensures text { OnOk result (AppendsList style.now.form (plain_zone style.now.zone) style.now.gtids (listed None source.now wanted.now ∷ []) (O.contents (device_of writer.old)) (O.contents (device_of writer.new))) }
-    ensures beginning { OnErr result (AppendsListBeginning style.now.form (plain_zone style.now.zone) style.now.gtids (listed None source.now wanted.now ∷ []) (O.contents (device_of writer.old)) (O.contents (device_of writer.new))) }
+    ensures text { OnOk result (AppendsList style.now.form (plain_zone style.now.zone) style.now.gtids (listed None style.now.sorting source.now wanted.now ∷ []) (O.contents (device_of writer.old)) (O.contents (device_of writer.new))) }
+    ensures beginning { OnErr result (AppendsListBeginning style.now.form (plain_zone style.now.zone) style.now.gtids (listed None style.now.sorting source.now wanted.now ∷ []) (O.contents (device_of writer.old)) (O.contents (device_of writer.new))) }
     ensures end { IfOk result (λ end. end ≡ end_listed source.now wanted.now) }
 {
     let log = match open_log(source, style.seed) {
@@ -121,8 +133,8 @@ fn list_opened<A: Allocator + Copy, O: Write>(
 ) -> Result<Option<bool>, RunFault>
     ensures fault { IfErr result (λ e. (e ≡ RunFault.Log OutOfMemory) ⊎ (e ≡ RunFault.Write)) }
     ensures mark { has_failed writer.new ≡ (has_failed writer.old || is_write_fault result) }
-    ensures text { OnOk result (AppendsList style.now.form (plain_zone style.now.zone) style.now.gtids (log_list None wanted.now (log_bytes log.now) (source_place source.now) (damaged_of source.now) ∷ []) (O.contents (device_of writer.old)) (O.contents (device_of writer.new))) }
-    ensures beginning { OnErr result (AppendsListBeginning style.now.form (plain_zone style.now.zone) style.now.gtids (log_list None wanted.now (log_bytes log.now) (source_place source.now) (damaged_of source.now) ∷ []) (O.contents (device_of writer.old)) (O.contents (device_of writer.new))) }
+    ensures text { OnOk result (AppendsList style.now.form (plain_zone style.now.zone) style.now.gtids (log_list None style.now.sorting wanted.now (log_bytes log.now) (source_place source.now) (damaged_of source.now) ∷ []) (O.contents (device_of writer.old)) (O.contents (device_of writer.new))) }
+    ensures beginning { OnErr result (AppendsListBeginning style.now.form (plain_zone style.now.zone) style.now.gtids (log_list None style.now.sorting wanted.now (log_bytes log.now) (source_place source.now) (damaged_of source.now) ∷ []) (O.contents (device_of writer.old)) (O.contents (device_of writer.new))) }
     ensures end { IfOk result (λ whole. whole ≡ last_whole wanted.now.stop (map facts_of (units (log_bytes log.now)))) }
 {
     let list = ListWriter::new(global, alloc, style)?;

@@ -1,6 +1,6 @@
 //! What a list has, in numbers.
 
-ghost use Rattle.std.specs.Prelude.{◌≡◌, ◌++◌, OnOk, []};
+ghost use Rattle.std.specs.Prelude.{◌≡◌, ◌+◌, ◌++◌, OnOk, []};
 ghost use Rattle.blog_trans.specs.Changes.{counts_of};
 ghost use Rattle.blog_trans.specs.Groups.{groups};
 ghost use Rattle.blog_trans.specs.code.IndexView.{index_bytes, index_selection};
@@ -10,7 +10,7 @@ ghost use Rattle.blog_request.specs.Wanted.{changes_told};
 
 use blog_request::Concern;
 use blog_text::{put_number, put_text};
-use blog_trans::Index;
+use blog_trans::{Index, TableCount};
 use blog_units::Unit;
 use std::alloc::{AllocError, Allocator};
 
@@ -75,13 +75,18 @@ fn rows_of<A: Allocator>(index: &Index<'_, '_, A>) -> u64
 {
     let mut rows = 0_u64;
     for n in 0..index.tables() {
-        let count = index.table(n);
-        rows = rows
-            .saturating_add(count.inserts)
-            .saturating_add(count.updates)
-            .saturating_add(count.deletes);
+        rows = with_rows(rows, &index.table(n));
     }
     rows
+}
+
+/// Adds the rows of a table.
+pub(crate) fn with_rows(rows: u64, count: &TableCount<'_>) -> u64
+    ensures { result ≡ at_most (rows + (count.now.inserts + (count.now.updates + count.now.deletes))) }
+{
+    rows.saturating_add(count.inserts)
+        .saturating_add(count.updates)
+        .saturating_add(count.deletes)
 }
 
 /// Appends the last lines.

@@ -16,6 +16,8 @@ mod plain_tests;
 #[cfg(test)]
 mod size_tests;
 #[cfg(test)]
+mod sort_tests;
+#[cfg(test)]
 mod split_tests;
 #[cfg(test)]
 mod sql_tests;

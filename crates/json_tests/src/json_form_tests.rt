@@ -4,7 +4,7 @@
 use crate::json_lines::{lines_of, put_totals};
 use blog_device::Watched;
 use blog_event::Log;
-use blog_list::{Form, ListWriter, Style, Totals};
+use blog_list::{Form, ListWriter, Sorting, Style, Totals};
 use blog_source::{Reading, Source};
 use bstr::ByteSlice;
 use jiff::tz::{TimeZone, Tzif};
@@ -56,6 +56,7 @@ fn checked_lines(
         form: Form::Json,
         zone,
         gtids: false,
+        sorting: Sorting::Place,
         seed: 0,
     };
     let mut output = Watched::new(Vec::new(rt.alloc()));

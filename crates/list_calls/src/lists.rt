@@ -1,7 +1,7 @@
 //! How the lists of these tests are asked for.
 
 use blog_choice::{TableChoice, TableName};
-use blog_list::{Form, Style};
+use blog_list::{Form, Sorting, Style};
 use blog_request::Wanted;
 use jiff::tz::TimeZone;
 
@@ -59,6 +59,7 @@ pub const TEXT: Style<'static> = Style {
     form: Form::Text,
     zone: TimeZone::UTC,
     gtids: false,
+    sorting: Sorting::Place,
     seed: 0,
 };
 
@@ -67,5 +68,6 @@ pub const JSON: Style<'static> = Style {
     form: Form::Json,
     zone: TimeZone::UTC,
     gtids: false,
+    sorting: Sorting::Place,
     seed: 0,
 };

@@ -1,4 +1,4 @@
-//! Tests of lists of several logs, of ids that are asked for, and of the room of a line.
+//! Tests of lists of several logs, of ids that are asked for, of the room of a line, and of lists that are sorted.
 #![tactic(auto)]
 
 #[cfg(test)]
@@ -9,3 +9,5 @@ mod logs_tests;
 mod room_tests;
 #[cfg(test)]
 mod run_tests;
+#[cfg(test)]
+mod sort_tests;

@@ -16,43 +16,44 @@ use Rattle.list_run.specs.code.Turns.{OpensSource}
 use Rattle.list_run.specs.declared.fault.ListFault.{ListFault}
 use Rattle.list_run.specs.declared.fault.ListFault.TheVariants.{Run, Unread, EndsEarly}
 use Rattle.list_run.specs.declared.given.GivenLog.{GivenLog}
+use Rattle.blog_list.specs.declared.listing.Sorting.{Sorting}
 use Rattle.list_run.proofs.Going.{none-begun}
 use Rattle.list_run.proofs.One.{end-is, listed-is}
 
 -- how it is listed
-abbrev pub alone : Reading → Wanted → Listing
-alone how w = record { how = how; wanted = w; count = 1 }
+abbrev pub alone : Reading → Wanted → Sorting → Listing
+alone how w sorting = record { how = how; wanted = w; sorting = sorting; count = 1 }
 
-pub alone-listed : {R A : Type 0} (known : R → Option (List ℕ)) (form : Form) (zone : TimeZone) (gtids : Bool) (how : Reading) (w : Wanted) (given : GivenLog R) (source : Source A)
-    (end : Option SumFault) (had has : Option (List ℕ)) → OpensSource how (known (device_of given.reader)) (Ok source) → AppendsList form zone gtids (listed None source w ∷ []) had has
-    → end ≡ end_listed source w → HasListed known form zone gtids (alone how w) (given ∷ []) (or_later 0 end None) had has
-alone-listed known form zone gtids how w given source end had has (bytes, read, opened) list ends =
+pub alone-listed : {R A : Type 0} (known : R → Option (List ℕ)) (form : Form) (zone : TimeZone) (gtids : Bool) (how : Reading) (w : Wanted) (sorting : Sorting) (given : GivenLog R) (source : Source A)
+    (end : Option SumFault) (had has : Option (List ℕ)) → OpensSource how (known (device_of given.reader)) (Ok source) → AppendsList form zone gtids (listed None sorting source w ∷ []) had has
+    → end ≡ end_listed source w → HasListed known form zone gtids (alone how w sorting) (given ∷ []) (or_later 0 end None) had has
+alone-listed known form zone gtids how w sorting given source end had has (bytes, read, opened) list ends =
     let log : NamedLog = record { name = given.name.now; bytes = bytes } in (
       log ∷ [],
       ((refl, read), tt),
-      ap (λ (e : Option SumFault). or_later 0 e None) (sym (ends ∙ end-is (alone how w) 0 log source opened)),
-      subst (λ (l : LogList). AppendsList form zone gtids (l ∷ []) had has) (listed-is (alone how w) 0 log source None opened refl) list,
+      ap (λ (e : Option SumFault). or_later 0 e None) (sym (ends ∙ end-is (alone how w sorting) 0 log source opened)),
+      subst (λ (l : LogList). AppendsList form zone gtids (l ∷ []) had has) (listed-is (alone how w sorting) 0 log source None opened refl) list,
     )
 
-pub alone-begun : {R A : Type 0} (known : R → Option (List ℕ)) (form : Form) (zone : TimeZone) (gtids : Bool) (how : Reading) (w : Wanted) (given : GivenLog R) (source : Source A)
-    (had has : Option (List ℕ)) → OpensSource how (known (device_of given.reader)) (Ok source) → AppendsListBeginning form zone gtids (listed None source w ∷ []) had has
-    → HasBegun known form zone gtids (alone how w) (given ∷ []) had has
-alone-begun known form zone gtids how w given source had has (bytes, read, opened) begun =
+pub alone-begun : {R A : Type 0} (known : R → Option (List ℕ)) (form : Form) (zone : TimeZone) (gtids : Bool) (how : Reading) (w : Wanted) (sorting : Sorting) (given : GivenLog R) (source : Source A)
+    (had has : Option (List ℕ)) → OpensSource how (known (device_of given.reader)) (Ok source) → AppendsListBeginning form zone gtids (listed None sorting source w ∷ []) had has
+    → HasBegun known form zone gtids (alone how w sorting) (given ∷ []) had has
+alone-begun known form zone gtids how w sorting given source had has (bytes, read, opened) begun =
     let log : NamedLog = record { name = given.name.now; bytes = bytes } in (
       log ∷ [],
       ((refl, read), tt),
-      subst (λ (l : LogList). AppendsListBeginning form zone gtids (l ∷ []) had has) (listed-is (alone how w) 0 log source None opened refl) begun,
+      subst (λ (l : LogList). AppendsListBeginning form zone gtids (l ∷ []) had has) (listed-is (alone how w sorting) 0 log source None opened refl) begun,
     )
 
-pub alone-unopened : {R : Type 0} (A : Type 0) (known : R → Option (List ℕ)) (form : Form) (zone : TimeZone) (gtids : Bool) (how : Reading) (w : Wanted) (given : GivenLog R)
+pub alone-unopened : {R : Type 0} (A : Type 0) (known : R → Option (List ℕ)) (form : Form) (zone : TimeZone) (gtids : Bool) (how : Reading) (w : Wanted) (sorting : Sorting) (given : GivenLog R)
     (had : Option (List ℕ)) (fault : ListFault) → OpensSource {A = A} how (known (device_of given.reader)) (Err fault)
-    → ListsLogs known form zone gtids (alone how w) (given ∷ []) had had (Err (0, fault))
-alone-unopened A known form zone gtids how w given had (Run f) may = none-begun known form zone gtids (alone how w) (given ∷ []) had
-alone-unopened A known form zone gtids how w given had (Unread f) (bytes, read, refused) = (
+    → ListsLogs known form zone gtids (alone how w sorting) (given ∷ []) had had (Err (0, fault))
+alone-unopened A known form zone gtids how w sorting given had (Run f) may = none-begun known form zone gtids (alone how w sorting) (given ∷ []) had
+alone-unopened A known form zone gtids how w sorting given had (Unread f) (bytes, read, refused) = (
   ([], [], given, record { name = given.name.now; bytes = bytes }, refl, refl, (refl, read), refused),
-  none-begun known form zone gtids (alone how w) (given ∷ []) had,
+  none-begun known form zone gtids (alone how w sorting) (given ∷ []) had,
 )
-alone-unopened A known form zone gtids how w given had (EndsEarly f) none = absurd none
+alone-unopened A known form zone gtids how w sorting given had (EndsEarly f) none = absurd none
 
 -- the last of one is the one
 pub one-taken : {X : Type 0} (xs ys : List X) (x : X) → ys ≡ xs ++ x ∷ [] → length ys ≡ 1 → ys ≡ x ∷ []

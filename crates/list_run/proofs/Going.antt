@@ -164,12 +164,12 @@ whole known form zone gtids heading l givens all n end told totals had mid has i
 
 first-self : (ls : List LogList) → AreFirst ls ls
 first-self [] = tt
-first-self (x ∷ []) = ([], append-nil x.units, refl)
+first-self (x ∷ []) = inl refl
 first-self (x ∷ y ∷ ys) = (refl, first-self (y ∷ ys))
 
 first-front : (ls : List LogList) (last : LogList) → AreFirst ls (ls ++ last ∷ [])
 first-front [] last = tt
-first-front (x ∷ []) last = ([], append-nil x.units, refl)
+first-front (x ∷ []) last = inl refl
 first-front (x ∷ y ∷ ys) last = (refl, first-front (y ∷ ys) last)
 
 first-more : (ls : List LogList) (part last : LogList) → IsPartOf part last → AreFirst (ls ++ part ∷ []) (ls ++ last ∷ [])

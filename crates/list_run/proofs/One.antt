@@ -1,5 +1,5 @@
 -- What comes of one log of a list, by its parts.
-use Rattle.std.proofs.Common.{◌≡◌, ℕ, Bool, List, [], ◌∷◌, ◌++◌, length, map, Option, Some, None, Ok, Err, Result, refl, sym, ap, subst, ◌∙◌, append-nil, inl, inr}
+use Rattle.std.proofs.Common.{◌≡◌, ℕ, Bool, List, [], ◌∷◌, ◌++◌, length, map, Option, Some, None, Ok, Err, Result, refl, sym, ap, ap₂, subst, ◌∙◌, append-nil, inl, inr}
 use Rattle.std.specs.Prelude.{OnErr, OnOk, IfOk, option_map}
 use Rattle.std.specs.Io.KnownBytes.{Appends}
 use Rattle.std.proofs.KnownBytes.{Appends-trans}
@@ -29,16 +29,17 @@ use Rattle.list_run.specs.code.Turns.{IsOpened, ListsOne, ListsSource, OpensSour
 use Rattle.list_run.specs.declared.fault.ListFault.{ListFault}
 use Rattle.list_run.specs.declared.fault.ListFault.TheVariants.{Run, Unread, EndsEarly}
 use Rattle.list_run.specs.declared.given.GivenLog.{GivenLog}
+use Rattle.blog_list.specs.declared.listing.Sorting.{Sorting}
 use Rattle.list_run.proofs.Going.{behind}
 
 -- what is listed of a source is what is listed of the bytes that it was opened from
 pub listed-is : {A : Type 0} (l : Listing) (n : ℕ) (log : NamedLog) (source : Source A) (name : Option (List ℕ)) → IsOpened l.how log.bytes source → name ≡ name_shown l.count log.name
-    → listed name source (wanted_of l n) ≡ list_of l n log
+    → listed name l.sorting source (wanted_of l n) ≡ list_of l n log
 listed-is l n log source name o named =
-    ap (λ (shown : Option (List ℕ)). log_list shown (inside (log_of source) (wanted_of l n)) (log_of source) (place_of (log_of source) (read_end source)) (damaged_of source)) named
-    ∙ ap (λ (handed : List ℕ). log_list (name_shown l.count log.name) (inside handed (wanted_of l n)) handed (place_of handed (read_end source)) (damaged_of source)) o.log
-    ∙ ap (λ (at : ℕ). log_list (name_shown l.count log.name) (inside (handed_log l.how log.bytes) (wanted_of l n)) (handed_log l.how log.bytes) (place_of (handed_log l.how log.bytes) at) (damaged_of source)) o.end
-    ∙ ap (λ (count : ℕ). log_list (name_shown l.count log.name) (inside (handed_log l.how log.bytes) (wanted_of l n)) (handed_log l.how log.bytes) (place_of (handed_log l.how log.bytes) (found_of l.how log.bytes).end) count) o.damaged
+    ap (λ (shown : Option (List ℕ)). log_list shown l.sorting (inside (log_of source) (wanted_of l n)) (log_of source) (place_of (log_of source) (read_end source)) (damaged_of source)) named
+    ∙ ap (λ (handed : List ℕ). log_list (name_shown l.count log.name) l.sorting (inside handed (wanted_of l n)) handed (place_of handed (read_end source)) (damaged_of source)) o.log
+    ∙ ap (λ (at : ℕ). log_list (name_shown l.count log.name) l.sorting (inside (handed_log l.how log.bytes) (wanted_of l n)) (handed_log l.how log.bytes) (place_of (handed_log l.how log.bytes) at) (damaged_of source)) o.end
+    ∙ ap (λ (count : ℕ). log_list (name_shown l.count log.name) l.sorting (inside (handed_log l.how log.bytes) (wanted_of l n)) (handed_log l.how log.bytes) (place_of (handed_log l.how log.bytes) (found_of l.how log.bytes).end) count) o.damaged
 
 pub end-is : {A : Type 0} (l : Listing) (n : ℕ) (log : NamedLog) (source : Source A) → IsOpened l.how log.bytes source → end_listed source (wanted_of l n) ≡ end_of l n log
 end-is l n log source o =
@@ -52,24 +53,25 @@ end-is l n log source o =
 -- the log of a source is listed below what is above it
 source-listed : {A : Type 0} (form : Form) (zone : TimeZone) (gtids : Bool) (heading : List ℕ) (source : Source A) (name : Option (List ℕ)) (l : Listing) (n : ℕ) (old new : Totals)
     (had mid has : Option (List ℕ)) (result : Result (Option SumFault) RunFault) → Appends had mid (above form n gtids heading)
-    → OnOk result (AppendsLog form zone gtids (length heading) (listed name source (wanted_of l n)) mid has)
-    → OnErr result (AppendsLogBeginning form zone gtids (length heading) (listed name source (wanted_of l n)) mid has)
-    → OnOk result (CountsLog old new (listed name source (wanted_of l n))) → IfOk result (λ end. end ≡ end_listed source (wanted_of l n))
+    → OnOk result (AppendsLog form zone gtids (length heading) (listed name l.sorting source (wanted_of l n)) mid has)
+    → OnErr result (AppendsLogBeginning form zone gtids (length heading) (listed name l.sorting source (wanted_of l n)) mid has)
+    → OnOk result (CountsLog old new (listed name l.sorting source (wanted_of l n))) → IfOk result (λ end. end ≡ end_listed source (wanted_of l n))
     → ListsSource form zone gtids heading source name l n old new had has result
 source-listed form zone gtids heading source name l n old new had mid has (Ok end) front (text, is, appended) begun counted ends =
     (ends, counted, (text, is, Appends-trans had mid has (above form n gtids heading) text front appended))
 source-listed form zone gtids heading source name l n old new had mid has (Err fault) front whole (text, is, begun) counted ends =
     (text, is, behind had mid has (above form n gtids heading) text front begun)
 
-pub source-given : {A : Type 0} (form : Form) (zone : TimeZone) (gtids : Bool) (heading : List ℕ) (source : Source A) (name : Option (List ℕ)) (l : Listing) (n : ℕ) (w : Wanted) (old new : Totals)
-    (had mid has : Option (List ℕ)) (result : Result (Option SumFault) RunFault) → w ≡ wanted_of l n → Appends had mid (above form n gtids heading)
-    → OnOk result (AppendsLog form zone gtids (length heading) (listed name source w) mid has) → OnErr result (AppendsLogBeginning form zone gtids (length heading) (listed name source w) mid has)
-    → OnOk result (CountsLog old new (listed name source w)) → IfOk result (λ end. end ≡ end_listed source w) → ListsSource form zone gtids heading source name l n old new had has result
-source-given form zone gtids heading source name l n w old new had mid has result same front whole begun counted ends =
+pub source-given : {A : Type 0} (form : Form) (zone : TimeZone) (gtids : Bool) (sorting : Sorting) (heading : List ℕ) (source : Source A) (name : Option (List ℕ)) (l : Listing) (n : ℕ) (w : Wanted) (old new : Totals)
+    (had mid has : Option (List ℕ)) (result : Result (Option SumFault) RunFault) → sorting ≡ l.sorting → w ≡ wanted_of l n → Appends had mid (above form n gtids heading)
+    → OnOk result (AppendsLog form zone gtids (length heading) (listed name sorting source w) mid has) → OnErr result (AppendsLogBeginning form zone gtids (length heading) (listed name sorting source w) mid has)
+    → OnOk result (CountsLog old new (listed name sorting source w)) → IfOk result (λ end. end ≡ end_listed source w) → ListsSource form zone gtids heading source name l n old new had has result
+source-given form zone gtids sorting heading source name l n w old new had mid has result sorted same front whole begun counted ends =
+    let list = ap₂ (λ (s : Sorting) (v : Wanted). listed name s source v) sorted same in
     source-listed form zone gtids heading source name l n old new had mid has result front
-    (subst (λ (v : Wanted). OnOk result (AppendsLog form zone gtids (length heading) (listed name source v) mid has)) same whole)
-    (subst (λ (v : Wanted). OnErr result (AppendsLogBeginning form zone gtids (length heading) (listed name source v) mid has)) same begun)
-    (subst (λ (v : Wanted). OnOk result (CountsLog old new (listed name source v))) same counted)
+    (subst (λ (x : LogList). OnOk result (AppendsLog form zone gtids (length heading) x mid has)) list whole)
+    (subst (λ (x : LogList). OnErr result (AppendsLogBeginning form zone gtids (length heading) x mid has)) list begun)
+    (subst (λ (x : LogList). OnOk result (CountsLog old new x)) list counted)
     (subst (λ (v : Wanted). IfOk result (λ end. end ≡ end_listed source v)) same ends)
 
 -- what is above it is not written whole
@@ -85,7 +87,7 @@ pub one-listed : {R A : Type 0} (known : R → Option (List ℕ)) (form : Form) 
     → ListsOne known form zone gtids heading l n given old new had has (Ok end)
 one-listed known form zone gtids heading l n given source name old new had has end (bytes, read, opened) named (ends, counts, (text, is, appended)) =
     let log : NamedLog = record { name = given.name.now; bytes = bytes } in
-    let same : listed name source (wanted_of l n) ≡ list_of l n log = listed-is l n log source name opened named in (
+    let same : listed name l.sorting source (wanted_of l n) ≡ list_of l n log = listed-is l n log source name opened named in (
       log,
       (refl, read),
       ends ∙ end-is l n log source opened,

@@ -7,6 +7,7 @@ use Rattle.blog_device.specs.declared.fault.RunFault.TheVariants.{Log, Read, Wri
 use Rattle.blog_device.specs.Watched.{device_of}
 use Rattle.blog_list.specs.Lines.{LogList}
 use Rattle.blog_list.specs.declared.listing.Form.{Form}
+use Rattle.blog_list.specs.declared.listing.Sorting.{Sorting}
 use Rattle.blog_list.specs.Lists.{list_end}
 use Rattle.blog_list.specs.Shown.{last_whole, log_list}
 use Rattle.blog_list.specs.Texts.{AppendsList, AppendsListBeginning}
@@ -27,10 +28,12 @@ pub record NamedLog : Type 0 where
   pub name : List ℕ
   pub bytes : List ℕ
 
--- Which logs are listed, and how: how each is read, what is wanted of them, and how many they are.
+-- Which logs are listed, and how: how each is read, what is wanted of them, how their units are sorted, each log's by themselves, and how many
+-- logs they are.
 pub record Listing : Type 0 where
   pub how : Reading
   pub wanted : Wanted
+  pub sorting : Sorting
   pub count : ℕ
 
 -- Their names are shown where they are several.
@@ -49,7 +52,7 @@ abbrev pub list_of : Listing → ℕ → NamedLog → LogList
 list_of l n log =
     let handed = handed_log l.how log.bytes in
     let found = found_of l.how log.bytes in
-    log_list (name_shown l.count log.name) (inside handed (wanted_of l n)) handed (place_of handed found.end) found.damaged
+    log_list (name_shown l.count log.name) l.sorting (inside handed (wanted_of l n)) handed (place_of handed found.end) found.damaged
 
 -- why its list ends early
 abbrev pub end_of : Listing → ℕ → NamedLog → Option SumFault

@@ -11,7 +11,7 @@ ghost use Rattle.std.specs.Io.KnownBytes.{Appends};
 ghost use Rattle.blog_source.specs.Found.{source_refusal};
 ghost use Rattle.blog_source.specs.code.SourceView.{log_of};
 ghost use Rattle.std.specs.Result.{result_err};
-ghost use Rattle.blog_list.specs.code.WriterView.{form_of, gtids_of, heading_of, zone_of};
+ghost use Rattle.blog_list.specs.code.WriterView.{form_of, gtids_of, heading_of, sorting_of, zone_of};
 ghost use Rattle.list_run.specs.Listed.{ListsLogs, MayFollow, has_failed_write, name_shown, wanted_of};
 ghost use Rattle.list_run.specs.code.Turns.{ListsOne, IsOpened, above, ListsSource, OpensSource, earlier, is_failed_write, listing_of};
 
@@ -19,7 +19,7 @@ use crate::fault::ListFault;
 use crate::given::GivenLog;
 use blog_device::{RunFault, Watched, read_log};
 use blog_event::{Fault, Log};
-use blog_list::{ListWriter, Style, Totals, list_counted};
+use blog_list::{ListWriter, Sorting, Style, Totals, list_counted};
 use blog_reasons::Reasons;
 use blog_request::Wanted;
 use blog_source::{Reading, Source, handed_logs_open};
@@ -34,6 +34,8 @@ struct Turn<'w> {
     how: Reading,
     /// What is wanted of them.
     wanted: &'w Wanted<'w>,
+    /// How the units of each are sorted.
+    sorting: Sorting,
     /// The seed by which names of tables are looked up.
     seed: u64,
     /// How many they are.
@@ -43,7 +45,8 @@ struct Turn<'w> {
 }
 
 /// Lists the wanted units of logs, which are read in turn, one at a time in memory. Where there are several logs, what is listed
-/// of each stands below its name, or has it in each object of JSON. The last lines have the totals of all.
+/// of each stands below its name, or has it in each object of JSON. The last lines have the totals of all. The units of each log are sorted by
+/// themselves.
 ///
 /// A start of what is wanted is one of the first log, and a stop one of the last. Each log is listed up to its end, and so are
 /// those behind a log that ends early, or is damaged behind what was listed: `EndsEarly` of the first of these, by its number from
@@ -65,7 +68,7 @@ pub fn list_logs<A: Allocator + Copy, R: Read + Drop, W: Write>(
     writer: &mut Watched<W>,
 ) -> Result<(), (usize, ListFault)>
     ensures text { 0 < length logs.entry.items → ListsLogs R.remaining style.now.form (plain_zone style.now.zone) style.now.gtids
-        (record { how = how; wanted = wanted.now; count = length logs.entry.items }) logs.entry.items (W.contents (device_of writer.old)) (W.contents (device_of writer.new)) result }
+        (record { how = how; wanted = wanted.now; sorting = style.now.sorting; count = length logs.entry.items }) logs.entry.items (W.contents (device_of writer.old)) (W.contents (device_of writer.new)) result }
     ensures mark { has_failed writer.new ≡ (has_failed writer.old || has_failed_write result) }
 
     // Where nothing can be read of the first log, nothing is written.
@@ -92,7 +95,7 @@ fn list_alone<A: Allocator + Copy, R: Read + Drop, W: Write>(
     writer: &mut Watched<W>,
 ) -> Result<(), (usize, ListFault)>
     ensures text { ListsLogs R.remaining style.now.form (plain_zone style.now.zone) style.now.gtids
-        (record { how = how; wanted = wanted.now; count = 1 }) (given.entry ∷ []) (W.contents (device_of writer.old)) (W.contents (device_of writer.new)) result }
+        (record { how = how; wanted = wanted.now; sorting = style.now.sorting; count = 1 }) (given.entry ∷ []) (W.contents (device_of writer.old)) (W.contents (device_of writer.new)) result }
     ensures mark { has_failed writer.new ≡ (has_failed writer.old || has_failed_write result) }
     ensures unwritten { IfErr result (λ e. (writer.new ≡ writer.old) ⊎ MayFollow e.1) }
 {
@@ -130,7 +133,7 @@ fn list_several<A: Allocator + Copy, R: Read + Drop, W: Write>(
     writer: &mut Watched<W>,
 ) -> Result<(), (usize, ListFault)>
     ensures text { 0 < length logs.entry.items → ListsLogs R.remaining style.now.form (plain_zone style.now.zone) style.now.gtids
-        (record { how = how; wanted = wanted.now; count = length logs.entry.items }) logs.entry.items (W.contents (device_of writer.old)) (W.contents (device_of writer.new)) result }
+        (record { how = how; wanted = wanted.now; sorting = style.now.sorting; count = length logs.entry.items }) logs.entry.items (W.contents (device_of writer.old)) (W.contents (device_of writer.new)) result }
     ensures mark { has_failed writer.new ≡ (has_failed writer.old || has_failed_write result) }
     ensures unwritten { IfErr result (λ e. ((0 < e.0) × (1 < length logs.entry.items)) ⊎ (writer.new ≡ writer.old) ⊎ MayFollow e.1) }
 {
@@ -141,6 +144,7 @@ fn list_several<A: Allocator + Copy, R: Read + Drop, W: Write>(
     let mut turn = Turn {
         how,
         wanted,
+        sorting: style.sorting,
         seed: style.seed,
         count: logs.len(),
         n: 0,
@@ -192,7 +196,8 @@ fn list_one<A: Allocator + Copy, R: Read + Drop, W: Write>(
     reasons: &mut Option<Reasons<'_, A>>,
     writer: &mut Watched<W>,
 ) -> Result<Option<SumFault>, ListFault>
-    requires { turn.now.n < turn.now.count }
+    requires number { turn.now.n < turn.now.count }
+    requires sorting { sorting_of list.now ≡ turn.now.sorting }
     ensures text { ListsOne R.remaining (form_of list.now) (zone_of list.now) (gtids_of list.now) (heading_of list.now) (listing_of turn.now) turn.now.n
         given.entry totals.old totals.new (W.contents (device_of writer.old)) (W.contents (device_of writer.new)) result }
     ensures mark { has_failed writer.new ≡ (has_failed writer.old || is_failed_write result) }
@@ -271,7 +276,8 @@ fn list_source<A: Allocator + Copy, W: Write>(
     totals: &mut Totals,
     writer: &mut Watched<W>,
 ) -> Result<Option<SumFault>, RunFault>
-    requires { turn.now.n < turn.now.count }
+    requires number { turn.now.n < turn.now.count }
+    requires sorting { sorting_of list.now ≡ turn.now.sorting }
     ensures text { ListsSource (form_of list.now) (zone_of list.now) (gtids_of list.now) (heading_of list.now) source.now (option_copied name.entry) (listing_of turn.now) turn.now.n
         totals.old totals.new (W.contents (device_of writer.old)) (W.contents (device_of writer.new)) result }
     ensures mark { has_failed writer.new ≡ (has_failed writer.old || is_write_fault result) }

@@ -9,6 +9,15 @@ use Rattle.blog_list.specs.declared.listing.Form.{Form}
 use Rattle.blog_list.specs.Lines.{LogList}
 use Rattle.blog_list.specs.Texts.{IsLogBegun, IsLogText}
 
+-- how lines are written: in this form, in this zone, with ids or without, with times in a column of this width, behind what was
+-- held before
+pub record Sheet : Type 0 where
+  pub form : Form
+  pub zone : TimeZone
+  pub gtids : Bool
+  pub width : ℕ
+  pub before : List ℕ
+
 -- a part of what was held is written, and the rest is still held
 abbrev pub HasWritten : Option (List ℕ) → Option (List ℕ) → List ℕ → List ℕ → Type 0
 HasWritten old new before after = (part : List ℕ) × Appends old new part × (part ++ after ≡ before)

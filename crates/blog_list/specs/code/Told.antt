@@ -11,6 +11,7 @@ use Rattle.blog_units.specs.declared.unit.Unit.{Unit}
 use Rattle.blog_units.specs.code.UnitsView.{facts_told}
 use Rattle.blog_list.specs.declared.column.TimeColumn.{TimeColumn}
 use Rattle.blog_list.specs.declared.listing.Form.{Form}
+use Rattle.blog_list.specs.declared.listing.Sorting.{Sorting}
 use Rattle.blog_request.specs.declared.wanted.Wanted.{Wanted}
 use Rattle.blog_list.specs.Lines.{LogList, Shown}
 use Rattle.blog_list.specs.Lists.{list_end}
@@ -44,9 +45,9 @@ PutsLineIn form column gtids name s old new =
 abbrev pub inside : List ℕ → Wanted → Wanted
 inside log w = record w { start = option_map (position_of log) w.start; stop = option_map (position_of log) w.stop }
 
--- what is listed of a source, under this name
-abbrev pub listed : {A : Type 0} → Option (List ℕ) → Source A → Wanted → LogList
-listed name source w = log_list name (inside (log_of source) w) (log_of source) (source_place source) (damaged_of source)
+-- what is listed of a source, under this name and sorted so
+abbrev pub listed : {A : Type 0} → Option (List ℕ) → Sorting → Source A → Wanted → LogList
+listed name sorting source w = log_list name sorting (inside (log_of source) w) (log_of source) (source_place source) (damaged_of source)
 
 -- why that list ends early
 abbrev pub end_listed : {A : Type 0} → Source A → Wanted → Option SumFault

@@ -27,7 +27,7 @@ use Rattle.list_run.specs.declared.listed.Turn.{Turn}
 
 -- of which listing a turn is
 abbrev pub listing_of : Turn → Listing
-listing_of turn = record { how = turn.how; wanted = turn.wanted.now; count = turn.count }
+listing_of turn = record { how = turn.how; wanted = turn.wanted.now; sorting = turn.sorting; count = turn.count }
 
 -- the answer is that a write failed
 abbrev pub is_failed_write : {X : Type 0} → Result X ListFault → Bool
@@ -75,7 +75,7 @@ ListsOne known form zone gtids heading l n given old new had has (Err (EndsEarly
 -- what comes of listing the log of a source, the n-th, under this name
 abbrev pub ListsSource : {A : Type 0} → Form → TimeZone → Bool → List ℕ → Source A → Option (List ℕ) → Listing → ℕ → Totals → Totals → Option (List ℕ) → Option (List ℕ) → Result (Option SumFault) RunFault → Type 0
 ListsSource form zone gtids heading source name l n old new had has (Ok end) =
-    (end ≡ end_listed source (wanted_of l n)) × CountsLog old new (listed name source (wanted_of l n))
-    × ((text : List ℕ) × IsLogText form zone gtids (length heading) (listed name source (wanted_of l n)) text × Appends had has (above form n gtids heading ++ text))
+    (end ≡ end_listed source (wanted_of l n)) × CountsLog old new (listed name l.sorting source (wanted_of l n))
+    × ((text : List ℕ) × IsLogText form zone gtids (length heading) (listed name l.sorting source (wanted_of l n)) text × Appends had has (above form n gtids heading ++ text))
 ListsSource form zone gtids heading source name l n old new had has (Err fault) =
-    (text : List ℕ) × IsLogBegun form zone gtids (length heading) (listed name source (wanted_of l n)) text × AppendsBeginning had has (above form n gtids heading ++ text)
+    (text : List ℕ) × IsLogBegun form zone gtids (length heading) (listed name l.sorting source (wanted_of l n)) text × AppendsBeginning had has (above form n gtids heading ++ text)

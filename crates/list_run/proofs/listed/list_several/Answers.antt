@@ -20,14 +20,14 @@ use Rattle.list_run.proofs.listed.list_several.Goals as goal
 
 pub returns-in-Err-clause-text : goal.returns-in-Err-clause-text
 returns-in-Err-clause-text g c some =
-    none-begun g.R.Read.remaining c.args.style.now.form (plain_zone c.args.style.now.zone) c.args.style.now.gtids (record { how = c.args.how; wanted = c.args.wanted.now; count = length c.args.logs.items }) c.args.logs.items
+    none-begun g.R.Read.remaining c.args.style.now.form (plain_zone c.args.style.now.zone) c.args.style.now.gtids (record { how = c.args.how; wanted = c.args.wanted.now; sorting = c.args.style.now.sorting; count = length c.args.logs.items }) c.args.logs.items
     (g.W.Write.contents (device_of c.args.writer.now))
 
 pub returns-in-Err-list_one-clause-text : goal.returns-in-Err-list_one-clause-text
 returns-in-Err-list_one-clause-text g c some =
     let at = c.logs in
-    let listing : listing_of at.turn ≡ record { how = c.args.how; wanted = c.args.wanted.now; count = length c.args.logs.items } =
-    at.invariant.listing ∙ ap (λ (n : ℕ). record { how = c.args.how; wanted = c.args.wanted.now; count = n }) (omega (arith, c.len.ensures)) in
+    let listing : listing_of at.turn ≡ record { how = c.args.how; wanted = c.args.wanted.now; sorting = c.args.style.now.sorting; count = length c.args.logs.items } =
+    at.invariant.listing ∙ ap (λ (n : ℕ). record { how = c.args.how; wanted = c.args.wanted.now; sorting = c.args.style.now.sorting; count = n }) (omega (arith, c.len.ensures)) in
     let lists = of-style g.R.Read.remaining c.args.style.now.form (form_of c.in-Ok.list) (plain_zone c.args.style.now.zone) (zone_of c.in-Ok.list) c.args.style.now.gtids (gtids_of c.in-Ok.list) (heading_of c.in-Ok.list) (listing_of at.turn) at.turn.n c.in-Some.given at.totals c.list_one.new.totals
     (g.W.Write.contents (device_of at.writer)) (g.W.Write.contents (device_of c.list_one.new.writer)) (Err c.in-Err-list_one.fault) c.in-Ok.ensures.form c.in-Ok.ensures.zone c.in-Ok.ensures.gtids c.in-Err-list_one.ensures.text in
     subst (λ (l : Listing). ListsLogs g.R.Read.remaining c.args.style.now.form (plain_zone c.args.style.now.zone) c.args.style.now.gtids l c.args.logs.items (g.W.Write.contents (device_of c.args.writer.now))
@@ -67,8 +67,8 @@ pub returns-in-Err-write_totals-clause-text : goal.returns-in-Err-write_totals-c
 returns-in-Err-write_totals-clause-text g c some =
     let at = c.logs in
     let all = all-taken at.yielded (into_iter_items at.given-iterator) c.args.logs.items at.invariant.rest (at.invariant.left ∙ c.in-None.ensures.steps.0) in
-    let listing : listing_of at.turn ≡ record { how = c.args.how; wanted = c.args.wanted.now; count = length c.args.logs.items } =
-    at.invariant.listing ∙ ap (λ (n : ℕ). record { how = c.args.how; wanted = c.args.wanted.now; count = n }) (omega (arith, c.len.ensures)) in
+    let listing : listing_of at.turn ≡ record { how = c.args.how; wanted = c.args.wanted.now; sorting = c.args.style.now.sorting; count = length c.args.logs.items } =
+    at.invariant.listing ∙ ap (λ (n : ℕ). record { how = c.args.how; wanted = c.args.wanted.now; sorting = c.args.style.now.sorting; count = n }) (omega (arith, c.len.ensures)) in
     subst (λ (l : Listing). HasBegun g.R.Read.remaining c.args.style.now.form (plain_zone c.args.style.now.zone) c.args.style.now.gtids l c.args.logs.items (g.W.Write.contents (device_of c.args.writer.now))
     (g.W.Write.contents (device_of c.write_totals.new.writer))) listing
     (stopped-after g.R.Read.remaining c.args.style.now.form (plain_zone c.args.style.now.zone) c.args.style.now.gtids (heading_of c.in-Ok.list) (listing_of at.turn) at.yielded c.args.logs.items at.turn.n at.end at.totals _ _ _
@@ -78,8 +78,8 @@ pub returns-in-Some-end-clause-text : goal.returns-in-Some-end-clause-text
 returns-in-Some-end-clause-text g c some =
     let at = c.logs in
     let all = all-taken at.yielded (into_iter_items at.given-iterator) c.args.logs.items at.invariant.rest (at.invariant.left ∙ c.in-None.ensures.steps.0) in
-    let listing : listing_of at.turn ≡ record { how = c.args.how; wanted = c.args.wanted.now; count = length c.args.logs.items } =
-    at.invariant.listing ∙ ap (λ (n : ℕ). record { how = c.args.how; wanted = c.args.wanted.now; count = n }) (omega (arith, c.len.ensures)) in
+    let listing : listing_of at.turn ≡ record { how = c.args.how; wanted = c.args.wanted.now; sorting = c.args.style.now.sorting; count = length c.args.logs.items } =
+    at.invariant.listing ∙ ap (λ (n : ℕ). record { how = c.args.how; wanted = c.args.wanted.now; sorting = c.args.style.now.sorting; count = n }) (omega (arith, c.len.ensures)) in
     subst (λ (l : Listing). HasListed g.R.Read.remaining c.args.style.now.form (plain_zone c.args.style.now.zone) c.args.style.now.gtids l c.args.logs.items (Some (c.in-Some-end.n, c.in-Some-end.fault)) (g.W.Write.contents (device_of c.args.writer.now))
     (g.W.Write.contents (device_of c.write_totals.new.writer))) listing
     (whole g.R.Read.remaining c.args.style.now.form (plain_zone c.args.style.now.zone) c.args.style.now.gtids (heading_of c.in-Ok.list) (listing_of at.turn) at.yielded c.args.logs.items at.turn.n at.end (Some (c.in-Some-end.n, c.in-Some-end.fault)) at.totals _ _ _
@@ -89,8 +89,8 @@ pub returns-clause-text : goal.returns-clause-text
 returns-clause-text g c some =
     let at = c.logs in
     let all = all-taken at.yielded (into_iter_items at.given-iterator) c.args.logs.items at.invariant.rest (at.invariant.left ∙ c.in-None.ensures.steps.0) in
-    let listing : listing_of at.turn ≡ record { how = c.args.how; wanted = c.args.wanted.now; count = length c.args.logs.items } =
-    at.invariant.listing ∙ ap (λ (n : ℕ). record { how = c.args.how; wanted = c.args.wanted.now; count = n }) (omega (arith, c.len.ensures)) in
+    let listing : listing_of at.turn ≡ record { how = c.args.how; wanted = c.args.wanted.now; sorting = c.args.style.now.sorting; count = length c.args.logs.items } =
+    at.invariant.listing ∙ ap (λ (n : ℕ). record { how = c.args.how; wanted = c.args.wanted.now; sorting = c.args.style.now.sorting; count = n }) (omega (arith, c.len.ensures)) in
     subst (λ (l : Listing). HasListed g.R.Read.remaining c.args.style.now.form (plain_zone c.args.style.now.zone) c.args.style.now.gtids l c.args.logs.items None (g.W.Write.contents (device_of c.args.writer.now))
     (g.W.Write.contents (device_of c.write_totals.new.writer))) listing
     (whole g.R.Read.remaining c.args.style.now.form (plain_zone c.args.style.now.zone) c.args.style.now.gtids (heading_of c.in-Ok.list) (listing_of at.turn) at.yielded c.args.logs.items at.turn.n at.end None at.totals _ _ _
