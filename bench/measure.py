@@ -107,6 +107,10 @@ def is_same_as_mariadb(undo, text):
     return subprocess.run([sys.executable, script, undo, text]).returncode == 0
 
 
+# how many times as fast as the plain program flashback is at least: what is to be reached in these shapes, less a tenth
+LEAST = {"null_rows": 0.9, "half_null": 0.9, "many_events": 0.9, "tiny_rows": 0.9, "repeated_map": 0.9}
+
+
 class Tables:
     def __init__(self):
         heads = "| ".join(f"{name} " for name in NAMES)
@@ -165,6 +169,9 @@ def main(plain, mariadb, flashback, runs, limit, out, *logs):
         if "mariadb-binlog" in best and not is_same_as_mariadb(undo[0], undo[2]):
             status = 1
         tables.add(shape, (size, events, largest_event(log)), best)
+        if "flashback" in best and best["plain"].wall < LEAST.get(shape, 0) * best["flashback"].wall:
+            print(f"{shape}: flashback isn't {LEAST[shape]} times as fast as the plain program", file=sys.stderr)
+            status = 1
     print(tables)
     return status
 

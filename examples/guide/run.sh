@@ -3,11 +3,15 @@
 #     examples/guide/run.sh PROGRAM BINLOG
 # The commands are read from the README. What is put in their place is what differs here: the server's folder and socket,
 # the times, the positions that are found, the size at which statements are cut, so that they are cut at all, and the
-# option that MariaDB's mysqldump doesn't have. The log is brought into the profile by profile.py. At the end the rows have to be as before the mistake, and after step 10 as after it.
+# option that MariaDB's mysqldump doesn't have. A copy of the log is brought into the profile by profile.py, and read in
+# place of the server's. The rows have to be as before the mistake after step 7, and as after it after step 9; the same
+# again by flashback.
 set -eu
 here=$(cd "$(dirname "$0")/../.." && pwd)
 work=$(mktemp -d)
-mkdir "$work/bin" "$work/data"
+mkdir "$work/bin" "$work/data" "$work/logs" "$work/home"
+HOME=$work/home
+export HOME
 cp "$1" "$work/bin/flashback"
 cp "$2" "$work/bin/binlog"
 PATH=$work/bin:$PATH
@@ -76,27 +80,32 @@ END
     printf '9\t1\t1\n' | tee -a "$work/undone" >> "$work/redone"
 }
 
-# the positions of step 4: of the transaction that deletes the order with the number 2
+# the positions of step 4, by the rows: of the transaction that deletes the order with the number 2
 find_positions() {
     awk '/^# at / { at = $3 }
         / end_log_pos / { match($0, /end_log_pos [0-9]+/); end = substr($0, RSTART + 12, RLENGTH - 12) }
         /^BEGIN/ { start = at; wrong = 0 }
         /^### [A-Z]+ / { of_orders = /DELETE FROM `shop`.`orders`/ }
         /^###   @1=2( |$)/ { if (of_orders) wrong = 1 }
-        /^COMMIT/ { if (wrong) { print start, end; exit } }' around.txt
+        /^COMMIT/ { if (wrong) { print start, end; exit } }' "$HOME/around.txt"
+}
+
+# those that the list of a log has of it
+listed_positions() {
+    binlog list -d shop -T orders "$1" | awk '/`orders` deletes 2; / { print $1, $2 }'
 }
 
 # the commands of the guide: the lines of its blocks, those that a backslash continues as one
 commands() {
-    sed -n '/^## After a mistaken DELETE/,/^\*\*Servers 5.1/p' "$here/README.md" | grep -E '^ {7,}' | sed 's/^ *//' \
+    sed -n '/^## After a mistaken DELETE/,/^\*\*Servers 5.1/p' "$here/README.md" | grep -E '^( {7,}| {4}[^ ])' | sed 's/^ *//' \
         | sed -e ':next' -e '/\\$/N' -e 's/\\\n */ /' -e 't next'
 }
 
 # a command as it is run here
 as_run_here() {
-    printf '%s\n' "$1" | sed -e "s|/var/lib/mysql|$work/data|" -e 's/| less$/| cat/' -e 's/^less .*/cat around.txt/' \
-        -e 's/; echo \$?$//' -e 's/^binlog sql /binlog sql --size 1024 /' -e "s/2026-11-22 02:50:00/$from/" -e "s/2026-11-22 03:10:00/$to/" \
-        -e "s/4021/$start/g" -e "s/9144/$stop/g"
+    printf '%s\n' "$1" | sed -e "s|/var/lib/mysql|$work/data|" -e 's/| less$/| cat/' -e 's/^less .*/cat ~\/around.txt/' \
+        -e 's/; echo \$?$//' -e 's/^binlog \(undo\|redo\|sql\) /binlog \1 --size 1024 /' -e "s/2026-11-22 02:50:00/$from/" \
+        -e "s/2026-11-22 03:10:00/$to/" -e "s/4021/$start/g" -e "s/9144/$stop/g" -e "s/3885/$plain_start/g" -e "s/8972/$plain_stop/g"
 }
 
 rows_are() {
@@ -108,8 +117,7 @@ run_command() {
 }
 
 run_guide() {
-    start=
-    stop=
+    start= stop= plain_start= plain_stop=
     from=$(date -d '-10 minutes' '+%F %T')
     to=$(date -d '10 minutes' '+%F %T')
     commands > "$work/commands"
@@ -118,20 +126,23 @@ run_guide() {
         echo "\$ $(as_run_here "$command")"
         run_command "$command"
         case $command in
-            "mkdir undo"*) cd undo ;;
-            "cp "*) python3 "$here/examples/guide/profile.py" binlog.000042 in_profile && mv in_profile binlog.000042 ;;
-            *"> around.txt")
+            "cd /var/lib/mysql")
+                python3 "$here/examples/guide/profile.py" "$work/data/binlog.000042" "$work/logs/binlog.000042"
+                cd "$work/logs"
+                ;;
+            *"> ~/around.txt")
                 positions=$(find_positions) && start=${positions% *} stop=${positions#* }
-                binlog list -d shop -T orders binlog.000042 | grep -q "^ *$start *$stop .*\`orders\` deletes 2; " \
-                    || fail "binlog list has other positions"
+                [ "$positions" = "$(listed_positions binlog.000042)" ] || fail "binlog list has other positions"
                 ;;
-            *"-T orders -r undo.binlog"*) mv undo.binlog one_table && mv all_tables undo.binlog ;;
-            *"-r undo.binlog"*) cp undo.binlog all_tables ;;
-            *"undo.binlog | mysql"*) rows_are undone ;;
+            *"< ~/undo.sql") rows_are undone ;;
+            "binlog redo"*) rows_are redone ;;
+            "binlog plain"*)
+                cd "$HOME"
+                positions=$(listed_positions plain.000042) && plain_start=${positions% *} plain_stop=${positions#* }
+                ;;
+            "binlog sql undo.binlog"*) rows_are undone ;;
             *"-r redo.binlog undo.binlog") mv redo.binlog first ;;
-            *"-r redo.binlog binlog"*)
-                cmp redo.binlog first || fail "the two logs of step 10 aren't the same"
-                ;;
+            *"-r redo.binlog plain"*) cmp redo.binlog first || fail "the two logs that make the changes once more aren't the same" ;;
         esac
     done 3< "$work/commands"
     run_command "binlog sql redo.binlog | mysql"
@@ -144,4 +155,4 @@ stand_in mysqlbinlog "mariadb-binlog --no-defaults" -
 start_server
 make_mistake
 run_guide
-echo "Every command of the guide did what it says: the rows came back, and were deleted once more."
+echo "Every command of the guide did what it says: the rows came back, and were deleted once more, twice."
