@@ -34,6 +34,7 @@ undoes() {
 undoes 0 deleted_orders.binlog 504 6102 << 'END'
 undoes 1 transaction of binlog.000042: `shop`.`orders` inserts 40; `shop`.`order_lines` inserts 80
 looked at 6 later transactions, up to 8483 of binlog.000042: none changes these rows
+binlog.000042 goes on in binlog.000003: give that as the next --later
 END
 undoes 1 updated_since.binlog 543 5991 << 'END'
 binlog.000042 6221 `shop`.`customers`: update

@@ -127,9 +127,9 @@ fn changes_are_undone_and_made_once_more(rt: HostRuntime) -> Result<(), Fail> {
 #[test]
 fn later_changes_are_looked_at(rt: HostRuntime) -> Result<(), Fail> {
     let path = path_of(&rt, "third")?;
+    let name = path.as_str();
     let looked = format!(in rt.alloc();
-        "looked at 1 later transaction, up to 1569 of {}: none changes these rows\n",
-        path.as_str()
+        "looked at 1 later transaction, up to 1569 of {name}: none changes these rows\n{name} goes on in bin.000003: give that as the next --later\n"
     )?;
     let undone = check_of_log(&rt, &["undo"], ROWS, looked.as_str())?;
     let anyway = check_third(&rt, &["undo", "--anyway"], "undoes", ROWS, SINCE)?;

@@ -169,6 +169,64 @@ fn other_changes_touch_nothing(rt: HostRuntime) -> Result<(), Fail> {
     check(&rt, delete(1, &[5]), &later, Came::Done, wanted.as_str())
 }
 
+/// A change to the log `next\u{7}`: a position of 8 bytes and the name.
+const ROTATED: Part<'static> = Part::Other {
+    kind: 4,
+    flags: 0,
+    body: b"\x04\0\0\0\0\0\0\0next\x07",
+};
+
+/// The same without a name.
+const ROTATED_NOWHERE: Part<'static> = Part::Other {
+    kind: 4,
+    flags: 0,
+    body: &[0; 8],
+};
+
+#[test]
+fn a_log_that_goes_on_is_told(rt: HostRuntime) -> Result<(), Fail> {
+    let none = "0 later transactions";
+    let one = "1 later transaction";
+    let line = "binlog.000042 goes on in next\\x07: give that as the next --later\n";
+    check_untouched(&rt, &[ROTATED], none, line)?;
+    let passed = format!(in rt.alloc();
+        "passed over 1 statement, at 259 of binlog.000042\n{line}"
+    )?;
+    check_untouched(&rt, &[DROP_OTHER, ROTATED], none, passed.as_str())?;
+    // one that isn't at its end, has no name, or is no change to another log
+    let later = [ROTATED, BEGIN, Part::Map(T), insert(1, &[6]), XID];
+    check_untouched(&rt, &later, one, "")?;
+    check_untouched(&rt, &[ROTATED_NOWHERE], none, "")?;
+    // of several logs the last one
+    let (log, stop) = log_of(&rt, insert(1, &[5]), &[ROTATED])?;
+    let open = build(&rt, &[BEGIN, Part::Map(T), insert(1, &[6]), XID])?;
+    let ended = build(&rt, &[ROTATED])?;
+    let wanted = format!(in rt.alloc();
+        "undoes 1 transaction of binlog.000042: `d`.`t` deletes 1\nlooked at 1 later transaction, up to {} of a: none changes these rows\n{CASCADES}",
+        open.len()
+    )?;
+    check_logs(
+        &rt,
+        &log,
+        stop,
+        &[("a", &open)],
+        Came::Done,
+        wanted.as_str(),
+    )?;
+    let wanted = format!(in rt.alloc();
+        "undoes 1 transaction of binlog.000042: `d`.`t` deletes 1\nlooked at 0 later transactions, up to {} of a: none changes these rows\na goes on in next\\x07: give that as the next --later\n{CASCADES}",
+        ended.len()
+    )?;
+    check_logs(
+        &rt,
+        &log,
+        stop,
+        &[("a", &ended)],
+        Came::Done,
+        wanted.as_str(),
+    )
+}
+
 #[test]
 fn what_cannot_be_looked_into_is_refused(rt: HostRuntime) -> Result<(), Fail> {
     let line = "binlog.000042 259: may change these tables, and can't be looked into\n";

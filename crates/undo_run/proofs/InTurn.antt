@@ -27,15 +27,15 @@ use Rattle.undo_run.specs.declared.fault.PartFault.TheVariants.{Run, Sums, NoEve
 use Rattle.undo_run.specs.declared.since.Since as told
 
 -- those so far were read, and this was seen of them, after others
-pub record AreGoing {R : Type 0} (known : R → Option (List ℕ)) (givens : List (GivenLog R)) (kept : Left) (choice : Choice) (ls : List Later) (since : told.Since) : Type 0 where
+pub record AreGoing {A R : Type 0} (known : R → Option (List ℕ)) (givens : List (GivenLog R)) (kept : Left) (choice : Choice) (ls : List Later) (since : told.Since A) : Type 0 where
   pub logs : List NamedLog
   pub read : AreRead known givens logs
   pub seen : AreSeen kept choice (ls ++ map whole_log logs) since
 
-pub none-gone : {R : Type 0} (known : R → Option (List ℕ)) (kept : Left) (choice : Choice) (ls : List Later) (since : told.Since) → AreSeen kept choice ls since → AreGoing known [] kept choice ls since
+pub none-gone : {A R : Type 0} (known : R → Option (List ℕ)) (kept : Left) (choice : Choice) (ls : List Later) (since : told.Since A) → AreSeen kept choice ls since → AreGoing known [] kept choice ls since
 none-gone known kept choice ls since are = record { logs = []; read = tt; seen = subst (λ (ks : List Later). AreSeen kept choice ks since) (sym (append-nil ls)) are }
 
-pub goes-on : (A : Type 0) {R : Type 0} (known : R → Option (List ℕ)) (givens : List (GivenLog R)) (given : GivenLog R) (n : ℕ) (kept : Left) (choice : Choice) (ls : List Later) (old new : told.Since)
+pub goes-on : (A : Type 0) {R : Type 0} (known : R → Option (List ℕ)) (givens : List (GivenLog R)) (given : GivenLog R) (n : ℕ) (kept : Left) (choice : Choice) (ls : List Later) (old new : told.Since A)
     → (g : AreGoing known givens kept choice ls old) → LooksInto {A = A} known n given kept choice (ls ++ map whole_log g.logs) (Ok new) → AreGoing known (givens ++ given ∷ []) kept choice ls new
 goes-on A known givens given n kept choice ls old new g (log, is, are) = record {
   logs = g.logs ++ log ∷ [];
@@ -44,7 +44,7 @@ goes-on A known givens given n kept choice ls old new g (log, is, are) = record 
       (append_assoc ls (map whole_log g.logs) (whole_log log ∷ []) ∙ ap (λ (ks : List Later). ls ++ ks) (sym (map-append whole_log g.logs (log ∷ [])))) are;
 }
 
-pub all-gone : (A : Type 0) {R : Type 0} (known : R → Option (List ℕ)) (givens all : List (GivenLog R)) (kept : Left) (choice : Choice) (ls : List Later) (since : told.Since) → givens ≡ all
+pub all-gone : (A : Type 0) {R : Type 0} (known : R → Option (List ℕ)) (givens all : List (GivenLog R)) (kept : Left) (choice : Choice) (ls : List Later) (since : told.Since A) → givens ≡ all
     → AreGoing known givens kept choice ls since → LooksOn {A = A} known all kept choice ls (Ok since)
 all-gone A known givens all kept choice ls since is g = (g.logs, subst (λ (gs : List (GivenLog _)). AreRead known gs g.logs) is g.read, g.seen)
 
@@ -86,7 +86,7 @@ later-whole name bytes source is =
     ∙ ap (λ (end : ℕ). record { name = name; handed = handed_log whole_reading bytes; at = 0; end = end; fault = fault_of source }) is.end
     ∙ ap (λ (fault : Option SumFault). record { name = name; handed = handed_log whole_reading bytes; at = 0; end = (found_of whole_reading bytes).end; fault = fault }) is.fault
 
-pub one-looked : (A : Type 0) {R S : Type 0} (known : R → Option (List ℕ)) (n : ℕ) (given : GivenLog R) (kept : Left) (choice : Choice) (ls : List Later) (left : Option (List ℕ)) (source : Source S) (since : told.Since)
+pub one-looked : (A : Type 0) {R S : Type 0} (known : R → Option (List ℕ)) (n : ℕ) (given : GivenLog R) (kept : Left) (choice : Choice) (ls : List Later) (left : Option (List ℕ)) (source : Source S) (since : told.Since A)
     → OpensLog whole_reading (known (device_of given.reader)) left (Ok source) → AreSeen kept choice (ls ++ later_of given.name.now source 0 ∷ []) since
     → LooksInto {A = A} known n given kept choice ls (Ok since)
 one-looked A known n given kept choice ls left source since (bytes, reads, is) are =

@@ -33,15 +33,15 @@ not-looked known givens name part handed end fault kept choice ls TooLong none =
 not-looked known givens name part handed end fault kept choice ls (NoSchema text) none = absurd none
 
 -- what is told is what was seen
-told-since : (part : Selection) (handed : List ℕ) (ls : List Later) (kept : Left) (choice : Choice) (all : told.Since) → choice ≡ tables_of_part part handed → AreSeen kept choice ls all
+told-since : {A : Type 0} (part : Selection) (handed : List ℕ) (ls : List Later) (kept : Left) (choice : Choice) (all : told.Since A) → choice ≡ tables_of_part part handed → AreSeen kept choice ls all
     → Some (since_seen all) ≡ since_told true part handed ls
 told-since part handed ls kept choice all named are =
     let apart = are.apart ∙ ap (λ (c : Choice). at_most (length (places_apart c ls))) named in
     let first = are.first ∙ ap (λ (c : Choice). slice_get (places_apart c ls) 0) named in
-    (λ i. Some (record { units = are.units i; end = are.end i; apart = apart i; first = first i }))
+    (λ i. Some (record { units = are.units i; end = are.end i; next = are.next i; apart = apart i; first = first i }))
 
-pub all-judged : {A R : Type 0} (known : R → Option (List ℕ)) (givens : List (GivenLog R)) (name : List ℕ) (part : Selection) (handed : List ℕ) (end : ℕ) (fault : Option SumFault) (kept : Left) (choice : Choice) (all : told.Since)
-    (r : Result told.Since (PartFault A)) → choice ≡ tables_of_part part handed → LooksOn {A = A} known givens kept choice (rest_of name part handed end fault ∷ []) (Ok all)
+pub all-judged : {A R : Type 0} (known : R → Option (List ℕ)) (givens : List (GivenLog R)) (name : List ℕ) (part : Selection) (handed : List ℕ) (end : ℕ) (fault : Option SumFault) (kept : Left) (choice : Choice) (all : told.Since A)
+    (r : Result (told.Since A) (PartFault A)) → choice ≡ tables_of_part part handed → LooksOn {A = A} known givens kept choice (rest_of name part handed end fault ∷ []) (Ok all)
     → ((ls : List Later) → AreSeen kept choice ls all → Judges (changes_of_part part handed) choice ls r) → IfOk r (λ since. since ≡ all) → LooksAt known givens name part handed end fault r
 all-judged known givens name part handed end fault kept choice all (Ok since) named (logs, read, seen) judges is =
     let ls : List Later = rest_of name part handed end fault ∷ map whole_log logs in (
@@ -49,7 +49,7 @@ all-judged known givens name part handed end fault kept choice all (Ok since) na
       read,
       (
         subst (λ (c : Choice). AreSafe (changes_of_part part handed) c ls) named (judges ls seen),
-        ap (λ (s : told.Since). Some (since_seen s)) is ∙ told-since part handed ls kept choice all named seen,
+        ap (λ (s : told.Since _). Some (since_seen s)) is ∙ told-since part handed ls kept choice all named seen,
       ),
     )
 all-judged known givens name part handed end fault kept choice all (Err (ChangedSince rows lines)) named (logs, read, seen) judges is =

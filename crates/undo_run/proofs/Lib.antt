@@ -1,5 +1,6 @@
 mod InTurn
 mod Judged
+mod LastEvent
 mod LookedAt
 mod Names
 mod Stages

@@ -18,7 +18,7 @@ use Rattle.blog_later.specs.declared.looked.Looked.{Looked}
 use Rattle.blog_trans.specs.Changes.{Change}
 use Rattle.blog_undo.proofs.TakingBack.{takes-back}
 use Rattle.blog_units.specs.Units.{Facts}
-use Rattle.undo_run.specs.After.{AreChanged, AreSafe, Later, MayBeChanged, Place, is_damaged, last_end, later_changes, place_at, places_apart, touches, units_of, unknown_units}
+use Rattle.undo_run.specs.After.{AreChanged, AreSafe, Later, MayBeChanged, Place, is_damaged, last_end, last_next, later_changes, next_log, place_at, places_apart, touches, units_of, unknown_units}
 use Rattle.undo_run.specs.code.SinceView.{AreSeen, IsLooked, place_seen}
 use Rattle.undo_run.specs.declared.since.Since as told
 
@@ -50,18 +50,22 @@ pub last-more : (e : Option Place) (ls : List Later) (l : Later) → last_end e 
 last-more e [] l = refl
 last-more e (k ∷ ls) l = last-more (Some (record { name = k.name; at = k.end })) ls l
 
+next-more : (next : List ℕ) (ls : List Later) (l : Later) → last_next next (ls ++ l ∷ []) ≡ next_log l.handed
+next-more next [] l = refl
+next-more next (k ∷ ls) l = next-more (next_log k.handed) ls l
+
 more-damaged : (ls : List Later) (l : Later) → is_damaged (ls ++ l ∷ []) ≡ (is_damaged ls || is_some l.fault)
 more-damaged ls l = list_any-append (λ k. is_some k.fault) ls (l ∷ []) ∙ ap (λ b. is_damaged ls || b) (or-false (is_some l.fault))
 
-pub with-more : {A : Type 0} (kept : Left) (choice : Choice) (ls : List Later) (l : Later) (looked : Looked A) (old new : told.Since) (unknown apart : ℕ)
+pub with-more : {A B : Type 0} (kept : Left) (choice : Choice) (ls : List Later) (l : Later) (looked : Looked A) (old new : told.Since B) (unknown apart : ℕ)
     → IsLooked kept choice l looked → AreSeen kept choice ls old
     → unknown ≡ length looked.unknown.items → unknown ≤ 2 ^ 64 - 1 → apart ≡ length looked.apart.items → apart ≤ 2 ^ 64 - 1
     → new.units ≡ min (old.units + looked.units) (2 ^ 64 - 1) → new.touched ≡ min (old.touched + looked.touched) (2 ^ 64 - 1)
     → new.unknown ≡ min (old.unknown + unknown) (2 ^ 64 - 1) → new.apart ≡ min (old.apart + apart) (2 ^ 64 - 1)
     → ((ps : List Place) → option_map place_seen old.first ≡ slice_get ps 0 → option_map place_seen new.first ≡ slice_get (ps ++ map (place_at l.name l.handed l.end) looked.apart.items) 0)
-    → option_map place_seen new.end ≡ Some (record { name = l.name; at = l.end }) → new.is_damaged ≡ (old.is_damaged || is_some l.fault)
+    → option_map place_seen new.end ≡ Some (record { name = l.name; at = l.end }) → new.next.items ≡ next_log l.handed → new.is_damaged ≡ (old.is_damaged || is_some l.fault)
     → AreSeen kept choice (ls ++ l ∷ []) new
-with-more kept choice ls l looked old new unknown apart is are unknown-len unknown-small apart-len apart-small units-are touched-are unknown-are apart-are first-is end-is damaged-is =
+with-more kept choice ls l looked old new unknown apart is are unknown-len unknown-small apart-len apart-small units-are touched-are unknown-are apart-are first-is end-is next-is damaged-is =
     let apart-of : Later → List Place = λ k. map (place_at k.name k.handed k.end) (starts (filter (is_apart choice k.handed) (units_of k))) in record {
       units = units-are ∙ more-counted (λ k. filter (is_accepted k.handed) (units_of k)) ls l old.units looked.units are.units is.units;
       touched = touched-are ∙ more-touched kept ls l old.touched looked.touched are.touched is.touched;
@@ -73,6 +77,7 @@ with-more kept choice ls l looked old new unknown apart is are unknown-len unkno
           ∙ ap (λ (ats : List ℕ). slice_get (places_apart choice ls ++ map (place_at l.name l.handed l.end) ats) 0) is.apart
           ∙ ap (λ (ps : List Place). slice_get ps 0) (sym (one-more apart-of ls l));
       end = end-is ∙ sym (last-more None ls l);
+      next = next-is ∙ sym (next-more [] ls l);
       damaged = damaged-is ∙ ap (λ b. b || is_some l.fault) are.damaged ∙ sym (more-damaged ls l);
     }
 
@@ -103,12 +108,12 @@ none-left (x ∷ xs) e = absurd (omega (arith, e))
 touches-left : (selected : List Change) (kept : Left) (ls : List Later) → AreKept (left_of selected) kept → touches kept ls ≡ touches (left_of selected) ls
 touches-left selected kept ls same = as-many-taken kept (left_of selected) same (later_changes ls)
 
-pub changed-since : (selected : List Change) (kept : Left) (choice : Choice) (ls : List Later) (since : told.Since) → AreKept (left_of selected) kept → AreSeen kept choice ls since
+pub changed-since : {A : Type 0} (selected : List Change) (kept : Left) (choice : Choice) (ls : List Later) (since : told.Since A) → AreKept (left_of selected) kept → AreSeen kept choice ls since
     → 0 < since.touched → AreChanged selected ls since.touched
 changed-since selected kept choice ls since same are some =
     let touched = are.touched ∙ ap at_most (touches-left selected kept ls same) in (touched, some-more since.touched (touches (left_of selected) ls) touched some)
 
-pub unknown-since : (selected : List Change) (kept : Left) (choice : Choice) (ls : List Later) (since : told.Since) → AreKept (left_of selected) kept → AreSeen kept choice ls since
+pub unknown-since : {A : Type 0} (selected : List Change) (kept : Left) (choice : Choice) (ls : List Later) (since : told.Since A) → AreKept (left_of selected) kept → AreSeen kept choice ls since
     → since.touched ≡ 0 → (0 < since.unknown) ⊎ (since.is_damaged ≡ true) → MayBeChanged selected choice ls
 unknown-since selected kept choice ls since same are none (inl some) =
     let touched = are.touched ∙ ap at_most (touches-left selected kept ls same) in
@@ -117,7 +122,7 @@ unknown-since selected kept choice ls since same are none (inr damaged) =
     let touched = are.touched ∙ ap at_most (touches-left selected kept ls same) in
     (none-more since.touched (touches (left_of selected) ls) touched none, inr (sym are.damaged ∙ damaged))
 
-pub safe-since : (selected : List Change) (kept : Left) (choice : Choice) (ls : List Later) (since : told.Since) → AreKept (left_of selected) kept → AreSeen kept choice ls since
+pub safe-since : {A : Type 0} (selected : List Change) (kept : Left) (choice : Choice) (ls : List Later) (since : told.Since A) → AreKept (left_of selected) kept → AreSeen kept choice ls since
     → since.touched ≡ 0 → since.unknown ≡ 0 → since.is_damaged ≡ false → AreSafe selected choice ls
 safe-since selected kept choice ls since same are none known whole =
     let touched = are.touched ∙ ap at_most (touches-left selected kept ls same) in

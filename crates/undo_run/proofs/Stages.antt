@@ -35,12 +35,12 @@ pub moved : (P : List ℕ → Selection → Type 0) (part : Selection) (handed b
 moved P part handed bytes sel same chosen here = subst (λ (b : List ℕ). P b (selection_in part handed)) same (subst (λ (s : Selection). P bytes s) chosen here)
 
 -- what was seen where it was asked for is what is told, and touches nothing
-pub are-free : (A : Type 0) {R : Type 0} (looks : Bool) (known : R → Option (List ℕ)) (givens : List (GivenLog R)) (name : List ℕ) (part : Selection) (handed : List ℕ) (end : ℕ) (fault : Option SumFault) (since : Option told.Since)
+pub are-free : (A : Type 0) {R : Type 0} (looks : Bool) (known : R → Option (List ℕ)) (givens : List (GivenLog R)) (name : List ℕ) (part : Selection) (handed : List ℕ) (end : ℕ) (fault : Option SumFault) (since : Option (told.Since A))
     → Looks {A = A} looks known givens name part handed end fault (Ok since)
     → OfLater looks known givens name part handed end fault (λ ls. (looks ≡ true → IsSafe part handed ls) × (option_map since_seen since ≡ since_told looks part handed ls))
 are-free A true known givens name part handed end fault (Some since) (logs, read, (safe, told)) = (logs, read, ((λ asked. safe), told))
 are-free A true known givens name part handed end fault None is = absurd is
-are-free A false known givens name part handed end fault since is = ([], refl, ((λ asked. absurd (false≢true asked)), ap (option_map since_seen) is))
+are-free A false known givens name part handed end fault since is = ([], refl, ((λ asked. absurd (false≢true asked)), ap (option_map (since_seen {A = A})) is))
 
 -- what is written of groups, and what is reported of them
 abbrev IsWritten : Writing → List ℕ → Option Since → Option (List ℕ) → Option (List ℕ) → List ℕ → List ℕ → Selection → Type 0

@@ -1,6 +1,8 @@
 -- What logs have after changes, and whether it touches these.
-use Rattle.std.specs.Prelude.{◌≡◌, ◌⊎◌, ◌<◌, ℕ, Bool, true, false, List, [], ◌∷◌, map, filter, length, Option, Some, is_some}
-use Rattle.std.specs.List.{flat_map, list_any}
+use Rattle.std.specs.Prelude.{◌≡◌, ◌⊎◌, ◌<◌, ◌==◌, ℕ, Bool, true, false, if◌then◌else◌, List, [], ◌∷◌, map, filter, drop, length, Option, Some, None, is_some}
+use Rattle.std.specs.List.{flat_map, last_or, list_any}
+use Rattle.std.specs.Option.{option_map_or}
+use Rattle.blog_event.specs.File.{Placed, placed_from, read}
 use Rattle.blog_choice.specs.Choice.{Choice}
 use Rattle.blog_later.specs.Later.{changes_in, is_accepted, is_apart, later_units, may_concern}
 use Rattle.blog_later.specs.Laws.{and_later}
@@ -65,6 +67,19 @@ is_damaged ls = list_any (λ l. is_some l.fault) ls
 abbrev pub last_end : Option Place → List Later → Option Place
 last_end end [] = end
 last_end end (l ∷ ls) = last_end (Some (record { name = l.name; at = l.end })) ls
+
+-- the log in which a log goes on: the name in the Rotate event at its end, behind 8 bytes (MySQL Internals manual, "Rotate_event"); no bytes
+-- where there is none
+abbrev pub rotated_to : Placed → List ℕ
+rotated_to p = if p.event.kind == 4 then drop 8 p.event.body else []
+
+abbrev pub next_log : List ℕ → List ℕ
+next_log handed = option_map_or rotated_to (last_or None (drop 1 (placed_from 4 (read handed None)))) []
+
+-- that of the last log
+abbrev pub last_next : List ℕ → List Later → List ℕ
+last_next next [] = next
+last_next next (l ∷ ls) = last_next (next_log l.handed) ls
 
 -- ---- whether it touches them
 

@@ -26,7 +26,7 @@ use Rattle.blog_trans.specs.Groups.{groups}
 use Rattle.blog_trans.specs.Selection.{Selection}
 use Rattle.blog_run.specs.Writing.{CanBeWritten, end_of_text, lacks, text_of}
 use Rattle.blog_run.specs.declared.writing.Writing.{Writing}
-use Rattle.undo_run.specs.After.{AreChanged, AreSafe, Later, MayBeChanged, accepted_units, last_end, places_apart}
+use Rattle.undo_run.specs.After.{accepted_units, AreChanged, AreSafe, last_end, last_next, Later, MayBeChanged, places_apart}
 use Rattle.undo_run.specs.Reports.{Since, report}
 use Rattle.undo_run.specs.declared.fault.OpeningFault.{OpeningFault}
 use Rattle.undo_run.specs.declared.fault.OpeningFault.TheVariants as opening
@@ -176,6 +176,7 @@ abbrev pub since_told : Bool → Selection → List ℕ → List Later → Optio
 since_told looks part handed ls = if looks then Some (record {
   units = at_most (length (accepted_units ls));
   end = last_end None ls;
+  next = last_next [] ls;
   apart = at_most (length (places_apart (tables_of_part part handed) ls));
   first = slice_get (places_apart (tables_of_part part handed) ls) 0;
 }) else None

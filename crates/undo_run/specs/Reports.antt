@@ -30,11 +30,12 @@ abbrev pub rows_told : Order → List TableCount → List ℕ
 rows_told order [] = []
 rows_told order (c ∷ cs) = count_text (turned order c) ++ flat_map (next_told order) cs
 
--- what was seen of later units: how many can be undone by themselves; where the reading ended; how many others there are, which don't
--- concern the tables, and where the first of them begins
+-- what was seen of later units: how many can be undone by themselves; where the reading ended, and in which log that log goes on, if it does;
+-- how many others there are, which don't concern the tables, and where the first of them begins
 pub record Since : Type 0 where
   pub units : ℕ
   pub end : Option Place
+  pub next : List ℕ
   pub apart : ℕ
   pub first : Option Place
 
@@ -62,8 +63,13 @@ abbrev pub apart_text : ℕ → Option Place → List ℕ
 apart_text n (Some p) = statements_text n ++ (place_text p ++ codes "\n")
 apart_text n None = []
 
+-- in which log the last one goes on
+abbrev pub next_text : Option Place → List ℕ → List ℕ
+next_text (Some p) (byte ∷ name) = escaped p.name ++ (codes " goes on in " ++ (escaped (byte ∷ name) ++ codes ": give that as the next --later\n"))
+next_text end next = []
+
 abbrev pub looked_text : Since → List ℕ
-looked_text since = units_text since.units ++ (end_text since.end ++ apart_text since.apart since.first)
+looked_text since = units_text since.units ++ (end_text since.end ++ (apart_text since.apart since.first ++ next_text since.end since.next))
 
 -- what is told of later changes that weren't looked at
 abbrev pub unlooked_text : Order → List ℕ

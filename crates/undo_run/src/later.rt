@@ -45,11 +45,11 @@ fn look_into<'n, A: Allocator + Copy, L: Read + Drop>(
     n: usize,
     given: GivenLog<'n, L>,
     seed: u64,
-    since: &Since<'n>,
+    since: &Since<'n, A>,
     lines: &mut Lines<A>,
     left: &LeftRows<A>,
     names: &ChosenNames<'_, A>,
-) -> Result<Since<'n>, PartFault<A>>
+) -> Result<Since<'n, A>, PartFault<A>>
     ensures { (ls : List Later) → AreSeen (left_kept left.now) (names_choice names.now) ls since.now
         → LooksInto L.remaining n given.entry (left_kept left.now) (names_choice names.now) ls result }
 {
@@ -71,11 +71,11 @@ fn look_into_all<'n, A: Allocator + Copy, L: Read + Drop>(
     alloc: A,
     later: Vec<GivenLog<'n, L>, A>,
     seed: u64,
-    since: Since<'n>,
+    since: Since<'n, A>,
     lines: &mut Lines<A>,
     left: &LeftRows<A>,
     names: &ChosenNames<'_, A>,
-) -> Result<Since<'n>, PartFault<A>>
+) -> Result<Since<'n, A>, PartFault<A>>
     ensures { (ls : List Later) → AreSeen (left_kept left.now) (names_choice names.now) ls since.entry
         → LooksOn L.remaining later.entry.items (left_kept left.now) (names_choice names.now) ls result }
 {
@@ -94,9 +94,9 @@ fn look_into_all<'n, A: Allocator + Copy, L: Read + Drop>(
 /// Returns what was seen, unless it touches a part, or may.
 fn judged<'n, A: Allocator + Copy>(
     alloc: A,
-    since: Since<'n>,
+    since: Since<'n, A>,
     lines: &Lines<A>,
-) -> Result<Since<'n>, PartFault<A>>
+) -> Result<Since<'n, A>, PartFault<A>>
     ensures judges { (selected : List Change) → (kept : _) → (choice : _) → (ls : List Later) → AreKept (left_of selected) kept → AreSeen kept choice ls since.entry
         → Judges selected choice ls result }
     ensures same { IfOk result (λ told. told ≡ since.entry) }
@@ -120,7 +120,7 @@ pub(crate) fn look_later<'n, 'l, A: Allocator + Copy, L: Read + Drop>(
     index: &Index<'l, 'l, A>,
     later: Vec<GivenLog<'n, L>, A>,
     seed: u64,
-) -> Result<Since<'n>, PartFault<A>>
+) -> Result<Since<'n, A>, PartFault<A>>
     requires bytes { index_bytes index.now ≡ log_of source.now }
     requires selection { index_selection index.now ≡ selection_in (selection_of part.now) (log_of source.now) }
     ensures { LooksAt L.remaining later.entry.items name.now (selection_of part.now) (log_of source.now) (end_of source.now) (fault_of source.now) result }
@@ -136,7 +136,7 @@ pub(crate) fn look_later<'n, 'l, A: Allocator + Copy, L: Read + Drop>(
     let mut lines = Lines::none(alloc);
     let rest = look_on(
         alloc,
-        &Since::none(),
+        &Since::none(alloc),
         &mut lines,
         name,
         source,

@@ -19,7 +19,7 @@ pub(crate) fn report_of<A: Allocator, B: Allocator>(
     name: &[u8],
     order: Order,
     index: &Index<'_, '_, B>,
-    since: &Option<Since<'_>>,
+    since: &Option<Since<'_, A>>,
 ) -> Result<Vec<u8, A>, AllocError>
     ensures { IfOk result (λ told. told.items ≡ report order name.now (length (index_groups index.now)) (counts_in index.now) (option_map since_seen since.now)) }
 {
@@ -70,10 +70,10 @@ fn unlooked_text(order: Order) -> &'static [u8]
 }
 
 /// Appends what is told of later changes.
-fn put_later<A: Allocator>(
+fn put_later<A: Allocator, B: Allocator>(
     out: &mut Vec<u8, A>,
     order: Order,
-    since: &Option<Since<'_>>,
+    since: &Option<Since<'_, B>>,
 ) -> Result<(), AllocError>
     ensures { OnOk result (out.new.items ≡ out.old.items ++ since_text order (option_map since_seen since.now)) }
 {

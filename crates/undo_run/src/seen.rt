@@ -6,13 +6,15 @@ ghost use Rattle.blog_choice.specs.code.ChosenView.{names_choice};
 ghost use Rattle.blog_event.specs.code.LogView.{log_bytes};
 ghost use Rattle.blog_later.specs.code.LookedView.{left_kept};
 ghost use Rattle.blog_source.specs.code.SourceView.{end_of, fault_of, log_of};
-ghost use Rattle.undo_run.specs.After.{Later, Place as APlace, place_at};
+ghost use Rattle.blog_trans.specs.Places.{placed};
+ghost use Rattle.undo_run.specs.After.{Later, Place as APlace, next_log, place_at, rotated_to};
 ghost use Rattle.undo_run.specs.code.SinceView.{AreSeen, IsLooked, later_of, place_seen};
 
 use crate::lines::Lines;
 use crate::since::{Place, Since};
 use blog_choice::ChosenNames;
-use blog_event::Log;
+use blog_event::constants::ROTATE_EVENT;
+use blog_event::{Event, Log};
 use blog_later::{LeftRows, Looked, look};
 use blog_source::Source;
 use std::alloc::{AllocError, Allocator};
@@ -39,9 +41,36 @@ fn first_place<'n, B: Allocator>(
     }
 }
 
-impl<'n> Since<'n> {
+/// Returns the name of the log in which a log goes on, from the Rotate event at its end; no bytes if there is none.
+fn next_log<'l>(log: &Log<'l>) -> &'l [u8]
+    ensures { result.now ≡ next_log (log_bytes log.now) }
+{
+    let mut pos = log.first();
+    let mut last = None;
+    'events: while let Ok(event) = log.event_at(pos) {
+        pos += event.header.size;
+        last = Some(event);
+    }
+    match last {
+        Some(event) => rotated_to(&event),
+        None => &[],
+    }
+}
+
+/// Returns the name in a Rotate event; no bytes of another.
+fn rotated_to<'l>(event: &Event<'l>) -> &'l [u8]
+    ensures { result.now ≡ rotated_to (placed event.now) }
+{
+    if event.header.kind == ROTATE_EVENT && event.body.len() > 8 {
+        &event.body[8..]
+    } else {
+        &[]
+    }
+}
+
+impl<'n, A: Allocator> Since<'n, A> {
     /// What was seen of no log.
-    pub(crate) fn none() -> Since<'n>
+    pub(crate) fn none(alloc: A) -> Since<'n, A>
         ensures { (kept : _) → (choice : Choice) → AreSeen kept choice [] result }
     {
         Since {
@@ -51,21 +80,27 @@ impl<'n> Since<'n> {
             apart: 0,
             first: None,
             end: None,
+            next: Vec::new(alloc),
             is_damaged: false,
         }
     }
 
-    /// What was seen with one more log.
+    /// What was seen with one more log, which goes on in that of a name.
     fn with<B: Allocator, C: Allocator>(
         &self,
+        alloc: A,
         name: &'n [u8],
         source: &Source<B>,
         looked: &Looked<'_, C>,
-    ) -> Since<'n>
+        next: &[u8],
+    ) -> Result<Since<'n, A>, AllocError>
+        requires { next.now ≡ next_log (log_of source.now) }
         ensures { (kept : _) → (choice : Choice) → (at : _) → (ls : List Later) → IsLooked kept choice (later_of name.now source.now at) looked.now → AreSeen kept choice ls self.now
-            → AreSeen kept choice (ls ++ later_of name.now source.now at ∷ []) result }
+            → IfOk result (AreSeen kept choice (ls ++ later_of name.now source.now at ∷ [])) }
     {
-        Since {
+        let mut goes_on = Vec::new(alloc);
+        goes_on.extend_from_slice(next)?;
+        Ok(Since {
             units: self.units.saturating_add(looked.units),
             touched: self.touched.saturating_add(looked.touched),
             unknown: self.unknown.saturating_add(looked.unknown.len() as u64),
@@ -75,15 +110,16 @@ impl<'n> Since<'n> {
                 name,
                 at: source.end(),
             }),
+            next: goes_on,
             is_damaged: self.is_damaged || source.fault().is_some(),
-        }
+        })
     }
 }
 
 /// Looks at what one more log has after a position, in bytes from the start of what is handed out of it, and returns what was seen so far.
 pub(crate) fn look_on<'n, A: Allocator + Copy, B: Allocator>(
     alloc: A,
-    since: &Since<'n>,
+    since: &Since<'n, A>,
     lines: &mut Lines<A>,
     name: &'n [u8],
     source: &Source<B>,
@@ -91,12 +127,12 @@ pub(crate) fn look_on<'n, A: Allocator + Copy, B: Allocator>(
     at: u32,
     left: &LeftRows<A>,
     names: &ChosenNames<'_, A>,
-) -> Result<Since<'n>, AllocError>
+) -> Result<Since<'n, A>, AllocError>
     requires { log_bytes log.now ≡ log_of source.now }
     ensures { (ls : List Later) → AreSeen (left_kept left.now) (names_choice names.now) ls since.now
         → IfOk result (AreSeen (left_kept left.now) (names_choice names.now) (ls ++ later_of name.now source.now at ∷ [])) }
 {
     let looked = look(alloc, left, names, log, at)?;
     lines.put(name, source, &looked)?;
-    Ok(since.with(name, source, &looked))
+    since.with(alloc, name, source, &looked, next_log(log))
 }

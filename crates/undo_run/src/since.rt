@@ -1,7 +1,7 @@
 //! What was seen of what came later, and what is told where it touches nothing of a part.
 
 ghost use Rattle.std.specs.Prelude.{◌≡◌, ◌++◌, OnOk, option_map};
-ghost use Rattle.undo_run.specs.Reports.{apart_text, end_text, looked_text, place_text, statements_text, statements_words, units_text, units_words};
+ghost use Rattle.undo_run.specs.Reports.{apart_text, end_text, looked_text, next_text, place_text, statements_text, statements_words, units_text, units_words};
 ghost use Rattle.undo_run.specs.code.SinceView.{place_seen, since_seen};
 
 use blog_text::{put_escaped, put_number, put_text};
@@ -17,8 +17,8 @@ pub(crate) struct Place<'n> {
 }
 
 /// What was seen of what logs have after the changes of a part.
-#[derive(Clone, Copy)]
-pub(crate) struct Since<'n> {
+#[derive(Drop)]
+pub(crate) struct Since<'n, A: Allocator> {
     /// How many units can be undone by themselves, so that their changes are known.
     pub(crate) units: u64,
     /// How many rows they take that the part's changes left.
@@ -31,6 +31,8 @@ pub(crate) struct Since<'n> {
     pub(crate) first: Option<Place<'n>>,
     /// Where the reading of the last log ended.
     pub(crate) end: Option<Place<'n>>,
+    /// The name of the log in which that one goes on; empty if it doesn't.
+    pub(crate) next: Vec<u8, A>,
     /// Whether a log is damaged there.
     pub(crate) is_damaged: bool,
 }
@@ -113,14 +115,34 @@ fn put_apart<A: Allocator>(
     }
 }
 
-/// Appends what is told of what came later.
-pub(crate) fn put_since<A: Allocator>(
+/// Appends in which log the last one goes on, if it does.
+fn put_next<A: Allocator>(
     out: &mut Vec<u8, A>,
-    since: &Since<'_>,
+    end: &Option<Place<'_>>,
+    next: &[u8],
+) -> Result<(), AllocError>
+    ensures { OnOk result (out.new.items ≡ out.old.items ++ next_text (option_map place_seen end.now) next.now) }
+{
+    match end {
+        Some(place) if !next.is_empty() => {
+            put_escaped(out, place.name)?;
+            put_text(out, b" goes on in ")?;
+            put_escaped(out, next)?;
+            put_text(out, b": give that as the next --later\n")
+        }
+        _ => Ok(()),
+    }
+}
+
+/// Appends what is told of what came later.
+pub(crate) fn put_since<A: Allocator, B: Allocator>(
+    out: &mut Vec<u8, A>,
+    since: &Since<'_, B>,
 ) -> Result<(), AllocError>
     ensures { OnOk result (out.new.items ≡ out.old.items ++ looked_text (since_seen since.now)) }
 {
     put_units(out, since.units)?;
     put_end(out, &since.end)?;
-    put_apart(out, since.apart, &since.first)
+    put_apart(out, since.apart, &since.first)?;
+    put_next(out, &since.end, &since.next)
 }

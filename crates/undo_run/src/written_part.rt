@@ -79,7 +79,7 @@ fn look_if<'n, 'l, A: Allocator + Copy, L: Read + Drop>(
     looks: bool,
     later: Vec<GivenLog<'n, L>, A>,
     seed: u64,
-) -> Result<Option<Since<'n>>, PartFault<A>>
+) -> Result<Option<Since<'n, A>>, PartFault<A>>
     requires bytes { index_bytes index.now ≡ log_of source.now }
     requires selection { index_selection index.now ≡ selection_in (selection_of part.now) (log_of source.now) }
     ensures { Looks looks L.remaining later.entry.items name.now (selection_of part.now) (log_of source.now) (end_of source.now) (fault_of source.now) result }

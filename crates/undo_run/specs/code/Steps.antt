@@ -70,21 +70,21 @@ Refuses part handed end damage cause = ⊥
 -- ---- looking at what came later
 
 -- this was seen of one more log, which was read; or it isn't opened, or memory was refused
-abbrev pub LooksInto : {A R : Type 0} → (R → Option (List ℕ)) → ℕ → GivenLog R → Left → Choice → List Later → Result told.Since (PartFault A) → Type 0
+abbrev pub LooksInto : {A R : Type 0} → (R → Option (List ℕ)) → ℕ → GivenLog R → Left → Choice → List Later → Result (told.Since A) (PartFault A) → Type 0
 LooksInto known n given kept choice ls (Ok since) = (log : NamedLog) × IsRead known given log × AreSeen kept choice (ls ++ whole_log log ∷ []) since
 LooksInto known n given kept choice ls (Err (LaterLog m f)) = (m ≡ n) × FailsToOpen known given f
 LooksInto known n given kept choice ls (Err (Run (run.Log f))) = f ≡ OutOfMemory
 LooksInto known n given kept choice ls (Err cause) = ⊥
 
 -- of several
-abbrev pub LooksOn : {A R : Type 0} → (R → Option (List ℕ)) → List (GivenLog R) → Left → Choice → List Later → Result told.Since (PartFault A) → Type 0
+abbrev pub LooksOn : {A R : Type 0} → (R → Option (List ℕ)) → List (GivenLog R) → Left → Choice → List Later → Result (told.Since A) (PartFault A) → Type 0
 LooksOn known givens kept choice ls (Ok since) = (logs : List NamedLog) × AreRead known givens logs × AreSeen kept choice (ls ++ map whole_log logs) since
 LooksOn known givens kept choice ls (Err (LaterLog n f)) = FailsLater known givens n f
 LooksOn known givens kept choice ls (Err (Run (run.Log f))) = f ≡ OutOfMemory
 LooksOn known givens kept choice ls (Err cause) = ⊥
 
 -- what was seen touches nothing; or it does, or may
-abbrev pub Judges : {A : Type 0} → List Change → Choice → List Later → Result told.Since (PartFault A) → Type 0
+abbrev pub Judges : {A : Type 0} → List Change → Choice → List Later → Result (told.Since A) (PartFault A) → Type 0
 Judges selected choice ls (Ok since) = AreSafe selected choice ls
 Judges selected choice ls (Err (ChangedSince rows lines)) = AreChanged selected ls rows
 Judges selected choice ls (Err (UnknownSince lines)) = MayBeChanged selected choice ls
@@ -97,7 +97,7 @@ OfLater looks known givens name part handed end fault P =
     (logs : List NamedLog) × AreLater looks known givens logs × P (rest_of name part handed end fault ∷ map whole_log logs)
 
 -- what comes of looking at them
-abbrev pub LooksAt : {A R : Type 0} → (R → Option (List ℕ)) → List (GivenLog R) → List ℕ → Selection → List ℕ → ℕ → Option SumFault → Result told.Since (PartFault A) → Type 0
+abbrev pub LooksAt : {A R : Type 0} → (R → Option (List ℕ)) → List (GivenLog R) → List ℕ → Selection → List ℕ → ℕ → Option SumFault → Result (told.Since A) (PartFault A) → Type 0
 LooksAt known givens name part handed end fault (Ok since) = OfLater true known givens name part handed end fault
     (λ ls. IsSafe part handed ls × (Some (since_seen since) ≡ since_told true part handed ls))
 LooksAt known givens name part handed end fault (Err (ChangedSince rows lines)) = OfLater true known givens name part handed end fault
@@ -109,7 +109,7 @@ LooksAt known givens name part handed end fault (Err (Run (run.Log f))) = f ≡ 
 LooksAt known givens name part handed end fault (Err cause) = ⊥
 
 -- the same where it is asked for
-abbrev pub Looks : {A R : Type 0} → Bool → (R → Option (List ℕ)) → List (GivenLog R) → List ℕ → Selection → List ℕ → ℕ → Option SumFault → Result (Option told.Since) (PartFault A) → Type 0
+abbrev pub Looks : {A R : Type 0} → Bool → (R → Option (List ℕ)) → List (GivenLog R) → List ℕ → Selection → List ℕ → ℕ → Option SumFault → Result (Option (told.Since A)) (PartFault A) → Type 0
 Looks {A = A} true known givens name part handed end fault (Ok (Some since)) = LooksAt {A = A} known givens name part handed end fault (Ok since)
 Looks true known givens name part handed end fault (Ok None) = ⊥
 Looks true known givens name part handed end fault (Err cause) = LooksAt known givens name part handed end fault (Err cause)

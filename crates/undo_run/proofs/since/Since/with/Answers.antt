@@ -21,4 +21,5 @@ returns g c kept choice at ls looked seen =
     (c.len.ensures ∙ c.args.looked.now.unknown.ok.0) (omega (arith, few)) (c.len-2.ensures ∙ c.args.looked.now.apart.ok.0) (omega (arith, short))
     c.saturating_add.ensures c.saturating_add-2.ensures c.saturating_add-3.ensures c.saturating_add-4.ensures
     (λ ps first. c.first_place.ensures ps first ∙ ap (λ (ats : List ℕ). slice_get (ps ++ map (place_at name (log_of source) (end_of source)) ats) 0) c.deref.ensures.value)
-    (ap (λ (end : ℕ). Some (record { name = name; at = end })) c.end.ensures) damaged
+    (ap (λ (end : ℕ). Some (record { name = name; at = end })) c.end.ensures)
+    (c.in_ok-extend_from_slice.ensures.items ∙ ap (λ (front : List ℕ). front ++ c.args.next.now) c.new-goes_on.ensures.items ∙ c.requires) damaged
