@@ -12,6 +12,7 @@ import zlib
 QUERY, FORMAT, GTID = 2, 15, 162
 FIRST_OF_MARIADB = 160
 STANDALONE, DDL = 1, 32
+IN_USE = 1
 
 
 def events(log):
@@ -41,11 +42,12 @@ def in_profile(log):
             kind, body = QUERY, begin()
         if kind >= FIRST_OF_MARIADB:
             continue
-        # the flag of a log in use isn't part of the sum of the format description
         size = 19 + len(body) + 4 * sums
         fields = (header[:4], bytes([kind]), header[5:9], struct.pack("<II", size, len(out) + size), header[17:])
         event = b"".join(fields) + body
-        out += event + (struct.pack("<I", zlib.crc32(event)) if sums else b"")
+        # the sum of the format description is that without the flag of a log in use
+        summed = event[:17] + bytes([event[17] & ~IN_USE]) + event[18:] if kind == FORMAT else event
+        out += event + (struct.pack("<I", zlib.crc32(summed)) if sums else b"")
     return bytes(out)
 
 
