@@ -82,6 +82,7 @@ of_binlog() {
     refuse_each 0 plain crc32_closed.binlog
     refuse_each 0 plain --force -r result crc32_closed.binlog
     refuse_each 0 list --json -d d -T t -j 4 --start-datetime "2026-01-01 00:00:00" multi_table.binlog
+    refuse_each 0 list --utc --sort rows crc32_closed.binlog
     refuse_each 0 undo --anyway --keep-times -j 811 --stop-position 1215 -d shop -T orders -r result --force crc32_closed.binlog
     refuse_each 0 undo --dry-run -j 811 --stop-position 1215 crc32_closed.binlog
     refuse_each 1 undo -j 198 --stop-position 512 crc32_closed.binlog
@@ -95,6 +96,7 @@ of_binlog() {
     refuse_each 2
     refuse_each 2 other multi_table.binlog
     refuse_each 2 list -j x multi_table.binlog
+    refuse_each 2 list --sort size multi_table.binlog
     refuse_each 2 plain multi_table.binlog "$(printf 'a\tb')"
 }
 
