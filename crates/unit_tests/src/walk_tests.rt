@@ -85,7 +85,11 @@ pub(crate) fn rows_of(index: &Index<'_, '_>) -> u64 {
 }
 
 /// Whether the range of a unit has the groups or the fault that it tells, by the whole log.
-pub(crate) fn is_of_its_range(rt: &(impl AllocGlobal + Abort), log: &Log<'_>, unit: &Unit<'_>) -> bool {
+pub(crate) fn is_of_its_range(
+    rt: &(impl AllocGlobal + Abort),
+    log: &Log<'_>,
+    unit: &Unit<'_>,
+) -> bool {
     let sel = Selection {
         start: unit.start,
         stop: Some(unit.stop),
