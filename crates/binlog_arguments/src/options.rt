@@ -140,15 +140,14 @@ fn sql_arguments<'a>(alloc: Global) -> Result<Command<'a>, AllocError> {
         .override_usage(SQL_USAGE)
         .after_help(SQL_AFTER_HELP);
     let each = flag(alloc, EACH_TRANSACTION).help("Commit each transaction of LOG by itself");
+    let command = command.arg(each)?;
     let times = flag(alloc, KEEP_TIMES).help("Leave the times of events as they are");
+    let command = command.arg(times)?;
+    let command = command.arg(size_argument(alloc))?;
     let rewritten = option(alloc, REWRITTEN, "FROM:TO").help(
         "Change tables of database TO where LOG has FROM; can be given several times",
     );
-    let command = command
-        .arg(each)?
-        .arg(times)?
-        .arg(size_argument(alloc))?
-        .arg(rewritten.action(ArgAction::Append))?;
+    let command = command.arg(rewritten.action(ArgAction::Append))?;
     new_log_arguments(
         alloc,
         command,
@@ -165,12 +164,11 @@ fn undo_arguments<'a>(alloc: Global) -> Result<Command<'a>, AllocError> {
     let anyway = flag(alloc, ANYWAY).help(
         "Undo without looking at what came later, and overwrite it",
     );
+    let command = command.arg(anyway)?;
     let later = option(alloc, LATER, "LOG").help(
         "Look at this later log of the server too; can be given several times",
     );
-    let command = command
-        .arg(anyway)?
-        .arg(later.action(ArgAction::Append).conflicts_with(ANYWAY)?)?;
+    let command = command.arg(later.action(ArgAction::Append).conflicts_with(ANYWAY)?)?;
     part_arguments(alloc, command)
 }
 
@@ -185,33 +183,41 @@ fn redo_arguments<'a>(alloc: Global) -> Result<Command<'a>, AllocError> {
 
 /// Adds the options of `undo` and `redo` that they share, and their argument LOG.
 fn part_arguments<'a>(alloc: Global, command: Command<'a>) -> Result<Command<'a>, AllocError> {
-    let start = option(alloc, START, "POS").help("Start at the event that begins at POS");
-    let stop = option(alloc, STOP, "POS").help("Stop in front of the event that begins at POS");
-    let database = option(alloc, DATABASE, "NAME").help("Only tables of this database");
-    let table = option(alloc, TABLE, "[NAME.]NAME").help("Only this table");
-    let each = flag(alloc, EACH_TRANSACTION).help("Commit each transaction by itself");
-    let times = flag(alloc, KEEP_TIMES).help("Leave the times of events as they are");
-    let rewritten = option(alloc, REWRITTEN, "FROM:TO").help(
-        "Change tables of database TO where LOG has FROM; can be given several times",
-    );
+    let command = sql_options(alloc, selection_options(alloc, command)?)?;
     let as_log = flag(alloc, AS_LOG).help("Write a binary log, and no SQL");
+    let command = command.arg(as_log)?;
     let dry_run = flag(alloc, DRY_RUN).help("Write nothing but the report");
-    let command = command
-        .arg(start.short('j'))?
-        .arg(stop)?
-        .arg(database.short('d'))?
-        .arg(table.short('T'))?
-        .arg(each)?
-        .arg(times.conflicts_with(AS_LOG)?)?
-        .arg(size_argument(alloc))?
-        .arg(rewritten.action(ArgAction::Append).conflicts_with(AS_LOG)?)?
-        .arg(as_log)?
-        .arg(dry_run)?;
+    let command = command.arg(dry_run)?;
     new_log_arguments(
         alloc,
         command,
         "Write to FILE, which must not be there, unless it is a device or a pipe",
     )
+}
+
+/// Adds the options that select a part of a log.
+fn selection_options<'a>(alloc: Global, command: Command<'a>) -> Result<Command<'a>, AllocError> {
+    let start = option(alloc, START, "POS").help("Start at the event that begins at POS");
+    let command = command.arg(start.short('j'))?;
+    let stop = option(alloc, STOP, "POS").help("Stop in front of the event that begins at POS");
+    let command = command.arg(stop)?;
+    let database = option(alloc, DATABASE, "NAME").help("Only tables of this database");
+    let command = command.arg(database.short('d'))?;
+    let table = option(alloc, TABLE, "[NAME.]NAME").help("Only this table");
+    command.arg(table.short('T'))
+}
+
+/// Adds the options of the SQL of a part.
+fn sql_options<'a>(alloc: Global, command: Command<'a>) -> Result<Command<'a>, AllocError> {
+    let each = flag(alloc, EACH_TRANSACTION).help("Commit each transaction by itself");
+    let command = command.arg(each)?;
+    let times = flag(alloc, KEEP_TIMES).help("Leave the times of events as they are");
+    let command = command.arg(times.conflicts_with(AS_LOG)?)?;
+    let command = command.arg(size_argument(alloc))?;
+    let rewritten = option(alloc, REWRITTEN, "FROM:TO").help(
+        "Change tables of database TO where LOG has FROM; can be given several times",
+    );
+    command.arg(rewritten.action(ArgAction::Append).conflicts_with(AS_LOG)?)
 }
 
 /// Adds the options of a command that makes a new log, and its argument LOG.
@@ -223,12 +229,11 @@ fn new_log_arguments<'a>(
     let file = option(alloc, RESULT_FILE, "FILE")
         .value_parser(ValueParser::NonEmptyString)
         .help(creating);
+    let command = command.arg(file.short('r'))?;
     let force = flag(alloc, FORCE).help("With -r: replace FILE if it is there");
+    let command = command.arg(force)?;
     let log = Arg::new(alloc, LOG).help("The binary log, a file");
-    command
-        .arg(file.short('r'))?
-        .arg(force)?
-        .arg(log.required(true))
+    command.arg(log.required(true))
 }
 
 /// The command `list`, with its options.
@@ -237,27 +242,31 @@ fn list_arguments<'a>(alloc: Global) -> Result<Command<'a>, AllocError> {
         .about(LIST_ABOUT)
         .override_usage(LIST_USAGE)
         .after_help(LIST_AFTER_HELP);
+    let command = range_arguments(alloc, table_arguments(alloc, command)?)?;
     let gtid = flag(alloc, SHOW_GTID).help("Print GTIDs too");
+    let command = command.arg(gtid)?;
     let damaged = flag(alloc, SKIP_DAMAGED).help("Go on after an event whose checksum is wrong");
-    let utc = flag(alloc, UTC).help("Read and print times in UTC");
-    let zone = option(alloc, TIME_ZONE, "NAME").help(
-        "Read and print times in this time zone, such as Europe/Berlin",
-    );
+    let command = zone_arguments(alloc, command.arg(damaged)?)?;
     let sorted = option(alloc, SORT, "ORDER")
         .value_parser(ValueParser::Names(&[BY_ROWS]))
         .help("List the transactions of each log by how many rows they change, the most first");
+    let command = command.arg(sorted)?;
     let json = flag(alloc, JSON).help("Write JSON, an object a line");
+    let command = command.arg(json)?;
     let logs = Arg::new(alloc, LOG)
         .help("The binary logs, files")
         .num_args(1..);
-    range_arguments(alloc, table_arguments(alloc, command)?)?
-        .arg(gtid)?
-        .arg(damaged)?
-        .arg(utc)?
-        .arg(zone.conflicts_with(UTC)?)?
-        .arg(sorted)?
-        .arg(json)?
-        .arg(logs.required(true).action(ArgAction::Append))
+    command.arg(logs.required(true).action(ArgAction::Append))
+}
+
+/// Adds the options that say in which time zone times are.
+fn zone_arguments<'a>(alloc: Global, command: Command<'a>) -> Result<Command<'a>, AllocError> {
+    let utc = flag(alloc, UTC).help("Read and print times in UTC");
+    let command = command.arg(utc)?;
+    let zone = option(alloc, TIME_ZONE, "NAME").help(
+        "Read and print times in this time zone, such as Europe/Berlin",
+    );
+    command.arg(zone.conflicts_with(UTC)?)
 }
 
 /// Adds the options that choose tables and threads.
@@ -265,39 +274,37 @@ fn table_arguments<'a>(alloc: Global, command: Command<'a>) -> Result<Command<'a
     let database = option(alloc, DATABASE, "NAME").help(
         "Only the transactions that change a table of this database",
     );
+    let command = command.arg(database.short('d'))?;
     let table = option(alloc, TABLE, "[NAME.]NAME").help(
         "Only those that change this table; can be given several times",
     );
+    let command = command.arg(table.short('T').action(ArgAction::Append))?;
     let excluded = option(alloc, EXCLUDED_TABLE, "[NAME.]NAME").help(
         "Don't count this table; can be given several times",
     );
+    let command = command.arg(excluded.action(ArgAction::Append))?;
     let thread = option(alloc, THREAD, "N").help(
         "Only those of this thread of the server; can be given several times",
     );
-    command
-        .arg(database.short('d'))?
-        .arg(table.short('T').action(ArgAction::Append))?
-        .arg(excluded.action(ArgAction::Append))?
-        .arg(thread.action(ArgAction::Append))
+    command.arg(thread.action(ArgAction::Append))
 }
 
 /// Adds the options that bound positions and times.
 fn range_arguments<'a>(alloc: Global, command: Command<'a>) -> Result<Command<'a>, AllocError> {
     let start = option(alloc, START, "POS").help("Only the units that start at POS or behind it");
+    let command = command.arg(start.short('j'))?;
     let stop = option(alloc, STOP, "POS").help("Only the units that start before POS");
-    let from = option(alloc, START_TIME, "TIME").help(
-        "Only the units of TIME or later: YYYY-MM-DD hh:mm:ss",
-    );
-    let to = option(alloc, STOP_TIME, "TIME").help(
-        "Only the units before TIME: YYYY-MM-DD hh:mm:ss",
-    );
+    let command = command.arg(stop)?;
     let gtid = option(alloc, GTID, "GTID").help(
         "Only the units with this GTID, or one of UUID:N-M; can be given several times",
     );
-    command
-        .arg(start.short('j'))?
-        .arg(stop)?
-        .arg(gtid.action(ArgAction::Append))?
-        .arg(from)?
-        .arg(to)
+    let command = command.arg(gtid.action(ArgAction::Append))?;
+    let from = option(alloc, START_TIME, "TIME").help(
+        "Only the units of TIME or later: YYYY-MM-DD hh:mm:ss",
+    );
+    let command = command.arg(from)?;
+    let to = option(alloc, STOP_TIME, "TIME").help(
+        "Only the units before TIME: YYYY-MM-DD hh:mm:ss",
+    );
+    command.arg(to)
 }
