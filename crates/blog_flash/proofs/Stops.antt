@@ -4,7 +4,7 @@ use Rattle.std.specs.List.{AllByRecursion, flat_map}
 use Rattle.std.proofs.lemmas.List.{length-reverse, length-map, length-take-le, length-drop, take-append-drop, take_at}
 use Rattle.std.proofs.lemmas.List.Elements.{All-from_recursion, recursion_from_All, All-take, All-drop}
 use Rattle.std.proofs.lemmas.List.Concat.{flat_map-append}
-use Rattle.blog_event.specs.Event.{Event, event_size, event_text}
+use Rattle.blog_event.specs.Event.{Event, event_size}
 use Rattle.blog_event.specs.File.{BeginsWith, AreBytes, file_text, end_of}
 use Rattle.blog_row.specs.Kinds.{is_end_kind}
 use Rattle.blog_trans.specs.Selection.{Selection, all}
@@ -13,6 +13,7 @@ use Rattle.blog_trans.specs.Groups.{Transaction, groups}
 use Rattle.blog_trans.specs.Changes.{changes, changes_of, changes_of_transaction}
 use Rattle.blog_flash.specs.States.{apply_all, inverse_all}
 use Rattle.blog_flash.specs.Reversal.{reversed_transaction, reversed}
+use Rattle.blog_flash.specs.code.LaidOut.{text_from}
 use Rattle.blog_flash.specs.Texts.{statement_events, transaction_events, group_events, with_log_pos, laid_out, flashback_text}
 use Rattle.blog_flash.specs.Theorems.{through_ends, front_through, but_last, StopsAt, StopsAnywhere}
 use Rattle.blog_flash.proofs.Formed.{IsTransaction, AreGroups}
@@ -70,13 +71,16 @@ front-is Known k format ts h =
     ap (λ events. file_text (take 1 events ++ through_ends k (drop 1 events))) (written-read Known format ts h)
     ∙ ap (λ events. file_text (format ∷ events)) (through-groups Known k (4 + event_size format) ts h.are_groups)
 
+-- more groups are laid out where the first ones end
+pub laid-more : (format : Event) (xs ys : List Transaction)
+    → laid_out format (xs ++ ys) ≡ laid_out format xs ++ text_from (end_of (4 + event_size format) (group_events xs)) (group_events ys)
+unfolding laid_out
+laid-more format xs ys =
+    rw (flat_map-append transaction_events xs ys, placed-append (4 + event_size format) (group_events xs) (group_events ys)) (simp (flat_map-append, append_assoc))
+
 -- the log begins with the first of its groups, laid out
 laid-begins : (format : Event) (xs ys : List Transaction) → BeginsWith (laid_out format (xs ++ ys)) (laid_out format xs)
-unfolding laid_out
-laid-begins format xs ys =
-    let from : ℕ = 4 + event_size format in
-    let rest : List ℕ = flat_map event_text (with_log_pos (end_of from (group_events xs)) (group_events ys)) in
-    (rest, rw (flat_map-append transaction_events xs ys, placed-append from (group_events xs) (group_events ys)) (simp (flat_map-append, append_assoc)))
+laid-begins format xs ys = (text_from (end_of (4 + event_size format) (group_events xs)) (group_events ys), laid-more format xs ys)
 
 -- the log begins with its first k groups, laid out
 front-begins : (k : ℕ) (format : Event) (ts : List Transaction) → BeginsWith (laid_out format ts) (laid_out format (take k ts))

@@ -28,6 +28,15 @@ pub record IsWritable (Known : Event → Type 0) (format : Event) (ts : List Tra
   pub event : IsEvent format
   pub short : length (laid_out format ts) < 2 ^ 32
 
+-- groups that can be laid out behind an event, and read again
+pub record IsReadable (Known : Event → Type 0) (format : Event) (ts : List Transaction) : Type 0 where
+  pub are_groups : AreGroups Known ts
+  pub event : IsEvent format
+  pub short : length (laid_out format ts) < 2 ^ 32
+
+readable : (Known : Event → Type 0) (format : Event) (ts : List Transaction) → IsWritable Known format ts → IsReadable Known format ts
+readable Known format ts h = record { are_groups = h.are_groups; event = h.event; short = h.short }
+
 -- the events of the log that is laid out
 abbrev pub written_events : Event → List Transaction → List Event
 written_events format ts = format ∷ with_log_pos (4 + event_size format) (group_events ts)
@@ -41,14 +50,17 @@ placed-events pos (e ∷ es) short fits =
     let end = end-total (pos + event_size e) es in (omega (arith, fits.0), placed-events (pos + event_size e) es short fits.1)
 
 -- they are events
-written-are : (Known : Event → Type 0) (format : Event) (ts : List Transaction) → IsWritable Known format ts → AllByRecursion IsEvent (written_events format ts)
+written-are : (Known : Event → Type 0) (format : Event) (ts : List Transaction) → IsReadable Known format ts → AllByRecursion IsEvent (written_events format ts)
 written-are Known format ts h =
     (h.event, placed-events (4 + event_size format) (group_events ts) (omega (arith, end-total (4 + event_size format) (group_events ts), laid-out-length format ts, h.short)) (events-fit Known ts h.are_groups))
 
 -- what is laid out is read again
-pub written-read : (Known : Event → Type 0) (format : Event) (ts : List Transaction) → IsWritable Known format ts → read (laid_out format ts) None ≡ written_events format ts
+pub laid-read : (Known : Event → Type 0) (format : Event) (ts : List Transaction) → IsReadable Known format ts → read (laid_out format ts) None ≡ written_events format ts
 unfolding laid_out
-written-read Known format ts h = read-again format (with_log_pos (4 + event_size format) (group_events ts)) (written-are Known format ts h)
+laid-read Known format ts h = read-again format (with_log_pos (4 + event_size format) (group_events ts)) (written-are Known format ts h)
+
+pub written-read : (Known : Event → Type 0) (format : Event) (ts : List Transaction) → IsWritable Known format ts → read (laid_out format ts) None ≡ written_events format ts
+written-read Known format ts h = laid-read Known format ts (readable Known format ts h)
 
 -- ---- the range
 
@@ -105,9 +117,12 @@ written-accepted Known format ts h =
 -- ---- groups
 
 -- its groups are those that were laid out
-pub written-groups : (Known : Event → Type 0) (format : Event) (ts : List Transaction) → IsWritable Known format ts → groups (laid_out format ts) all ≡ ts
+pub laid-groups : (Known : Event → Type 0) (format : Event) (ts : List Transaction) → IsReadable Known format ts → groups (laid_out format ts) all ≡ ts
 unfolding groups placed_groups
-written-groups Known format ts h =
-    ap (λ es. map transaction_value (placed_groups_in all (range all (placed_from 4 es)))) (written-read Known format ts h)
+laid-groups Known format ts h =
+    ap (λ es. map transaction_value (placed_groups_in all (range all (placed_from 4 es)))) (laid-read Known format ts h)
     ∙ ap (λ ps. map transaction_value (placed_groups_in all ps)) (written-range format ts)
     ∙ groups-again Known (4 + event_size format) ts h.are_groups
+
+pub written-groups : (Known : Event → Type 0) (format : Event) (ts : List Transaction) → IsWritable Known format ts → groups (laid_out format ts) all ≡ ts
+written-groups Known format ts h = laid-groups Known format ts (readable Known format ts h)

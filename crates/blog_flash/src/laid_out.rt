@@ -1,6 +1,6 @@
 //! Laying a log out in memory.
 
-ghost use Rattle.std.specs.Prelude.{◌≡◌, ◌≤◌, List, ◌++◌, length, map, IfOk, vec_len, vec_capacity};
+ghost use Rattle.std.specs.Prelude.{◌≡◌, ◌≤◌, List, ◌++◌, length, map, IfOk, OnErr, OnOk, vec_len, vec_capacity};
 ghost use Rattle.blog_event.specs.File.{end_of, read};
 ghost use Rattle.blog_row.specs.declared.order.Order.{Order};
 ghost use Rattle.blog_trans.specs.Groups.{Transaction};
@@ -45,6 +45,23 @@ fn put_events<'a, A: Allocator, E: WrittenEvents<'a>>(out: &mut Vec<u8, A>, even
     'events: while let Some(event) = events.next_event() {
         event.put(out, 0);
     }
+}
+
+/// Appends events to a log in memory, each with its own size and log_pos. `sizes` are those of the log with them. Fails if memory for
+/// them is refused; nothing is appended then.
+pub fn add_events<'a, A: Allocator, E: WrittenEvents<'a>>(
+    out: &mut Vec<u8, A>,
+    events: &mut E,
+    sizes: LogSizes,
+) -> Result<(), AllocError>
+    requires events { E.can_next events.old }
+    requires sizes { HasSizes (vec_len out.old) (map event_written (E.to_come events.old)) sizes }
+    ensures text { OnOk result (out.new.items ≡ out.old.items ++ text_from (vec_len out.old) (map event_written (E.to_come events.old))) }
+    ensures kept { OnErr result (out.new.items ≡ out.old.items) }
+{
+    out.reserve(sizes.len - out.len())?;
+    put_events(out, events);
+    Ok(())
 }
 
 /// Writes a log into memory: its front, then the events, each with its own size and log_pos. `sizes` are those of the log. Fails

@@ -17,7 +17,7 @@ mod written_out;
 pub use blog_device::{RunFault, Watched, put};
 pub use blog_event::Fault;
 pub use blog_trans::Selection;
-pub use laid_out::{front, lay_out};
+pub use laid_out::{add_events, front, lay_out};
 pub use log_sizes::{LogSizes, sizes_of};
 pub use modes::{Mode, answer, answer_seeded, flashback, forward, selected, sql, summary};
 pub use printed::put_table;

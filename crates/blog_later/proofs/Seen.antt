@@ -50,8 +50,8 @@ touches-more left bytes us u n more holds is counted =
 
 -- the groups of one that can be undone by itself
 pub judged-ok : {A : Type 0} (bytes : List ℕ) (unit : given.Unit A) (index : Index A) → IsJudged bytes unit → unit.groups ≡ Ok index
-    → IsAccepted bytes (between unit.start unit.stop) × (index_bytes index ≡ bytes) × (index_selection index ≡ between unit.start unit.stop)
-judged-ok bytes unit index judged is = subst (λ (r : Result (Index _) Fault). AreGroups bytes unit.start unit.stop r) is judged
+    → IsAccepted bytes (between unit.facts.start unit.facts.stop) × (index_bytes index ≡ bytes) × (index_selection index ≡ between unit.facts.start unit.facts.stop)
+judged-ok bytes unit index judged is = subst (λ (r : Result (Index _) Fault). AreGroups bytes unit.facts.start unit.facts.stop r) is judged
 
 pub seen-accepted : {A : Type 0} (left : Left) (choice : Choice) (bytes : List ℕ) (us : List Facts) (u : Facts) (more : ℕ) (old new : Looked A)
     → fault bytes (between u.start u.stop) ≡ None → AreSeen left choice bytes us old

@@ -54,7 +54,7 @@ impl<'a, A: Allocator + Copy> Looked<'a, A> {
     ) -> Result<(), AllocError>
         requires { IsJudged (log_bytes log.now) unit.now }
         ensures { (us : List Facts) → AreSeen (left_kept left.now) (names_choice names.now) (log_bytes log.now) us self.old
-            → OnOk result (AreSeen (left_kept left.now) (names_choice names.now) (log_bytes log.now) (us ++ facts_told unit.now ∷ []) self.new) }
+            → OnOk result (AreSeen (left_kept left.now) (names_choice names.now) (log_bytes log.now) (us ++ facts_told unit.now.facts ∷ []) self.new) }
     {
         match &unit.groups {
             Ok(index) => {
@@ -64,12 +64,12 @@ impl<'a, A: Allocator + Copy> Looked<'a, A> {
                 Ok(())
             }
             Err(Fault::OutOfMemory) => Err(AllocError),
-            Err(_) if is_passed_over(names, log, unit.start, unit.stop) => {
-                self.apart.push(unit.start)?;
+            Err(_) if is_passed_over(names, log, unit.facts.start, unit.facts.stop) => {
+                self.apart.push(unit.facts.start)?;
                 Ok(())
             }
             Err(_) => {
-                self.unknown.push(unit.start)?;
+                self.unknown.push(unit.facts.start)?;
                 Ok(())
             }
         }

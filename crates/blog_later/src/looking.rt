@@ -32,8 +32,9 @@ pub fn look<'a, A: Allocator + Copy>(
     ensures apart { IfOk result (λ looked. looked.apart.items ≡ starts (filter (is_apart (names_choice names.now) (log_bytes log.now)) (later_units (log_bytes log.now) at))) }
 {
     let mut looked = Looked::none(alloc);
-    for unit in Units::from_position(alloc, log, at) {
-        looked.look(left, names, log, &unit)?;
+    for unit in Units::from_position(log, at) {
+        let judged = unit.with_groups(alloc);
+        looked.look(left, names, log, &judged)?;
     }
     Ok(looked)
 }

@@ -11,7 +11,7 @@ use Rattle.blog_units.specs.declared.unit.Unit.{Unit}
 use Rattle.blog_units.specs.code.UnitsView.{facts_told}
 use Rattle.blog_request.specs.declared.wanted.Concern.{Concern}
 use Rattle.blog_request.specs.declared.wanted.Wanted.{Wanted}
-use Rattle.blog_request.specs.Wanted.{changes_told, concern_of, is_before, is_wanted}
+use Rattle.blog_request.specs.Wanted.{changes_told, concern_of, is_before, is_in_range, is_wanted}
 use Rattle.blog_list.specs.declared.column.TimeColumn.{TimeColumn}
 use Rattle.blog_list.specs.declared.listing.Form.{Form}
 use Rattle.blog_list.specs.declared.listing.Sorting.{Sorting}
@@ -25,7 +25,7 @@ use Rattle.blog_list.specs.Texts.{IsLogBegun, IsLogText, name_above}
 use Rattle.blog_list.specs.code.Held.{HasBegun, HasListed, HasWritten, Sheet}
 use Rattle.blog_list.specs.code.Ranked.{AreRanked, HasBroken, HasHeldBy, HasKept, IsEmptyRanking, IsLineOf, line_bytes}
 use Rattle.blog_list.specs.code.Told.{PutsLineIn, shown_told}
-use Rattle.blog_list.proofs.OnTheWay.{IsListing, listed_of, listing-broken, listing-end, listing-left, listing-more, listing-none, listing-unbegun, listing-unwanted, listing-wanted, listing-written, unwanted-next, wanted-next}
+use Rattle.blog_list.proofs.OnTheWay.{IsListing, listed_of, listing-broken, listing-end, listing-left, listing-more, listing-none, listing-outside, listing-unbegun, listing-unwanted, listing-wanted, listing-written, outside-next, unwanted-next, wanted-next}
 use Rattle.blog_list.proofs.Ranked.{ranked-more, ranked-none}
 
 -- ---- units of the log, in turn
@@ -51,8 +51,8 @@ holding-none Rows sheet l later had text ranking sorted same is empty =
 -- a unit isn't wanted
 pub holding-unwanted : {A B : Type 0} (sorting : Sorting) (sheet : Sheet) (w : Wanted) (log : List ℕ) (place : ℕ → ℕ) (l : LogList) (left rest : List Facts)
     → (had has : Option (List ℕ)) (text : List ℕ) (ranking : Ranking B) (unit : Unit A) (concern : Concern) → IsHolding sorting sheet l (listed_of w log place left) had has text ranking
-    → left ≡ facts_told unit ∷ rest → changes_told unit.groups ≡ changes_of log (facts_told unit) → is_before unit.start w.stop ≡ true
-    → concern ≡ concern_of w log (facts_told unit) (changes_told unit.groups) → is_wanted concern ≡ false → IsHolding sorting sheet l (listed_of w log place rest) had has text ranking
+    → left ≡ facts_told unit.facts ∷ rest → changes_told unit.groups ≡ changes_of log (facts_told unit.facts) → is_before unit.facts.start w.stop ≡ true
+    → concern ≡ concern_of w log (facts_told unit.facts) (changes_told unit.groups) → is_wanted concern ≡ false → IsHolding sorting sheet l (listed_of w log place rest) had has text ranking
 holding-unwanted Place sheet w log place l left rest had has text ranking unit concern list first same earlier is unwanted =
     listing-unwanted sheet w log place l left rest had has text unit concern list first same earlier is unwanted
 holding-unwanted Rows sheet w log place l left rest had has text ranking unit concern list first same earlier is unwanted = record {
@@ -63,12 +63,25 @@ holding-unwanted Rows sheet w log place l left rest had has text ranking unit co
   ranked = list.ranked;
 }
 
+-- or it isn't in the range
+pub holding-outside : {A : Type 0} (sorting : Sorting) (sheet : Sheet) (w : Wanted) (log : List ℕ) (place : ℕ → ℕ) (l : LogList) (left rest : List Facts)
+    → (had has : Option (List ℕ)) (text : List ℕ) (ranking : Ranking A) (u : Facts) → IsHolding sorting sheet l (listed_of w log place left) had has text ranking
+    → left ≡ u ∷ rest → is_before u.start w.stop ≡ true → is_in_range w u ≡ false → IsHolding sorting sheet l (listed_of w log place rest) had has text ranking
+holding-outside Place sheet w log place l left rest had has text ranking u list first earlier outside = listing-outside sheet w log place l left rest had has text u list first earlier outside
+holding-outside Rows sheet w log place l left rest had has text ranking u list first earlier outside = record {
+  done = list.done;
+  chosen = ap (λ (ss : List Shown). list.done ++ ss) (sym (outside-next w log place u left rest first earlier outside)) ∙ list.chosen;
+  unwritten = list.unwritten;
+  name = list.name;
+  ranked = list.ranked;
+}
+
 -- the line of a wanted unit is kept
 pub holding-wanted : {A B C : Type 0} (sorting : Sorting) (before : List ℕ) (form : Form) (gtids : Bool) (column : TimeColumn B) (w : Wanted) (log : List ℕ) (place : ℕ → ℕ) (l : LogList) (left rest : List Facts)
     → (had has now : Option (List ℕ)) (text after : List ℕ) (old new : Ranking C) (unit : Unit A) (concern : Concern)
     → IsHolding sorting (record { form = form; zone = plain_zone column.zone; gtids = gtids; width = length column.heading.items; before = before }) l (listed_of w log place left) had has text old
-    → left ≡ facts_told unit ∷ rest → changes_told unit.groups ≡ changes_of log (facts_told unit) → is_before unit.start w.stop ≡ true
-    → concern ≡ concern_of w log (facts_told unit) (changes_told unit.groups) → is_wanted concern ≡ true
+    → left ≡ facts_told unit.facts ∷ rest → changes_told unit.groups ≡ changes_of log (facts_told unit.facts) → is_before unit.facts.start w.stop ≡ true
+    → concern ≡ concern_of w log (facts_told unit.facts) (changes_told unit.groups) → is_wanted concern ≡ true
     → (choice : Choice) → choice ≡ l.choice → HasKept sorting form column gtids choice l.name (shown_told log place unit) has now text after old new
     → IsHolding sorting (record { form = form; zone = plain_zone column.zone; gtids = gtids; width = length column.heading.items; before = before }) l (listed_of w log place rest) had now after new
 holding-wanted Place before form gtids column w log place l left rest had has now text after old new unit concern list first same earlier is wanted choice of (more, puts, written) =
@@ -98,8 +111,8 @@ holding-left Rows sheet l later had has text ranking list =
 pub holding-broken : {A B C : Type 0} (sorting : Sorting) (before : List ℕ) (form : Form) (gtids : Bool) (column : TimeColumn B) (w : Wanted) (log : List ℕ) (place : ℕ → ℕ) (l : LogList) (left rest : List Facts)
     → (had has now : Option (List ℕ)) (text : List ℕ) (ranking : Ranking C) (unit : Unit A) (concern : Concern)
     → IsHolding sorting (record { form = form; zone = plain_zone column.zone; gtids = gtids; width = length column.heading.items; before = before }) l (listed_of w log place left) had has text ranking
-    → left ≡ facts_told unit ∷ rest → changes_told unit.groups ≡ changes_of log (facts_told unit) → is_before unit.start w.stop ≡ true
-    → concern ≡ concern_of w log (facts_told unit) (changes_told unit.groups) → is_wanted concern ≡ true
+    → left ≡ facts_told unit.facts ∷ rest → changes_told unit.groups ≡ changes_of log (facts_told unit.facts) → is_before unit.facts.start w.stop ≡ true
+    → concern ≡ concern_of w log (facts_told unit.facts) (changes_told unit.groups) → is_wanted concern ≡ true
     → HasBroken sorting form column gtids l.name (shown_told log place unit) has now text → HasBegun form (plain_zone column.zone) gtids (length column.heading.items) l had now before
 holding-broken Place before form gtids column w log place l left rest had has now text ranking unit concern list first same earlier is wanted (inl unwritten) =
     subst (λ (bytes : Option (List ℕ)). HasBegun form (plain_zone column.zone) gtids (length column.heading.items) l had bytes before) (sym unwritten) (listing-left _ l (listed_of w log place left) had has text list)

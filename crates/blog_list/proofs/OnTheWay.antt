@@ -23,7 +23,7 @@ use Rattle.blog_units.specs.code.UnitsView.{AreGroups, IsJudged, facts_told}
 use Rattle.blog_request.specs.declared.wanted.Concern.{Concern}
 use Rattle.blog_request.specs.declared.wanted.Concern.TheVariants.{Wanted as IsWanted, PassedOver, Other}
 use Rattle.blog_request.specs.declared.wanted.Wanted.{Wanted}
-use Rattle.blog_request.specs.Wanted.{changes_told, concern_of, is_before, is_wanted, is_wanted_unit}
+use Rattle.blog_request.specs.Wanted.{changes_told, concern_of, is_before, is_in_range, is_wanted, is_wanted_unit}
 use Rattle.blog_list.specs.declared.column.TimeColumn.{TimeColumn}
 use Rattle.blog_list.specs.declared.listing.Form.{Form}
 use Rattle.blog_list.specs.declared.listing.Form.TheVariants.{Text, Json}
@@ -325,41 +325,49 @@ groups-are {A = A} log start stop (Err why) (inl is) memory = memory-refused A w
 groups-are {A = A} log start stop (Err why) (inr is) memory = sym (ap (rows_or (counts_of (groups log (between start stop)))) is)
 
 -- their changes are those of the log
-pub groups-told : {A : Type 0} (log : List ℕ) (unit : Unit A) → IsJudged log unit → has_no_memory unit.groups ≡ false → changes_told unit.groups ≡ changes_of log (facts_told unit)
-groups-told log unit judged memory = groups-are log unit.start unit.stop unit.groups judged memory
+pub groups-told : {A : Type 0} (log : List ℕ) (unit : Unit A) → IsJudged log unit → has_no_memory unit.groups ≡ false → changes_told unit.groups ≡ changes_of log (facts_told unit.facts)
+groups-told log unit judged memory = groups-are log unit.facts.start unit.facts.stop unit.groups judged memory
 
 -- what is shown of one is what is shown by the log
-told-is-shown : {A : Type 0} (log : List ℕ) (place : ℕ → ℕ) (unit : Unit A) → changes_told unit.groups ≡ changes_of log (facts_told unit)
-    → shown_told log place unit ≡ shown log place (facts_told unit)
+told-is-shown : {A : Type 0} (log : List ℕ) (place : ℕ → ℕ) (unit : Unit A) → changes_told unit.groups ≡ changes_of log (facts_told unit.facts)
+    → shown_told log place unit ≡ shown log place (facts_told unit.facts)
 unfolding shown
-told-is-shown log place unit same = ap (shown_with log place (facts_told unit)) same
+told-is-shown log place unit same = ap (shown_with log place (facts_told unit.facts)) same
 
 -- ---- one step
 
 -- whether a unit is wanted
-is-concern : {A : Type 0} (w : Wanted) (log : List ℕ) (unit : Unit A) (concern : Concern) → changes_told unit.groups ≡ changes_of log (facts_told unit)
-    → concern ≡ concern_of w log (facts_told unit) (changes_told unit.groups) → concern_of w log (facts_told unit) (changes_of log (facts_told unit)) ≡ concern
-is-concern w log unit concern same is = ap (concern_of w log (facts_told unit)) (sym same) ∙ sym is
+is-concern : {A : Type 0} (w : Wanted) (log : List ℕ) (unit : Unit A) (concern : Concern) → changes_told unit.groups ≡ changes_of log (facts_told unit.facts)
+    → concern ≡ concern_of w log (facts_told unit.facts) (changes_told unit.groups) → concern_of w log (facts_told unit.facts) (changes_of log (facts_told unit.facts)) ≡ concern
+is-concern w log unit concern same is = ap (concern_of w log (facts_told unit.facts)) (sym same) ∙ sym is
 
 -- the next unit is wanted, or isn't
 pub wanted-next : {A : Type 0} (w : Wanted) (log : List ℕ) (place : ℕ → ℕ) (left rest : List Facts) (unit : Unit A) (concern : Concern)
-    → left ≡ facts_told unit ∷ rest → changes_told unit.groups ≡ changes_of log (facts_told unit) → is_before unit.start w.stop ≡ true
-    → concern ≡ concern_of w log (facts_told unit) (changes_told unit.groups) → is_wanted concern ≡ true → listed_of w log place left ≡ shown_told log place unit ∷ listed_of w log place rest
+    → left ≡ facts_told unit.facts ∷ rest → changes_told unit.groups ≡ changes_of log (facts_told unit.facts) → is_before unit.facts.start w.stop ≡ true
+    → concern ≡ concern_of w log (facts_told unit.facts) (changes_told unit.groups) → is_wanted concern ≡ true → listed_of w log place left ≡ shown_told log place unit ∷ listed_of w log place rest
 wanted-next w log place left rest unit concern first same earlier is wanted =
-    wanted-first w log place (facts_told unit) left rest (shown_told log place unit) first (told-is-shown log place unit same) earlier (ap is_wanted (is-concern w log unit concern same is) ∙ wanted)
+    wanted-first w log place (facts_told unit.facts) left rest (shown_told log place unit) first (told-is-shown log place unit same) earlier (ap is_wanted (is-concern w log unit concern same is) ∙ wanted)
 
 pub unwanted-next : {A : Type 0} (w : Wanted) (log : List ℕ) (place : ℕ → ℕ) (left rest : List Facts) (unit : Unit A) (concern : Concern)
-    → left ≡ facts_told unit ∷ rest → changes_told unit.groups ≡ changes_of log (facts_told unit) → is_before unit.start w.stop ≡ true
-    → concern ≡ concern_of w log (facts_told unit) (changes_told unit.groups) → is_wanted concern ≡ false → listed_of w log place left ≡ listed_of w log place rest
+    → left ≡ facts_told unit.facts ∷ rest → changes_told unit.groups ≡ changes_of log (facts_told unit.facts) → is_before unit.facts.start w.stop ≡ true
+    → concern ≡ concern_of w log (facts_told unit.facts) (changes_told unit.groups) → is_wanted concern ≡ false → listed_of w log place left ≡ listed_of w log place rest
 unwanted-next w log place left rest unit concern first same earlier is unwanted =
-    unwanted-first w log place (facts_told unit) left rest first earlier (ap is_wanted (is-concern w log unit concern same is) ∙ unwanted)
+    unwanted-first w log place (facts_told unit.facts) left rest first earlier (ap is_wanted (is-concern w log unit concern same is) ∙ unwanted)
+
+-- or it isn't in the range
+outside-is : (w : Wanted) (log : List ℕ) (u : Facts) → is_in_range w u ≡ false → concern_of w log u (changes_of log u) ≡ Other
+outside-is w log u outside = cond-false (is_in_range w u) _ Other outside
+
+pub outside-next : (w : Wanted) (log : List ℕ) (place : ℕ → ℕ) (u : Facts) (left rest : List Facts) → left ≡ u ∷ rest
+    → is_before u.start w.stop ≡ true → is_in_range w u ≡ false → listed_of w log place left ≡ listed_of w log place rest
+outside-next w log place u left rest first earlier outside = unwanted-first w log place u left rest first earlier (ap is_wanted (outside-is w log u outside))
 
 -- the line of a wanted unit was appended
 pub listing-wanted : {A B : Type 0} (before : List ℕ) (form : Form) (gtids : Bool) (column : TimeColumn B) (w : Wanted) (log : List ℕ) (place : ℕ → ℕ) (l : LogList) (left rest : List Facts)
     → (had has : Option (List ℕ)) (held more : List ℕ) (unit : Unit A) (concern : Concern)
     → IsListing (record { form = form; zone = plain_zone column.zone; gtids = gtids; width = length column.heading.items; before = before }) l (listed_of w log place left) had has held
-    → left ≡ facts_told unit ∷ rest → changes_told unit.groups ≡ changes_of log (facts_told unit) → is_before unit.start w.stop ≡ true
-    → concern ≡ concern_of w log (facts_told unit) (changes_told unit.groups) → is_wanted concern ≡ true → PutsLineIn form column gtids l.name (shown_told log place unit) held more
+    → left ≡ facts_told unit.facts ∷ rest → changes_told unit.groups ≡ changes_of log (facts_told unit.facts) → is_before unit.facts.start w.stop ≡ true
+    → concern ≡ concern_of w log (facts_told unit.facts) (changes_told unit.groups) → is_wanted concern ≡ true → PutsLineIn form column gtids l.name (shown_told log place unit) held more
     → IsListing (record { form = form; zone = plain_zone column.zone; gtids = gtids; width = length column.heading.items; before = before }) l (listed_of w log place rest) had has more
 listing-wanted before form gtids column w log place l left rest had has held more unit concern list first same earlier is wanted (line, shows, grown) =
     let s : Shown = shown_told log place unit in
@@ -370,19 +378,39 @@ listing-wanted before form gtids column w log place l left rest had has held mor
 -- a unit isn't wanted
 pub listing-unwanted : {A : Type 0} (sheet : Sheet) (w : Wanted) (log : List ℕ) (place : ℕ → ℕ) (l : LogList) (left rest : List Facts)
     → (had has : Option (List ℕ)) (held : List ℕ) (unit : Unit A) (concern : Concern) → IsListing sheet l (listed_of w log place left) had has held
-    → left ≡ facts_told unit ∷ rest → changes_told unit.groups ≡ changes_of log (facts_told unit) → is_before unit.start w.stop ≡ true
-    → concern ≡ concern_of w log (facts_told unit) (changes_told unit.groups) → is_wanted concern ≡ false → IsListing sheet l (listed_of w log place rest) had has held
+    → left ≡ facts_told unit.facts ∷ rest → changes_told unit.groups ≡ changes_of log (facts_told unit.facts) → is_before unit.facts.start w.stop ≡ true
+    → concern ≡ concern_of w log (facts_told unit.facts) (changes_told unit.groups) → is_wanted concern ≡ false → IsListing sheet l (listed_of w log place rest) had has held
 listing-unwanted sheet w log place l left rest had has held unit concern list first same earlier is unwanted =
     listing-same sheet l (listed_of w log place left) (listed_of w log place rest) had has held list
     (unwanted-next w log place left rest unit concern first same earlier is unwanted)
 
--- a unit is counted
+-- or it isn't in the range
+pub listing-outside : (sheet : Sheet) (w : Wanted) (log : List ℕ) (place : ℕ → ℕ) (l : LogList) (left rest : List Facts) (had has : Option (List ℕ)) (held : List ℕ) (u : Facts)
+    → IsListing sheet l (listed_of w log place left) had has held → left ≡ u ∷ rest → is_before u.start w.stop ≡ true → is_in_range w u ≡ false
+    → IsListing sheet l (listed_of w log place rest) had has held
+listing-outside sheet w log place l left rest had has held u list first earlier outside =
+    listing-same sheet l (listed_of w log place left) (listed_of w log place rest) had has held list (outside-next w log place u left rest first earlier outside)
+
+-- a unit is counted, or isn't in the range
+pub counting-outside : (w : Wanted) (log : List ℕ) (place : ℕ → ℕ) (l : LogList) (left rest : List Facts) (old new : Totals) (u : Facts)
+    → IsCounting old new l (listed_of w log place left) (passed_over_of w log left) → left ≡ u ∷ rest → is_before u.start w.stop ≡ true → is_in_range w u ≡ false
+    → IsCounting old new l (listed_of w log place rest) (passed_over_of w log rest)
+counting-outside w log place l left rest old new u count first earlier outside =
+    let over = passed-first w log u left rest false first earlier (ap is_passed (outside-is w log u outside)) in
+    record {
+      done = count.done;
+      chosen = ap (λ (ss : List Shown). count.done ++ ss) (sym (outside-next w log place u left rest first earlier outside)) ∙ count.chosen;
+      gone = count.gone;
+      over = omega (arith, over, count.over);
+      counts = count.counts;
+    }
+
 pub counting-more : {A : Type 0} (concern : Concern) (w : Wanted) (log : List ℕ) (place : ℕ → ℕ) (l : LogList) (left rest : List Facts) (old mid new : Totals) (unit : Unit A)
-    → IsCounting old mid l (listed_of w log place left) (passed_over_of w log left) → left ≡ facts_told unit ∷ rest → changes_told unit.groups ≡ changes_of log (facts_told unit)
-    → is_before unit.start w.stop ≡ true → concern ≡ concern_of w log (facts_told unit) (changes_told unit.groups) → HasCounted concern mid new (changes_told unit.groups)
+    → IsCounting old mid l (listed_of w log place left) (passed_over_of w log left) → left ≡ facts_told unit.facts ∷ rest → changes_told unit.groups ≡ changes_of log (facts_told unit.facts)
+    → is_before unit.facts.start w.stop ≡ true → concern ≡ concern_of w log (facts_told unit.facts) (changes_told unit.groups) → HasCounted concern mid new (changes_told unit.groups)
     → IsCounting old new l (listed_of w log place rest) (passed_over_of w log rest)
 counting-more IsWanted w log place l left rest old mid new unit count first same earlier is counted =
-    let u : Facts = facts_told unit in
+    let u : Facts = facts_told unit.facts in
     let s : Shown = shown_told log place unit in
     let is_so = is-concern w log unit IsWanted same is in
     let chosen = wanted-first w log place u left rest s first (told-is-shown log place unit same) earlier (ap is_wanted is_so) in
@@ -392,10 +420,10 @@ counting-more IsWanted w log place l left rest old mid new unit count first same
       chosen = append_assoc count.done (s ∷ []) (listed_of w log place rest) ∙ ap (λ (ss : List Shown). count.done ++ ss) (sym chosen) ∙ count.chosen;
       gone = count.gone;
       over = omega (arith, over, count.over);
-      counts = counts-listed log place unit.stop l old mid new count.done count.gone s (changes_told unit.groups) refl count.counts counted;
+      counts = counts-listed log place unit.facts.stop l old mid new count.done count.gone s (changes_told unit.groups) refl count.counts counted;
     }
 counting-more PassedOver w log place l left rest old mid new unit count first same earlier is counted =
-    let u : Facts = facts_told unit in
+    let u : Facts = facts_told unit.facts in
     let is_so = is-concern w log unit PassedOver same is in
     let chosen = unwanted-first w log place u left rest first earlier (ap is_wanted is_so) in
     let over = passed-first w log u left rest true first earlier (ap is_passed is_so) in
@@ -407,7 +435,7 @@ counting-more PassedOver w log place l left rest old mid new unit count first sa
       counts = counts-passed l old mid new count.done count.gone (changes_told unit.groups) count.counts counted;
     }
 counting-more Other w log place l left rest old mid new unit count first same earlier is counted =
-    let u : Facts = facts_told unit in
+    let u : Facts = facts_told unit.facts in
     let is_so = is-concern w log unit Other same is in
     let chosen = unwanted-first w log place u left rest first earlier (ap is_wanted is_so) in
     let over = passed-first w log u left rest false first earlier (ap is_passed is_so) in

@@ -47,11 +47,15 @@ pub(crate) fn put_unit<A: Allocator + Copy, B: Allocator>(
 {
     put_text(out, b"{")?;
     put_log_name(global, out, name)?;
-    put_numbered(out, b"\"start\":", u64::from(source.place(unit.start)))?;
-    put_numbered(out, b",\"stop\":", u64::from(source.place(unit.stop)))?;
-    put_time(out, zone, unit.time)?;
-    put_thread(out, unit.thread)?;
-    put_gtid(global, out, unit.id)?;
+    put_numbered(
+        out,
+        b"\"start\":",
+        u64::from(source.place(unit.facts.start)),
+    )?;
+    put_numbered(out, b",\"stop\":", u64::from(source.place(unit.facts.stop)))?;
+    put_time(out, zone, unit.facts.time)?;
+    put_thread(out, unit.facts.thread)?;
+    put_gtid(global, out, unit.facts.id)?;
     put_changes(global, out, source, log, unit)?;
     put_text(out, b"}\n")
 }
@@ -139,11 +143,11 @@ fn put_changes<A: Allocator, B: Allocator>(
     log: &Log<'_>,
     unit: &Unit<'_, B>,
 ) -> Result<(), AllocError>
-    ensures { OnOk result (out.new.items ≡ out.old.items ++ json_changes (changes_shown (log_bytes log.now) (source_place source.now) unit.now.stop (changes_told unit.now.groups))) }
+    ensures { OnOk result (out.new.items ≡ out.old.items ++ json_changes (changes_shown (log_bytes log.now) (source_place source.now) unit.now.facts.stop (changes_told unit.now.groups))) }
 {
     match &unit.groups {
         Ok(groups) => put_tables(global, out, groups),
-        Err(fault) => put_refusal(out, source, log, fault, unit.stop),
+        Err(fault) => put_refusal(out, source, log, fault, unit.facts.stop),
     }
 }
 

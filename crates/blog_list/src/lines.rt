@@ -68,8 +68,12 @@ pub(crate) fn put_unit<A: Allocator + Copy>(
 ) -> Result<(), AllocError>
     ensures { OnOk result (PutsLine times.now gtids (shown_told (log_bytes log.now) (source_place source.now) unit.now) out.old.items out.new.items) }
 {
-    put_positions(out, source.place(unit.start), source.place(unit.stop))?;
-    times.put_time(out, unit.time)?;
+    put_positions(
+        out,
+        source.place(unit.facts.start),
+        source.place(unit.facts.stop),
+    )?;
+    times.put_time(out, unit.facts.time)?;
     put_rest(out, gtids, times.room(), source, log, unit)
 }
 
@@ -102,9 +106,9 @@ fn put_rest<A: Allocator + Copy>(
     ensures { OnOk result (out.new.items ≡ out.old.items ++ rest_text gtids room (shown_told (log_bytes log.now) (source_place source.now) unit.now)) }
 {
     put_text(out, b"  ")?;
-    put_thread(out, unit.thread)?;
+    put_thread(out, unit.facts.thread)?;
     put_text(out, b"  ")?;
-    put_id_column(out, gtids, unit.id)?;
+    put_id_column(out, gtids, unit.facts.id)?;
     put_changes(out, room, source, log, unit)?;
     put_text(out, b"\n")
 }
@@ -183,11 +187,11 @@ fn put_changes<A: Allocator + Copy>(
     unit: &Unit<'_, A>,
 ) -> Result<(), AllocError>
     requires { room ≤ 63 }
-    ensures { OnOk result (out.new.items ≡ out.old.items ++ changes_text room (changes_shown (log_bytes log.now) (source_place source.now) unit.now.stop (changes_told unit.now.groups))) }
+    ensures { OnOk result (out.new.items ≡ out.old.items ++ changes_text room (changes_shown (log_bytes log.now) (source_place source.now) unit.now.facts.stop (changes_told unit.now.groups))) }
 {
     match &unit.groups {
         Ok(groups) => put_rows(out, room, groups),
-        Err(fault) => put_refusal(out, room, source, log, fault, unit.stop),
+        Err(fault) => put_refusal(out, room, source, log, fault, unit.facts.stop),
     }
 }
 

@@ -220,18 +220,22 @@ impl<'z, A: Allocator + Copy> ListWriter<'z, A> {
         totals.add_damaged(source.damaged());
         let names = ChosenNames::new(self.alloc, &wanted.choice)?;
         let mut whole = true;
-        for unit in Units::new(self.alloc, log) {
+        for unit in Units::new(log) {
             if !is_before(unit.start, wanted.stop) {
                 return Ok(None);
             }
-            if has_no_memory(&unit) {
+            whole = unit.whole;
+            if !wanted.has_in_range(&unit) {
+                continue;
+            }
+            let judged = unit.with_groups(self.alloc);
+            if has_no_memory(&judged) {
                 return Err(RunFault::Log(Fault::OutOfMemory));
             }
-            whole = unit.whole;
-            let concern = wanted.concern(&names, log, &unit);
-            totals.count(concern, &unit);
+            let concern = wanted.concern(&names, log, &judged);
+            totals.count(concern, &judged);
             if is_listed(concern) {
-                self.keep_unit(text, ranking, &names, source, log, name, &unit, writer)?;
+                self.keep_unit(text, ranking, &names, source, log, name, &judged, writer)?;
             }
         }
         Ok(Some(whole))

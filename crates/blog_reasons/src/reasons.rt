@@ -51,7 +51,7 @@ impl<'w, A: Allocator + Copy> Reasons<'w, A> {
             → OnOk result (HasLooked w (logs ++ record { log = log_bytes log.now; start = start; stop = stop } ∷ []) self.new) }
     {
         let range = Range { start, stop };
-        self.units = self.units.with_log(self.alloc, &self.wanted, log, &range);
+        self.units = self.units.with_log(&self.wanted, log, &range);
         self.tables.look(&self.wanted.choice, log)
     }
 

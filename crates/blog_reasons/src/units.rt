@@ -10,7 +10,6 @@ ghost use Rattle.blog_reasons.specs.code.UnitsView.{AreSeenUnits, range_of, seen
 use blog_event::Log;
 use blog_request::{Wanted, is_before};
 use blog_units::Units;
-use std::alloc::Allocator;
 
 /// The least and the greatest of times, in seconds since 1970 in UTC.
 #[derive(Clone, Copy, Debug)]
@@ -95,17 +94,11 @@ impl SeenUnits {
     }
 
     /// Returns the same with the units of a log that are in a range.
-    pub(crate) fn with_log<A: Allocator + Copy>(
-        self,
-        alloc: A,
-        wanted: &Wanted<'_>,
-        log: &Log<'_>,
-        range: &Range,
-    ) -> SeenUnits
+    pub(crate) fn with_log(self, wanted: &Wanted<'_>, log: &Log<'_>, range: &Range) -> SeenUnits
         ensures { (us : List Facts) → AreSeenUnits wanted.now us self → AreSeenUnits wanted.now (us ++ units_in_range (range_of (log_bytes log.now) range.now)) result }
     {
         let mut seen = self;
-        for unit in Units::new(alloc, log) {
+        for unit in Units::new(log) {
             if range.has(unit.start) {
                 seen = seen.with(wanted, unit.time);
             }

@@ -17,7 +17,7 @@ use crate::passing::is_passed_over;
 use blog_choice::{ChosenNames, TableChoice};
 use blog_event::{Fault, Log};
 use blog_trans::Index;
-use blog_units::{GlobalId, Unit};
+use blog_units::{GlobalId, Unit, UnitFacts};
 use std::alloc::Allocator;
 
 /// Which units of a log are wanted: those that meet each condition that is given.
@@ -61,7 +61,7 @@ impl Wanted<'_> {
         unit: &Unit<'_, B>,
     ) -> bool
         requires { names_choice names.now ≡ choice_value self.now.choice }
-        ensures { result ≡ is_wanted_unit self.now (log_bytes log.now) (facts_told unit.now) (changes_told unit.now.groups) }
+        ensures { result ≡ is_wanted_unit self.now (log_bytes log.now) (facts_told unit.now.facts) (changes_told unit.now.groups) }
     {
         match self.concern(names, log, unit) {
             Concern::Wanted => true,
@@ -77,9 +77,9 @@ impl Wanted<'_> {
         unit: &Unit<'_, B>,
     ) -> Concern
         requires { names_choice names.now ≡ choice_value self.now.choice }
-        ensures { result ≡ concern_of self.now (log_bytes log.now) (facts_told unit.now) (changes_told unit.now.groups) }
+        ensures { result ≡ concern_of self.now (log_bytes log.now) (facts_told unit.now.facts) (changes_told unit.now.groups) }
     {
-        if !self.has_in_range(unit) {
+        if !self.has_in_range(&unit.facts) {
             Concern::Other
         } else if self.choice.is_all() {
             Concern::Wanted
@@ -88,8 +88,9 @@ impl Wanted<'_> {
         }
     }
 
-    /// Whether a unit starts within the wanted positions, and is of the wanted times, threads and ids.
-    fn has_in_range<A: Allocator>(&self, unit: &Unit<'_, A>) -> bool
+    /// Returns whether a unit starts within the wanted positions, and is of the wanted times, threads and ids. Any other isn't wanted,
+    /// whatever it changes.
+    pub fn has_in_range(&self, unit: &UnitFacts<'_>) -> bool
         ensures { result ≡ is_in_range self.now (facts_told unit.now) }
     {
         is_from(unit.start, self.start)
@@ -107,13 +108,13 @@ fn by_tables<A: Allocator + Copy, B: Allocator>(
     log: &Log<'_>,
     unit: &Unit<'_, B>,
 ) -> Concern
-    ensures { result ≡ by_tables (names_choice names.now) (log_bytes log.now) (facts_told unit.now) (changes_told unit.now.groups) }
+    ensures { result ≡ by_tables (names_choice names.now) (log_bytes log.now) (facts_told unit.now.facts) (changes_told unit.now.groups) }
 {
     match &unit.groups {
         Ok(groups) if changes_chosen(&names.choice(), groups) => Concern::Wanted,
         Ok(_) => Concern::Other,
-        Err(Fault::Statement { .. }) if is_passed_over(names, log, unit.start, unit.stop) =>
-            Concern::PassedOver,
+        Err(Fault::Statement { .. })
+            if is_passed_over(names, log, unit.facts.start, unit.facts.stop) => Concern::PassedOver,
         Err(_) => Concern::Wanted,
     }
 }

@@ -5,8 +5,10 @@
 mod laws;
 mod part;
 mod unit;
+mod unit_facts;
 mod units;
 
 pub use laws::{transactions_are_in_units, units_hold_the_events};
 pub use unit::{GlobalId, Unit};
+pub use unit_facts::UnitFacts;
 pub use units::Units;

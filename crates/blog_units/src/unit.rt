@@ -9,6 +9,7 @@ ghost use Rattle.blog_units.specs.code.UnitsView.{AreGroups, HasStopped, IsFirst
 ghost use Rattle.blog_trans.specs.Places.{kind_at, placed};
 
 use crate::part::{Part, is_query, is_query_or_rows, opened_by};
+use crate::unit_facts::UnitFacts;
 use blog_event::constants::GTID_LOG_EVENT;
 use blog_event::{Event, Fault, Log};
 use blog_trans::{EventKind, Index, Selection, event_kind, index_from};
@@ -26,23 +27,26 @@ pub struct GlobalId<'a> {
     pub number: u64,
 }
 
-/// A unit of a log: a transaction, or what stands outside of transactions and can't be undone, with the Gtid event in
-/// front of it.
+impl<'a> UnitFacts<'a> {
+    ghost use Rattle.blog_units.specs.code.UnitsView.{IsJudged};
+
+    /// Looks at the changes of the unit. Memory for them is taken from `alloc`.
+    pub fn with_groups<A: Allocator + Copy>(self, alloc: A) -> Unit<'a, A>
+        ensures facts { result.facts ≡ self.entry }
+        ensures judged { IsJudged (log_bytes self.entry.log) result }
+    {
+        Unit {
+            facts: self,
+            groups: groups_between(alloc, &self.log, self.start, self.stop),
+        }
+    }
+}
+
+/// A unit of a log, with what it changes.
 #[derive(Drop)]
 pub struct Unit<'a, A: Allocator = Global> {
-    /// Where it starts, in bytes from the file's start.
-    pub start: u32,
-    /// Where it stops: the byte position behind its last event.
-    pub stop: u32,
-    /// The time of its first Query or rows event, or of its first event where there is none: seconds since 1970, in UTC.
-    pub time: u32,
-    /// The thread that wrote its first Query event, if it has one that can be read.
-    pub thread: Option<u32>,
-    /// Its global transaction id, where it begins with one.
-    pub id: Option<GlobalId<'a>>,
-    /// Whether it is whole: no transaction without an end, and no Gtid event without a transaction or a statement. The log goes
-    /// on behind such a unit with another one, or ends there.
-    pub whole: bool,
+    /// What is told of it before.
+    pub facts: UnitFacts<'a>,
     /// What it changes: the groups of the range from its start to its stop; or the fault of that range, or `OutOfMemory` where
     /// memory for them was refused.
     pub groups: Result<Index<'a, 'static, A>, Fault>,
@@ -187,7 +191,7 @@ pub(crate) fn go_through(
 }
 
 /// The groups of the range from a start to a stop, or why it is refused.
-pub(crate) fn groups_between<'a, A: Allocator + Copy>(
+fn groups_between<'a, A: Allocator + Copy>(
     alloc: A,
     log: &Log<'a>,
     start: u32,

@@ -84,8 +84,9 @@ pub fn lines_of(
 ) -> Result<Vec<u8>, Fail> {
     let log = Log::open(source.bytes())?;
     let mut lines = Vec::new(global);
-    for unit in Units::new(global, &log) {
-        put_unit(global, &mut lines, zone, source, &log, name, &unit)?;
+    for unit in Units::new(&log) {
+        let judged = unit.with_groups(global);
+        put_unit(global, &mut lines, zone, source, &log, name, &judged)?;
     }
     Ok(lines)
 }
@@ -100,7 +101,7 @@ pub(crate) fn put_unit<A: Allocator + Copy, B: Allocator>(
     name: Option<&[u8]>,
     unit: &Unit<'_, B>,
 ) -> Result<(), AllocError> {
-    let gtid = match unit.id {
+    let gtid = match unit.facts.id {
         Some(id) => Some(id_text(global, &id)?),
         None => None,
     };
@@ -108,11 +109,11 @@ pub(crate) fn put_unit<A: Allocator + Copy, B: Allocator>(
     let mut line = UnitLine {
         log: log_text,
         log_hex,
-        start: source.place(unit.start),
-        stop: source.place(unit.stop),
-        time: String::from_str(global, rfc_3339_text(zone, unit.time).as_str())?,
-        timestamp: unit.time,
-        thread: unit.thread,
+        start: source.place(unit.facts.start),
+        stop: source.place(unit.facts.stop),
+        time: String::from_str(global, rfc_3339_text(zone, unit.facts.time).as_str())?,
+        timestamp: unit.facts.time,
+        thread: unit.facts.thread,
         gtid,
         tables: None,
         fault: None,
@@ -129,16 +130,16 @@ pub(crate) fn put_unit<A: Allocator + Copy, B: Allocator>(
             line.tables = Some(tables);
         }
         Err(fault) => {
-            line.fault = Some(name_in(log, fault, unit.stop));
+            line.fault = Some(name_in(log, fault, unit.facts.stop));
             line.position = source.at_place(fault).at();
-            line.statement = match statement_of(log, fault, unit.stop) {
+            line.statement = match statement_of(log, fault, unit.facts.stop) {
                 Some(text) => {
                     let columns = TEXT_COLUMNS;
                     Some(format!(in global; "{}", Beginning { text, columns })?)
                 }
                 None => None,
             };
-            line.event = words_of(log, fault, unit.stop);
+            line.event = words_of(log, fault, unit.facts.stop);
         }
     }
     put_line(global, out, &line)

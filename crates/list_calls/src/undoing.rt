@@ -11,7 +11,7 @@ pub fn undo_each(rt: &impl AllocGlobal, bytes: &[u8]) -> Result<(usize, usize), 
     let log = Log::open(bytes)?;
     let mut undone = 0_usize;
     let mut refused = 0_usize;
-    for unit in Units::new(rt.alloc(), &log) {
+    for unit in Units::new(&log) {
         let sel = Selection {
             start: unit.start,
             stop: Some(unit.stop),
@@ -19,11 +19,12 @@ pub fn undo_each(rt: &impl AllocGlobal, bytes: &[u8]) -> Result<(usize, usize), 
             table: None,
         };
         let answer = answer(rt.alloc(), bytes, Mode::Flashback, &sel);
-        if answer.err() != unit.groups.as_ref().err().copied() {
+        let judged = unit.with_groups(rt.alloc());
+        if answer.err() != judged.groups.as_ref().err().copied() {
             let start = unit.start;
             return Err(Fail::new(format_args!("the range from {start} on")));
         }
-        match unit.groups {
+        match judged.groups {
             Ok(_) => undone = undone.wrapping_add(1),
             Err(_) => refused = refused.wrapping_add(1),
         }

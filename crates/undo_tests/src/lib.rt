@@ -2,6 +2,8 @@
 #![tactic(auto)]
 
 #[cfg(test)]
+mod gathered_tests;
+#[cfg(test)]
 mod group_tests;
 #[cfg(test)]
 mod log_tests;

@@ -50,7 +50,7 @@ const NUMBERED_UNITS: &[Part<'static>] = &[
 fn units_tell_their_global_transaction_ids(rt: HostRuntime) -> Result<(), Fail> {
     let bytes = build(&rt, NUMBERED_UNITS)?;
     let log = Log::open(&bytes)?;
-    let mut units = Units::new(rt.alloc(), &log);
+    let mut units = Units::new(&log);
     // Only the first and the last unit have one.
     for numbered in [true, false, false, false, true] {
         check_id(&rt, units.next().expect(&rt, "a unit").id, numbered);
@@ -77,12 +77,13 @@ fn check_sample(
     wanted: &[(u32, u32, u32, u64)],
 ) -> Result<(), Fail> {
     let log = Log::open(bytes)?;
-    let mut units = Units::new(rt.alloc(), &log);
+    let mut units = Units::new(&log);
     for told in wanted {
         let unit = units.next().expect(rt, "a unit");
-        let seen = (unit.start, unit.stop, unit.time, rows_or_1000(&unit));
+        let judged = unit.with_groups(rt.alloc());
+        let seen = (unit.start, unit.stop, unit.time, rows_or_1000(&judged));
         assert_eq!(rt; seen, *told);
-        assert!(rt; is_of_its_range(rt, &log, &unit));
+        assert!(rt; is_of_its_range(rt, &log, &judged));
     }
     assert!(rt; units.next().is_none());
     Ok(())

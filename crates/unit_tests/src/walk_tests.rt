@@ -91,8 +91,8 @@ pub(crate) fn is_of_its_range(
     unit: &Unit<'_>,
 ) -> bool {
     let sel = Selection {
-        start: unit.start,
-        stop: Some(unit.stop),
+        start: unit.facts.start,
+        stop: Some(unit.facts.stop),
         database: None,
         table: None,
     };
@@ -124,7 +124,7 @@ fn check_log(
     wanted: &[Told<'_>],
 ) -> Result<(), Fail> {
     let log = Log::open(bytes)?;
-    check_units(rt, &log, Units::new(rt.alloc(), &log), parts, wanted)
+    check_units(rt, &log, Units::new(&log), parts, wanted)
 }
 
 /// Checks the units of a log of these parts from the part of this number on.
@@ -136,7 +136,7 @@ fn check_from(
 ) -> Result<(), Fail> {
     let bytes = build(rt, parts)?;
     let log = Log::open(&bytes)?;
-    let units = Units::from_position(rt.alloc(), &log, start_of(rt, parts, number)?);
+    let units = Units::from_position(&log, start_of(rt, parts, number)?);
     check_units(rt, &log, units, parts, wanted)
 }
 
@@ -149,7 +149,7 @@ fn check_units<'l>(
 ) -> Result<(), Fail> {
     let mut units = units;
     for told in wanted {
-        let unit = units.next().expect(rt, "a unit");
+        let unit = units.next().expect(rt, "a unit").with_groups(rt.alloc());
         check_unit(rt, parts, &unit, told)?;
         assert!(rt; is_of_its_range(rt, log, &unit));
     }
@@ -165,8 +165,8 @@ fn check_unit(
     told: &Told<'_>,
 ) -> Result<(), Fail> {
     let (first, last, answer) = *told;
-    assert_eq!(rt; unit.start, start_of(rt, parts, first)?);
-    assert_eq!(rt; unit.stop, start_of(rt, parts, last)?);
+    assert_eq!(rt; unit.facts.start, start_of(rt, parts, first)?);
+    assert_eq!(rt; unit.facts.stop, start_of(rt, parts, last)?);
     match (answer, &unit.groups) {
         (Answer::Rows(rows), Ok(groups)) => assert_eq!(rt; rows_of(groups), rows),
         (Answer::Refused(name, part), Err(fault)) => check_told(rt, parts, name, part, *fault)?,

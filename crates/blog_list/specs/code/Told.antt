@@ -25,7 +25,7 @@ source_place source = place_of (log_of source) (end_of source)
 
 -- what is shown of a unit
 abbrev pub shown_told : {A : Type 0} → List ℕ → (ℕ → ℕ) → Unit A → Shown
-shown_told log place unit = shown_with log place (facts_told unit) (changes_told unit.groups)
+shown_told log place unit = shown_with log place (facts_told unit.facts) (changes_told unit.groups)
 
 -- its line was appended, as text
 abbrev pub PutsLine : {A : Type 0} → TimeColumn A → Bool → Shown → List ℕ → List ℕ → Type 0

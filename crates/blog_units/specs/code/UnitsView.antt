@@ -1,7 +1,6 @@
 -- What a contract sees of a unit, and of an iterator over the units of a log.
 use Rattle.std.specs.Prelude.{◌≡◌, ℕ, ◌+◌, ◌≤◌, Bool, List, ◌∷◌, length, map, find, Option, None, Some, IfSome, option_map, Result, MatchResult, if◌then◌else◌}
 use Rattle.std.specs.Iterator.{YieldsFirstBy}
-use Rattle.std.specs.declared.alloc.Allocator.{Ghosts}
 use Rattle.blog_event.specs.declared.event.Event as event
 use Rattle.blog_event.specs.declared.fault.Fault.{Fault}
 use Rattle.blog_event.specs.declared.log.Log.{Log}
@@ -16,6 +15,7 @@ use Rattle.blog_units.specs.declared.part.Part.{Part}
 use Rattle.blog_units.specs.declared.unit.GlobalId as told
 use Rattle.blog_units.specs.declared.unit.Seen.{Seen}
 use Rattle.blog_units.specs.declared.unit.Unit as given
+use Rattle.blog_units.specs.declared.unit_facts.UnitFacts as found
 use Rattle.blog_units.specs.declared.units.Units.{Units}
 use Rattle.blog_units.specs.code.Boundaries.{IsBoundary, events_behind}
 use Rattle.blog_units.specs.Units.{Facts, Id, between, end_behind, facts_of, is_query, is_query_or_rows, opened_by, part_behind, rest_of, thread_of, units_in}
@@ -24,8 +24,8 @@ use Rattle.blog_units.specs.Units.{Facts, Id, between, end_behind, facts_of, is_
 abbrev pub id_told : told.GlobalId → Id
 id_told id = record { server = id.server.now; tag = id.tag.now; number = id.number }
 
--- what a unit of the program tells
-abbrev pub facts_told : {A : Type 0} → given.Unit A → Facts
+-- what is told of a unit of the program
+abbrev pub facts_told : found.UnitFacts → Facts
 facts_told unit = record {
   start = unit.start;
   stop = unit.stop;
@@ -43,7 +43,7 @@ AreGroups bytes start stop groups =
 
 -- a unit tells what may be undone of its own range
 abbrev pub IsJudged : {A : Type 0} → List ℕ → given.Unit A → Type 0
-IsJudged bytes unit = AreGroups bytes unit.start unit.stop unit.groups
+IsJudged bytes unit = AreGroups bytes unit.facts.start unit.facts.stop unit.groups
 
 -- the first event, from a position on, that begins a unit, which has this part with it
 pub record IsFirst (bytes : List ℕ) (from : ℕ) (found : event.Event × Part) : Type 0 where
@@ -89,15 +89,15 @@ pub record HasStopped (from at : ℕ) (part : Part) (known seen : Seen) (last : 
   pub last_is : last ≡ part_behind (Some part) (rest_of (Some part) ps)
 
 -- what is told of the units that are left
-abbrev pub units_left : {A : Type 0} {g : Ghosts A} → Units A g → List Facts
+abbrev pub units_left : Units → List Facts
 units_left units = map facts_of (units_in None (events_behind (log_bytes units.log) units.at))
 
 -- the log of the units
-abbrev pub units_log : {A : Type 0} {g : Ghosts A} → Units A g → Log
+abbrev pub units_log : Units → Log
 units_log units = units.log
 
 -- a step gives the first unit that is left, and none where none is
-pub record GivesUnit {A : Type 0} {g : Ghosts A} (before : Units A g) (unit : Option (given.Unit A)) (after : Units A g) : Type 0 where
+pub record GivesUnit (before : Units) (unit : Option found.UnitFacts) (after : Units) : Type 0 where
   pub first : YieldsFirstBy facts_told units_left before unit after
-  pub judged : IfSome unit (IsJudged (log_bytes before.log))
+  pub of_log : IfSome unit (λ u. u.log ≡ before.log)
   pub log : after.log ≡ before.log

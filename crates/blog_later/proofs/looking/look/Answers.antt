@@ -1,7 +1,8 @@
-use Rattle.std.proofs.Common.{ap, subst, ◌∙◌}
+use Rattle.std.proofs.Common.{◌∷◌, ap, subst, sym, ◌∙◌}
 use Rattle.blog_choice.specs.code.ChosenView.{names_choice}
 use Rattle.blog_event.specs.code.LogView.{log_bytes}
 use Rattle.blog_event.specs.declared.log.Log.{Log}
+use Rattle.blog_units.specs.declared.unit_facts.UnitFacts.{UnitFacts}
 use Rattle.blog_units.specs.code.UnitsView.{IsJudged, facts_told, units_left, units_log}
 use Rattle.blog_later.specs.Later.{later_units}
 use Rattle.blog_later.specs.code.LookedView.{left_kept}
@@ -21,7 +22,7 @@ loop-unit-init g c =
     }
 
 pub look-requires : goal.look-requires
-look-requires g c = subst (λ (log : Log). IsJudged (log_bytes log) c.in-Some.unit) c.loop-unit.invariant.log c.in-Some.ensures.steps.judged
+look-requires g c = subst (λ (log : Log). IsJudged (log_bytes log) c.with_groups-judged.result) (c.in-Some.ensures.steps.of_log ∙ c.loop-unit.invariant.log) c.with_groups-judged.ensures.judged
 
 pub loop-unit-preserved : goal.loop-unit-preserved
 loop-unit-preserved g c =
@@ -31,7 +32,8 @@ loop-unit-preserved g c =
       next = tt;
       finite = tt;
       log = c.in-Some.ensures.steps.log ∙ c.loop-unit.invariant.log;
-      looking = looking-on (left_kept c.args.left.now) (names_choice c.args.names.now) bytes (later_units bytes c.args.at) _ _ (facts_told c.in-Some.unit) _ _ seen c.in-Some.ensures.steps.first
+      looking = looking-on (left_kept c.args.left.now) (names_choice c.args.names.now) bytes (later_units bytes c.args.at) _ _ (facts_told c.with_groups-judged.result.facts) _ _ seen
+          (c.in-Some.ensures.steps.first ∙ ap (λ (f : UnitFacts). facts_told f ∷ units_left c.next.new.self) (sym c.with_groups-judged.ensures.facts))
           (c.in_ok-look.ensures seen.done seen.are);
     }
 
@@ -43,6 +45,7 @@ loop-unit-preserved-in_ok-look g c =
       next = tt;
       finite = tt;
       log = c.in-Some.ensures.steps.log ∙ c.loop-unit.invariant.log;
-      looking = looking-on (left_kept c.args.left.now) (names_choice c.args.names.now) bytes (later_units bytes c.args.at) _ _ (facts_told c.in-Some.unit) _ _ seen c.in-Some.ensures.steps.first
+      looking = looking-on (left_kept c.args.left.now) (names_choice c.args.names.now) bytes (later_units bytes c.args.at) _ _ (facts_told c.with_groups-judged.result.facts) _ _ seen
+          (c.in-Some.ensures.steps.first ∙ ap (λ (f : UnitFacts). facts_told f ∷ units_left c.next.new.self) (sym c.with_groups-judged.ensures.facts))
           (c.in_ok-look.ensures seen.done seen.are);
     }

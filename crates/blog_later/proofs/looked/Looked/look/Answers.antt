@@ -9,5 +9,5 @@ use Rattle.blog_later.proofs.looked.Looked.look.Goals as goal
 pub returns-in_ok-touched-in-Ok : goal.returns-in_ok-touched-in-Ok
 returns-in_ok-touched-in-Ok g c = λ us are.
     let (accepted, same, sel) = judged-ok (log_bytes c.args.log.now) c.args.unit.now c.in-Ok.index c.requires c.in-Ok.is in
-    seen-accepted (left_kept c.args.left.now) (names_choice c.args.names.now) (log_bytes c.args.log.now) us (facts_told c.args.unit.now) c.in_ok-touched-in-Ok.touched c.args.self.now _
+    seen-accepted (left_kept c.args.left.now) (names_choice c.args.names.now) (log_bytes c.args.log.now) us (facts_told c.args.unit.now.facts) c.in_ok-touched-in-Ok.touched c.args.self.now _
     accepted are (rw (same, sel) at c.in_ok-touched-in-Ok.ensures) c.saturating_add-self.ensures c.saturating_add-self-in-Ok.ensures refl refl

@@ -1,4 +1,4 @@
-use Rattle.std.proofs.Common.{ℕ, List, map, refl, sym, ap, subst, ◌∙◌}
+use Rattle.std.proofs.Common.{ℕ, List, ◌∷◌, map, refl, sym, ap, subst, ◌∙◌}
 use Rattle.std.specs.Prelude.{option_copied}
 use Rattle.std.proofs.Math.Bool.{or-false}
 use Rattle.std.proofs.lemmas.Result.{err_from_is_err_and}
@@ -6,15 +6,17 @@ use Rattle.blog_event.specs.code.LogView.{log_bytes}
 use Rattle.blog_event.specs.declared.log.Log.{Log}
 use Rattle.blog_source.specs.code.SourceView.{damaged_of}
 use Rattle.blog_units.specs.Units.{facts_of, units}
+use Rattle.blog_units.specs.declared.unit_facts.UnitFacts.{UnitFacts}
 use Rattle.blog_units.specs.code.UnitsView.{IsJudged, facts_told, units_left}
+use Rattle.blog_request.specs.Wanted.{is_before}
 use Rattle.blog_list.specs.Lines.{LogList}
 use Rattle.blog_list.specs.Shown.{log_list, passed_over_of}
 use Rattle.blog_list.specs.code.Told.{source_place}
 use Rattle.blog_list.specs.code.Totals.{HasDamaged}
 use Rattle.blog_list.specs.code.WriterView.{form_of, gtids_of, sorting_of}
 use Rattle.blog_list.proofs.Ending.{passing-none, passing-more, passing-stopped, passing-end}
-use Rattle.blog_list.proofs.Holding.{holding-broken, holding-end, holding-left, holding-none, holding-unwanted, holding-wanted}
-use Rattle.blog_list.proofs.OnTheWay.{counting-end, counting-more, counting-none, groups-told, listed_of, listing-unbegun, stopped-first, stopped-passed}
+use Rattle.blog_list.proofs.Holding.{holding-broken, holding-end, holding-left, holding-none, holding-outside, holding-unwanted, holding-wanted}
+use Rattle.blog_list.proofs.OnTheWay.{counting-end, counting-more, counting-none, counting-outside, groups-told, listed_of, listing-unbegun, stopped-first, stopped-passed}
 use Rattle.blog_list.proofs.list_writer.ListWriter.put_units.Goals.{then-is_listed+in_ok-keep_unit, else-is_listed}
 use Rattle.blog_list.proofs.list_writer.ListWriter.put_units.Goals as goal
 
@@ -70,24 +72,43 @@ pub returns-in_err-keep_unit-clause-beginning : goal.returns-in_err-keep_unit-cl
 returns-in_err-keep_unit-clause-beginning g c =
     let p = err_from_is_err_and c.from_residual-in_err-keep_unit.result c.from_residual-in_err-keep_unit.ensures.1 in
     let log : List ℕ = log_bytes c.args.log.now in
-    let unit = c.in-Some.unit in
-    let judged = subst (λ (l : Log). IsJudged (log_bytes l) unit) c.loop-unit.invariant.same c.in-Some.ensures.steps.judged in
-    let same = groups-told log unit judged (sym c.has_no_memory.ensures ∙ c.if-has_no_memory.false) in
-    let earlier = sym c.is_before.ensures ∙ c.if-not-is_before.false in
+    let unit = c.with_groups-judged.result in
+    let of_log = c.in-Some.ensures.steps.of_log ∙ c.loop-unit.invariant.same in
+    let same = groups-told log unit (subst (λ (l : Log). IsJudged (log_bytes l) unit) of_log c.with_groups-judged.ensures.judged) (sym c.has_no_memory.ensures ∙ c.if-has_no_memory.false) in
+    let first = c.in-Some.ensures.steps.first ∙ ap (λ (f : UnitFacts). facts_told f ∷ units_left c.next.new.self) (sym c.with_groups-judged.ensures.facts) in
+    let earlier = ap (λ (f : UnitFacts). is_before f.start c.args.wanted.now.stop) c.with_groups-judged.ensures.facts ∙ sym c.is_before.ensures ∙ c.if-not-is_before.false in
     rw p.1 (holding-broken (sorting_of c.args.self.now) c.args.text.now.items (form_of c.args.self.now) (gtids_of c.args.self.now) c.args.self.now.times c.args.wanted.now log (source_place c.args.source.now) _ _ _ _ _ _ _ _ unit _
-    c.loop-unit.invariant.list c.in-Some.ensures.steps.first same earlier c.concern-concern.ensures (sym c.is_listed.ensures ∙ c.if-is_listed.true) c.in_err-keep_unit.ensures.beginning)
+    c.loop-unit.invariant.list first same earlier c.concern-concern.ensures (sym c.is_listed.ensures ∙ c.if-is_listed.true) c.in_err-keep_unit.ensures.beginning)
+
+pub loop-unit-preserved-then-not-has_in_range : goal.loop-unit-preserved-then-not-has_in_range
+loop-unit-preserved-then-not-has_in_range g c =
+    let log : List ℕ = log_bytes c.args.log.now in
+    let u = facts_told c.in-Some.unit in
+    let first = c.in-Some.ensures.steps.first in
+    let earlier = sym c.is_before.ensures ∙ c.if-not-is_before.false in
+    let outside = sym c.has_in_range.ensures ∙ c.if-not-has_in_range.true in
+    record {
+      next = tt;
+      finite = tt;
+      same = c.in-Some.ensures.steps.log ∙ c.loop-unit.invariant.same;
+      mark = c.loop-unit.invariant.mark;
+      list = holding-outside (sorting_of c.args.self.now) _ c.args.wanted.now log (source_place c.args.source.now) _ _ _ _ _ _ _ u c.loop-unit.invariant.list first earlier outside;
+      count = counting-outside c.args.wanted.now log (source_place c.args.source.now) _ _ _ _ _ u c.loop-unit.invariant.count first earlier outside;
+      passing = passing-more (map facts_of (units log)) c.args.wanted.now.stop c.loop-unit.whole c.in-Some.unit.whole u _ _ c.loop-unit.invariant.passing first earlier refl;
+    }
 
 pub loop-unit-preserved-after-is_listed : goal.loop-unit-preserved-after-is_listed
 loop-unit-preserved-after-is_listed g c =
     let log : List ℕ = log_bytes c.args.log.now in
-    let unit = c.in-Some.unit in
-    let judged = subst (λ (l : Log). IsJudged (log_bytes l) unit) c.loop-unit.invariant.same c.in-Some.ensures.steps.judged in
-    let same = groups-told log unit judged (sym c.has_no_memory.ensures ∙ c.if-has_no_memory.false) in
-    let earlier = sym c.is_before.ensures ∙ c.if-not-is_before.false in
-    let passing = passing-more (map facts_of (units log)) c.args.wanted.now.stop c.loop-unit.whole unit.whole (facts_told unit) _ _
-    c.loop-unit.invariant.passing c.in-Some.ensures.steps.first earlier refl in
+    let unit = c.with_groups-judged.result in
+    let of_log = c.in-Some.ensures.steps.of_log ∙ c.loop-unit.invariant.same in
+    let same = groups-told log unit (subst (λ (l : Log). IsJudged (log_bytes l) unit) of_log c.with_groups-judged.ensures.judged) (sym c.has_no_memory.ensures ∙ c.if-has_no_memory.false) in
+    let first = c.in-Some.ensures.steps.first ∙ ap (λ (f : UnitFacts). facts_told f ∷ units_left c.next.new.self) (sym c.with_groups-judged.ensures.facts) in
+    let earlier = ap (λ (f : UnitFacts). is_before f.start c.args.wanted.now.stop) c.with_groups-judged.ensures.facts ∙ sym c.is_before.ensures ∙ c.if-not-is_before.false in
+    let passing = passing-more (map facts_of (units log)) c.args.wanted.now.stop c.loop-unit.whole c.in-Some.unit.whole (facts_told c.in-Some.unit) _ _
+    c.loop-unit.invariant.passing c.in-Some.ensures.steps.first (sym c.is_before.ensures ∙ c.if-not-is_before.false) refl in
     let of = ap (λ (l : Log). l) c.in-Some.ensures.steps.log ∙ c.loop-unit.invariant.same in
-    let count = counting-more _ c.args.wanted.now log (source_place c.args.source.now) _ _ _ _ _ _ unit c.loop-unit.invariant.count c.in-Some.ensures.steps.first same earlier c.concern-concern.ensures c.count.ensures in
+    let count = counting-more _ c.args.wanted.now log (source_place c.args.source.now) _ _ _ _ _ _ unit c.loop-unit.invariant.count first same earlier c.concern-concern.ensures c.count.ensures in
     elim c.if-is_listed.branch [
       | then-is_listed+in_ok-keep_unit w ↦ rw (w.writer-is, w.text-is, w.ranking-is) (record {
         next = tt;
@@ -95,7 +116,7 @@ loop-unit-preserved-after-is_listed g c =
         same = of;
         mark = (rw or-false at w.in_ok-keep_unit.ensures.mark) ∙ c.loop-unit.invariant.mark;
         list = holding-wanted (sorting_of c.args.self.now) c.args.text.now.items (form_of c.args.self.now) (gtids_of c.args.self.now) c.args.self.now.times c.args.wanted.now log (source_place c.args.source.now) _ _ _ _ _ _ _ _ _ _ unit _
-            c.loop-unit.invariant.list c.in-Some.ensures.steps.first same earlier c.concern-concern.ensures (sym c.is_listed.ensures ∙ w.if-is_listed.true) _ c.in_ok-names.ensures w.in_ok-keep_unit.ensures.text;
+            c.loop-unit.invariant.list first same earlier c.concern-concern.ensures (sym c.is_listed.ensures ∙ w.if-is_listed.true) _ c.in_ok-names.ensures w.in_ok-keep_unit.ensures.text;
         count = count;
         passing = passing;
       })
@@ -104,7 +125,7 @@ loop-unit-preserved-after-is_listed g c =
         finite = tt;
         same = of;
         mark = c.loop-unit.invariant.mark;
-        list = holding-unwanted (sorting_of c.args.self.now) _ c.args.wanted.now log (source_place c.args.source.now) _ _ _ _ _ _ _ unit _ c.loop-unit.invariant.list c.in-Some.ensures.steps.first same earlier c.concern-concern.ensures (sym c.is_listed.ensures ∙ w.if-is_listed.false);
+        list = holding-unwanted (sorting_of c.args.self.now) _ c.args.wanted.now log (source_place c.args.source.now) _ _ _ _ _ _ _ unit _ c.loop-unit.invariant.list first same earlier c.concern-concern.ensures (sym c.is_listed.ensures ∙ w.if-is_listed.false);
         count = count;
         passing = passing;
       })
@@ -113,14 +134,15 @@ loop-unit-preserved-after-is_listed g c =
 pub loop-unit-preserved : goal.loop-unit-preserved
 loop-unit-preserved g c =
     let log : List ℕ = log_bytes c.args.log.now in
-    let unit = c.in-Some.unit in
-    let judged = subst (λ (l : Log). IsJudged (log_bytes l) unit) c.loop-unit.invariant.same c.in-Some.ensures.steps.judged in
-    let same = groups-told log unit judged (sym c.has_no_memory.ensures ∙ c.if-has_no_memory.false) in
-    let earlier = sym c.is_before.ensures ∙ c.if-not-is_before.false in
-    let passing = passing-more (map facts_of (units log)) c.args.wanted.now.stop c.loop-unit.whole unit.whole (facts_told unit) _ _
-    c.loop-unit.invariant.passing c.in-Some.ensures.steps.first earlier refl in
+    let unit = c.with_groups-judged.result in
+    let of_log = c.in-Some.ensures.steps.of_log ∙ c.loop-unit.invariant.same in
+    let same = groups-told log unit (subst (λ (l : Log). IsJudged (log_bytes l) unit) of_log c.with_groups-judged.ensures.judged) (sym c.has_no_memory.ensures ∙ c.if-has_no_memory.false) in
+    let first = c.in-Some.ensures.steps.first ∙ ap (λ (f : UnitFacts). facts_told f ∷ units_left c.next.new.self) (sym c.with_groups-judged.ensures.facts) in
+    let earlier = ap (λ (f : UnitFacts). is_before f.start c.args.wanted.now.stop) c.with_groups-judged.ensures.facts ∙ sym c.is_before.ensures ∙ c.if-not-is_before.false in
+    let passing = passing-more (map facts_of (units log)) c.args.wanted.now.stop c.loop-unit.whole c.in-Some.unit.whole (facts_told c.in-Some.unit) _ _
+    c.loop-unit.invariant.passing c.in-Some.ensures.steps.first (sym c.is_before.ensures ∙ c.if-not-is_before.false) refl in
     let of = ap (λ (l : Log). l) c.in-Some.ensures.steps.log ∙ c.loop-unit.invariant.same in
-    let count = counting-more _ c.args.wanted.now log (source_place c.args.source.now) _ _ _ _ _ _ unit c.loop-unit.invariant.count c.in-Some.ensures.steps.first same earlier c.concern-concern.ensures c.count.ensures in
+    let count = counting-more _ c.args.wanted.now log (source_place c.args.source.now) _ _ _ _ _ _ unit c.loop-unit.invariant.count first same earlier c.concern-concern.ensures c.count.ensures in
     elim c.if-is_listed.branch [
       | then-is_listed+in_ok-keep_unit w ↦ rw (w.writer-is, w.text-is, w.ranking-is) (record {
         next = tt;
@@ -128,7 +150,7 @@ loop-unit-preserved g c =
         same = of;
         mark = (rw or-false at w.in_ok-keep_unit.ensures.mark) ∙ c.loop-unit.invariant.mark;
         list = holding-wanted (sorting_of c.args.self.now) c.args.text.now.items (form_of c.args.self.now) (gtids_of c.args.self.now) c.args.self.now.times c.args.wanted.now log (source_place c.args.source.now) _ _ _ _ _ _ _ _ _ _ unit _
-            c.loop-unit.invariant.list c.in-Some.ensures.steps.first same earlier c.concern-concern.ensures (sym c.is_listed.ensures ∙ w.if-is_listed.true) _ c.in_ok-names.ensures w.in_ok-keep_unit.ensures.text;
+            c.loop-unit.invariant.list first same earlier c.concern-concern.ensures (sym c.is_listed.ensures ∙ w.if-is_listed.true) _ c.in_ok-names.ensures w.in_ok-keep_unit.ensures.text;
         count = count;
         passing = passing;
       })
@@ -137,7 +159,7 @@ loop-unit-preserved g c =
         finite = tt;
         same = of;
         mark = c.loop-unit.invariant.mark;
-        list = holding-unwanted (sorting_of c.args.self.now) _ c.args.wanted.now log (source_place c.args.source.now) _ _ _ _ _ _ _ unit _ c.loop-unit.invariant.list c.in-Some.ensures.steps.first same earlier c.concern-concern.ensures (sym c.is_listed.ensures ∙ w.if-is_listed.false);
+        list = holding-unwanted (sorting_of c.args.self.now) _ c.args.wanted.now log (source_place c.args.source.now) _ _ _ _ _ _ _ unit _ c.loop-unit.invariant.list first same earlier c.concern-concern.ensures (sym c.is_listed.ensures ∙ w.if-is_listed.false);
         count = count;
         passing = passing;
       })

@@ -5,60 +5,37 @@ use Rattle.blog_units.specs.code.UnitsView.{facts_told, units_left}
 use Rattle.blog_reasons.specs.Reasons.{units_in_range}
 use Rattle.blog_reasons.specs.code.UnitsView.{range_of}
 use Rattle.blog_reasons.proofs.SeenUnits.{is_inside, seeing-end, seeing-in, seeing-none, seeing-out}
-use Rattle.blog_reasons.proofs.units.SeenUnits.with_log.Goals.{then-has, else-has}
 use Rattle.blog_reasons.proofs.units.SeenUnits.with_log.Goals as goal
 
 pub loop-unit-init : goal.loop-unit-init
-loop-unit-init g c = record {
+loop-unit-init c = record {
   next = tt;
   finite = tt;
   seeing = λ us are. seeing-none c.args.wanted.now us (map facts_of (units (log_bytes c.args.log.now))) _ (is_inside c.args.range.now) _
       (ap units_left c.into_iter-unit-iterator.ensures.into_iter_gives ∙ c.new-unit-items.ensures.units) are;
 }
 
-pub loop-unit-preserved-after-has : goal.loop-unit-preserved-after-has
-loop-unit-preserved-after-has g c =
+pub loop-unit-preserved-then-has : goal.loop-unit-preserved-then-has
+loop-unit-preserved-then-has c =
     let range = c.args.range.now in
     let all = λ (us : List Facts). us ++ units_in_range (range_of (log_bytes c.args.log.now) range) in
-    let left = units_left c.loop-unit.unit-iterator in
-    let rest = units_left c.next.new.self in
-    let u = facts_told c.in-Some.unit in
-    elim c.if-has.branch [
-      | then-has w ↦ record {
-        next = tt;
-        finite = tt;
-        seeing = λ us are. seeing-in c.args.wanted.now (all us) (is_inside range) c.loop-unit.seen c.if-has.seen u left rest (c.loop-unit.invariant.seeing us are) c.in-Some.ensures.steps.first
-            (sym c.has.ensures ∙ w.if-has.true) (w.seen-is ∙ w.with-seen.ensures);
-      }
-      | else-has w ↦ record {
-        next = tt;
-        finite = tt;
-        seeing = λ us are. rw w.seen-is (seeing-out c.args.wanted.now (all us) (is_inside range) c.loop-unit.seen u left rest (c.loop-unit.invariant.seeing us are) c.in-Some.ensures.steps.first
-            (sym c.has.ensures ∙ w.if-has.false));
-      }
-    ]
+    record {
+      next = tt;
+      finite = tt;
+      seeing = λ us are. seeing-in c.args.wanted.now (all us) (is_inside range) c.loop-unit.seen c.with-seen.result (facts_told c.in-Some.unit) (units_left c.loop-unit.unit-iterator) (units_left c.next.new.self)
+          (c.loop-unit.invariant.seeing us are) c.in-Some.ensures.steps.first (sym c.has.ensures ∙ c.if-has.true) c.with-seen.ensures;
+    }
 
 pub loop-unit-preserved : goal.loop-unit-preserved
-loop-unit-preserved g c =
+loop-unit-preserved c =
     let range = c.args.range.now in
     let all = λ (us : List Facts). us ++ units_in_range (range_of (log_bytes c.args.log.now) range) in
-    let left = units_left c.loop-unit.unit-iterator in
-    let rest = units_left c.next.new.self in
-    let u = facts_told c.in-Some.unit in
-    elim c.if-has.branch [
-      | then-has w ↦ record {
-        next = tt;
-        finite = tt;
-        seeing = λ us are. seeing-in c.args.wanted.now (all us) (is_inside range) c.loop-unit.seen c.if-has.seen u left rest (c.loop-unit.invariant.seeing us are) c.in-Some.ensures.steps.first
-            (sym c.has.ensures ∙ w.if-has.true) (w.seen-is ∙ w.with-seen.ensures);
-      }
-      | else-has w ↦ record {
-        next = tt;
-        finite = tt;
-        seeing = λ us are. rw w.seen-is (seeing-out c.args.wanted.now (all us) (is_inside range) c.loop-unit.seen u left rest (c.loop-unit.invariant.seeing us are) c.in-Some.ensures.steps.first
-            (sym c.has.ensures ∙ w.if-has.false));
-      }
-    ]
+    record {
+      next = tt;
+      finite = tt;
+      seeing = λ us are. seeing-out c.args.wanted.now (all us) (is_inside range) c.loop-unit.seen (facts_told c.in-Some.unit) (units_left c.loop-unit.unit-iterator) (units_left c.next.new.self)
+          (c.loop-unit.invariant.seeing us are) c.in-Some.ensures.steps.first (sym c.has.ensures ∙ c.if-has.false);
+    }
 
 pub returns : goal.returns
-returns g c = λ us are. seeing-end c.args.wanted.now _ (is_inside c.args.range.now) _ _ (c.loop-unit.invariant.seeing us are) c.in-None.ensures.steps.first.0
+returns c = λ us are. seeing-end c.args.wanted.now _ (is_inside c.args.range.now) _ _ (c.loop-unit.invariant.seeing us are) c.in-None.ensures.steps.first.0

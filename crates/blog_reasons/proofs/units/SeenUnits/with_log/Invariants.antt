@@ -9,9 +9,9 @@ use Rattle.blog_reasons.proofs.units.SeenUnits.with_log.Given as goal
 
 -- what was seen, with the units that are left, is of all
 abbrev pub invariant-loop-unit : goal.invariant-loop-unit
-invariant-loop-unit g l = record {
-  next : (goal.iterator-loop-unit g).can_next l.unit-iterator;
-  finite : (goal.iterator-loop-unit g).is_finite l.unit-iterator;
+invariant-loop-unit l = record {
+  next : goal.iterator-loop-unit.can_next l.unit-iterator;
+  finite : goal.iterator-loop-unit.is_finite l.unit-iterator;
   seeing : (us : List Facts) → AreSeenUnits l.wanted us l.fn.self
       → IsSeeing l.wanted (us ++ units_in_range (range_of (log_bytes l.log) l.range)) (is_inside l.range) l.seen (units_left l.unit-iterator);
 }
