@@ -17,7 +17,7 @@ undoes() {
     cp "$logs/$2" binlog.000042
     rm -f undo.sql
     status=0
-    "$binlog" undo --keep-times -j "$3" --stop-position "$4" binlog.000042 -r undo.sql > printed 2>&1 || status=$?
+    "$binlog" undo --utc --keep-times -j "$3" --stop-position "$4" binlog.000042 -r undo.sql > printed 2>&1 || status=$?
     cat > wanted
     if [ "$status" -ne "$1" ] || ! diff -u wanted printed >&2; then
         echo "package/later.sh: $2: status $status" >&2
@@ -37,19 +37,19 @@ looked at 6 later transactions, up to 8483 of binlog.000042: none changes these 
 binlog.000042 goes on in binlog.000003: give that as the next --later
 END
 undoes 1 updated_since.binlog 543 5991 << 'END'
-binlog.000042 6221 `shop`.`customers`: update
-binlog.000042 6568 `shop`.`customers`: update
-binlog.000042 6915 `shop`.`customers`: update
-binlog.000042 7264 `shop`.`customers`: update
-binlog.000042 7613 `shop`.`customers`: update
-binlog.000042 7962 `shop`.`customers`: update
-binlog.000042 8311 `shop`.`customers`: update
-binlog.000042 8660 `shop`.`customers`: update
-binlog.000042 9009 `shop`.`customers`: update
-binlog.000042 9358 `shop`.`customers`: update
-binlog.000042 9707 `shop`.`customers`: update
-binlog.000042 10056 `shop`.`customers`: update
-binlog.000042 10396 `shop`.`customers`: delete
+binlog.000042 6221 2026-11-26 04:11:00 `shop`.`customers`: update
+binlog.000042 6568 2026-11-26 04:12:00 `shop`.`customers`: update
+binlog.000042 6915 2026-11-26 04:13:00 `shop`.`customers`: update
+binlog.000042 7264 2026-11-26 04:14:00 `shop`.`customers`: update
+binlog.000042 7613 2026-11-26 04:15:00 `shop`.`customers`: update
+binlog.000042 7962 2026-11-26 04:16:00 `shop`.`customers`: update
+binlog.000042 8311 2026-11-26 04:17:00 `shop`.`customers`: update
+binlog.000042 8660 2026-11-26 04:18:00 `shop`.`customers`: update
+binlog.000042 9009 2026-11-26 04:19:00 `shop`.`customers`: update
+binlog.000042 9358 2026-11-26 04:20:00 `shop`.`customers`: update
+binlog.000042 9707 2026-11-26 04:21:00 `shop`.`customers`: update
+binlog.000042 10056 2026-11-26 04:22:00 `shop`.`customers`: update
+binlog.000042 10396 2026-11-26 04:30:00 `shop`.`customers`: delete
 binlog: ChangedSince: 13 rows that would be undone were changed since: undo these later changes first, or give --anyway to overwrite them
 END
 undoes 1 altered_since.binlog 499 1957 << 'END'

@@ -206,6 +206,11 @@ abbrev pub later_paths : Found → Order → List (List ℕ)
 later_paths found Forward = []
 later_paths found Backward = all_values found (codes "later")
 
+-- times are told in the zone that is asked for; `redo` tells none
+abbrev pub IsPartZone : Found → Order → Zone → Type 0
+IsPartZone found Forward zone = zone ≡ Utc
+IsPartZone found Backward zone = IsZoneAsked found zone
+
 -- each part of the task is the value of its option, or are its values
 pub record IsPartTask {A : Type 0} (found : Found) (direction : Order) (task : PartTask A) : Type 0 where
   pub sql : IsSqlTask found task.sql
@@ -216,6 +221,7 @@ pub record IsPartTask {A : Type 0} (found : Found) (direction : Order) (task : P
   pub dry_run : task.dry_run ≡ is_given found (codes "dry-run")
   pub looks : task.looks ≡ looks_later found direction
   pub later : map (λ path. path.now) task.later.items ≡ later_paths found direction
+  pub zone : IsPartZone found direction task.zone
 
 -- its changes are written as a log, or printed as SQL at this time
 abbrev pub HasForm : {A : Type 0} → PartTask A → ℕ → Option SqlOptions → Type 0
@@ -307,10 +313,11 @@ RefusesSplit matches fault = IsBehind (codes "split") matches (λ found. Refuses
 abbrev pub RefusesSql : {A : Type 0} → Found → ArgumentsFault A → Type 0
 RefusesSql found fault = RefusesSize (first_value found (codes "size")) fault ⊎ RefusesSchemas (all_values found (codes "rewrite-db")) fault
 
--- why no part of a log is asked for: a position, the number of bytes or a pair of schemas is wrong, or memory was refused
+-- why no part of a log is asked for: a position, the number of bytes or a pair of schemas is wrong, or the name of a zone may be, or memory
+-- was refused
 abbrev pub RefusesPart : {A : Type 0} → Found → ArgumentsFault A → Type 0
 RefusesPart found fault = RefusesPosition (first_value found (codes "start-position")) fault
-    ⊎ RefusesPosition (first_value found (codes "stop-position")) fault ⊎ RefusesSql found fault
+    ⊎ RefusesPosition (first_value found (codes "stop-position")) fault ⊎ RefusesSql found fault ⊎ RefusesTime (first_value found (codes "time-zone")) fault
 
 -- the parser found the command of this name
 abbrev pub names : ArgMatches → List ℕ → Bool

@@ -191,10 +191,10 @@ fn read_matches<'a, R: Files + Env + AllocGlobal, A: Allocator + Copy>(
             Ok(Asked::List(read_list(rt, alloc, command, found)?))
         }
         Some((name, found)) if name == UNDO && parts => {
-            Ok(Asked::Part(read_part(alloc, command, found, Order::Backward)?))
+            Ok(Asked::Part(read_part(rt, alloc, command, found, Order::Backward)?))
         }
         Some((name, found)) if name == REDO && parts => {
-            Ok(Asked::Part(read_part(alloc, command, found, Order::Forward)?))
+            Ok(Asked::Part(read_part(rt, alloc, command, found, Order::Forward)?))
         }
         _ => Err(ArgumentsFault::Wrong(wrong_command(alloc, command)?)),
     }

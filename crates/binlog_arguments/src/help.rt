@@ -222,13 +222,15 @@ pub const UNDO_USAGE: &str = "\
 binlog undo [--later LOG].. [--anyway] [-j POS] [--stop-position POS]
                    [-d NAME] [-T [NAME.]NAME]
                    [--each-transaction] [--keep-times] [--rewrite-db FROM:TO].. [--size BYTES]
-                   [--binlog] [--dry-run] [-r FILE [--force]] LOG";
+                   [--utc | --time-zone NAME] [--binlog] [--dry-run] [-r FILE [--force]] LOG";
 
 /// What there is to know of `undo`, with examples.
 pub const UNDO_AFTER_HELP: &str = "\
 Positions are bytes from the start of LOG, decimal, 0 to 4294967295: where an event begins. Give the start
 and the stop of transactions that binlog list prints. Names are compared byte by byte.
 Without -d and -T all tables are taken back, with them other tables stay as they are.
+Lines that say where rows were changed since have the times of the events, by the clock of this machine's
+time zone, unless --utc or --time-zone is given.
 The last line that the client prints has to say COMMIT. ROLLBACK, or no such line, means that nothing
 was changed. Tables of an engine without transactions, such as MyISAM, keep what was changed before an error.
 With --binlog a binary log is written, as by flashback -B and binlog split. It isn't written to a terminal.
@@ -245,6 +247,8 @@ Examples:
       undo it on a server
   binlog undo -j 4021 --stop-position 9144 binlog.000042 --later binlog.000043 --later binlog.000044 | mysql
       look at what the next two logs have, too
+  binlog undo --utc -j 4021 --stop-position 9144 binlog.000042 --dry-run
+      times in UTC; --time-zone Europe/Berlin: in that zone
   binlog undo -j 4021 --stop-position 9144 -T shop.orders binlog.000042 | mysql
       only in one table; -T is the same as --table
   binlog undo -j 4021 --stop-position 9144 -d shop binlog.000042 | mysql

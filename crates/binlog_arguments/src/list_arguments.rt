@@ -262,7 +262,7 @@ fn read_sorting(found: &ArgMatches<'_>) -> Sorting
 }
 
 /// The time zone that is asked for: UTC, that of a name, or else the machine's.
-fn read_zone<'a, R: Files + Env + AllocGlobal, A: Allocator + Copy>(
+pub(crate) fn read_zone<'a, R: Files + Env + AllocGlobal, A: Allocator + Copy>(
     rt: &R,
     alloc: A,
     command: &mut Command<'a>,

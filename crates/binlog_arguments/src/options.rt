@@ -169,7 +169,7 @@ fn undo_arguments<'a>(alloc: Global) -> Result<Command<'a>, AllocError> {
         "Look at this later log of the server too; can be given several times",
     );
     let command = command.arg(later.action(ArgAction::Append).conflicts_with(ANYWAY)?)?;
-    part_arguments(alloc, command)
+    part_arguments(alloc, zone_arguments(alloc, command, TELLING)?)
 }
 
 /// The command `redo`, with its options.
@@ -246,7 +246,7 @@ fn list_arguments<'a>(alloc: Global) -> Result<Command<'a>, AllocError> {
     let gtid = flag(alloc, SHOW_GTID).help("Print GTIDs too");
     let command = command.arg(gtid)?;
     let damaged = flag(alloc, SKIP_DAMAGED).help("Go on after an event whose checksum is wrong");
-    let command = zone_arguments(alloc, command.arg(damaged)?)?;
+    let command = zone_arguments(alloc, command.arg(damaged)?, READING)?;
     let sorted = option(alloc, SORT, "ORDER")
         .value_parser(ValueParser::Names(&[BY_ROWS]))
         .help("List the transactions of each log by how many rows they change, the most first");
@@ -259,13 +259,28 @@ fn list_arguments<'a>(alloc: Global) -> Result<Command<'a>, AllocError> {
     command.arg(logs.required(true).action(ArgAction::Append))
 }
 
+/// What the options of time zones say where times are read, too.
+const READING: [&str; 2] = [
+    "Read and print times in UTC",
+    "Read and print times in this time zone, such as Europe/Berlin",
+];
+
+/// What they say where times are printed alone.
+const TELLING: [&str; 2] = [
+    "Print times in UTC",
+    "Print times in this time zone, such as Europe/Berlin",
+];
+
 /// Adds the options that say in which time zone times are.
-fn zone_arguments<'a>(alloc: Global, command: Command<'a>) -> Result<Command<'a>, AllocError> {
-    let utc = flag(alloc, UTC).help("Read and print times in UTC");
+fn zone_arguments<'a>(
+    alloc: Global,
+    command: Command<'a>,
+    saying: [&'a str; 2],
+) -> Result<Command<'a>, AllocError> {
+    let [in_utc, in_zone] = saying;
+    let utc = flag(alloc, UTC).help(in_utc);
     let command = command.arg(utc)?;
-    let zone = option(alloc, TIME_ZONE, "NAME").help(
-        "Read and print times in this time zone, such as Europe/Berlin",
-    );
+    let zone = option(alloc, TIME_ZONE, "NAME").help(in_zone);
     command.arg(zone.conflicts_with(UTC)?)
 }
 

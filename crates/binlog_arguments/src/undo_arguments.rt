@@ -1,16 +1,17 @@
 //! Which arguments of `undo` and `redo` mean what.
 
-ghost use Rattle.std.specs.Prelude.{◌≡◌, IfErr, IfOk, map};
-ghost use Rattle.clap.specs.Words.{found_of};
+ghost use Rattle.std.specs.Prelude.{◌≡◌, IfErr, IfOk, codes, map};
+ghost use Rattle.clap.specs.Words.{first_value, found_of};
 ghost use Rattle.blog_run.specs.Writing.{HasShortWriting};
 ghost use Rattle.blog_sql.specs.Changed.{HaveShortNames};
 ghost use Rattle.blog_trans.specs.Selection.{selection_of};
-ghost use Rattle.binlog_arguments.specs.Request.{HasPartWriting, IsPart, IsPartTask, RefusesPart, later_paths, looks_later};
+ghost use Rattle.binlog_arguments.specs.Request.{HasPartWriting, IsPart, IsPartTask, IsPartZone, RefusesPart, RefusesTime, later_paths, looks_later};
 
 use crate::arguments::{ArgumentsFault, is_given, read_number};
-use crate::list_arguments::read_paths;
+use crate::list_arguments::{read_paths, read_zone};
 use crate::options::{ANYWAY, AS_LOG, DATABASE, DRY_RUN, LATER, START, STOP, TABLE};
 use crate::sql_arguments::{SqlTask, read_sql};
+use crate::zones::Zone;
 use blog_choice::TableName;
 use blog_row::Order;
 use blog_run::Writing;
@@ -18,6 +19,7 @@ use blog_trans::Selection;
 use clap::{ArgMatches, Command};
 use console::POSITION;
 use std::alloc::{AllocError, Allocator};
+use std::rt::{Env, Files};
 
 /// The changes of a part of a log, which are undone, or made once more.
 #[derive(Drop)]
@@ -36,6 +38,8 @@ pub struct PartTask<'a, A: Allocator> {
     pub looks: bool,
     /// The paths of later logs, in order, which are looked at too.
     pub later: Vec<&'a str, A>,
+    /// The time zone in which times are told.
+    pub zone: Zone,
 }
 
 impl<A: Allocator> PartTask<'_, A> {
@@ -57,7 +61,8 @@ impl<A: Allocator> PartTask<'_, A> {
 }
 
 /// Reads what the arguments of `undo` or `redo` ask for.
-pub(crate) fn read_part<'a, A: Allocator + Copy>(
+pub(crate) fn read_part<'a, R: Files + Env + AllocGlobal, A: Allocator + Copy>(
+    rt: &R,
     alloc: A,
     command: &mut Command<'a>,
     found: &ArgMatches<'a>,
@@ -78,6 +83,7 @@ pub(crate) fn read_part<'a, A: Allocator + Copy>(
         dry_run: is_given(found, DRY_RUN),
         looks: looks(found, order),
         later: read_later(alloc, found, order)?,
+        zone: read_part_zone(rt, alloc, command, found, order)?,
     })
 }
 
@@ -88,6 +94,23 @@ fn looks(found: &ArgMatches<'_>, order: Order) -> bool
     match order {
         Order::Forward => false,
         Order::Backward => !is_given(found, ANYWAY),
+    }
+}
+
+/// The time zone in which times are told: `redo` tells none.
+fn read_part_zone<'a, R: Files + Env + AllocGlobal, A: Allocator + Copy>(
+    rt: &R,
+    alloc: A,
+    command: &mut Command<'a>,
+    found: &ArgMatches<'a>,
+    order: Order,
+) -> Result<Zone, ArgumentsFault<A>>
+    ensures zone { IfOk result (IsPartZone (found_of found.now) order) }
+    ensures wrong { IfErr result (RefusesTime (first_value (found_of found.now) (codes "time-zone"))) }
+{
+    match order {
+        Order::Forward => Ok(Zone::Utc),
+        Order::Backward => read_zone(rt, alloc, command, found),
     }
 }
 

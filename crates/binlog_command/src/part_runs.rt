@@ -156,6 +156,7 @@ fn part_to<'a, A: Allocator + Copy, D: Read, L: Read + Drop, W: Write>(
         task.looks,
         later,
         process.seed,
+        task.zone.time_zone(),
         writing,
         writer,
     ) {

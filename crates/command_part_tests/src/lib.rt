@@ -2,4 +2,6 @@
 #![tactic(auto)]
 
 #[cfg(test)]
+mod since_tests;
+#[cfg(test)]
 mod undo_tests;

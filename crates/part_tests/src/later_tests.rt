@@ -4,6 +4,7 @@ use crate::runs::{Came, UNDO, between, part_by, part_with};
 use blog_device::{RunFault, Watched};
 use blog_event::Fault;
 use blog_sum::SumFault;
+use jiff::tz::TimeZone;
 use list_run::GivenLog;
 use sample_logs::builder::{
     BEGIN, DROP_TABLE, Part, T, XID, build, delete, insert, map_of, put, update,
@@ -69,7 +70,7 @@ fn check<R: AllocGlobal + Abort>(
 fn rows_that_are_taken_since_are_found(rt: HostRuntime) -> Result<(), Fail> {
     // an inserted row is deleted
     let gone = [BEGIN, Part::Map(T), delete(1, &[5]), XID];
-    let wanted = "binlog.000042 340 `d`.`t`: delete\n";
+    let wanted = "binlog.000042 340 1970-01-01 00:00:00 `d`.`t`: delete\n";
     check(
         &rt,
         insert(1, &[4, 5]),
@@ -79,7 +80,7 @@ fn rows_that_are_taken_since_are_found(rt: HostRuntime) -> Result<(), Fail> {
     )?;
     // two inserted rows are updated
     let changed = [BEGIN, Part::Map(T), update(1, &[4, 9, 5, 8]), XID];
-    let wanted = "binlog.000042 340 `d`.`t`: update\n";
+    let wanted = "binlog.000042 340 1970-01-01 00:00:00 `d`.`t`: update\n";
     check(
         &rt,
         insert(1, &[4, 5]),
@@ -98,7 +99,8 @@ fn rows_that_are_taken_since_are_found(rt: HostRuntime) -> Result<(), Fail> {
         delete(1, &[2, 2]),
         XID,
     ];
-    let wanted = "binlog.000042 341 `d`.`t`: update\nbinlog.000042 486 `d`.`t`: delete\n";
+    let wanted =
+        "binlog.000042 341 1970-01-01 00:00:00 `d`.`t`: update\nbinlog.000042 486 1970-01-01 00:00:00 `d`.`t`: delete\n";
     check(
         &rt,
         update(1, &[1, 2]),
@@ -240,7 +242,9 @@ fn what_cannot_be_looked_into_is_refused(rt: HostRuntime) -> Result<(), Fail> {
     check(&rt, insert(1, &[5]), &[INSERTED], Came::UnknownSince, line)?;
     // rows that were changed come first
     let later = [INSERTED, BEGIN, Part::Map(T), delete(1, &[5]), XID];
-    let lines = format!(in rt.alloc(); "binlog.000042 393 `d`.`t`: delete\n{line}")?;
+    let lines = format!(in rt.alloc();
+        "binlog.000042 393 1970-01-01 00:00:00 `d`.`t`: delete\n{line}"
+    )?;
     check(
         &rt,
         insert(1, &[5]),
@@ -338,10 +342,11 @@ fn later_logs_are_looked_at(rt: HostRuntime) -> Result<(), Fail> {
         stop,
         &logs,
         Came::ChangedSince(1),
-        "b 196 `d`.`t`: delete\n",
+        "b 196 1970-01-01 00:00:00 `d`.`t`: delete\n",
     )?;
     let logs: [(&str, &[u8]); 3] = [("a", &same), ("b", &other), ("c", &same)];
-    let lines = "a 196 `d`.`t`: delete\nc 196 `d`.`t`: delete\n";
+    let lines =
+        "a 196 1970-01-01 00:00:00 `d`.`t`: delete\nc 196 1970-01-01 00:00:00 `d`.`t`: delete\n";
     check_logs(&rt, &log, stop, &logs, Came::ChangedSince(2), lines)?;
     // a statement about the table in one
     let logs: [(&str, &[u8]); 2] = [("a", &dropped), ("b", &other)];
@@ -349,7 +354,8 @@ fn later_logs_are_looked_at(rt: HostRuntime) -> Result<(), Fail> {
     check_logs(&rt, &log, stop, &logs, Came::UnknownSince, line)?;
     // rows that were changed come first, in whichever log they were
     let logs: [(&str, &[u8]); 2] = [("a", &dropped), ("b", &same)];
-    let lines = "b 196 `d`.`t`: delete\na 120: may change these tables, and can't be looked into\n";
+    let lines =
+        "b 196 1970-01-01 00:00:00 `d`.`t`: delete\na 120: may change these tables, and can't be looked into\n";
     check_logs(&rt, &log, stop, &logs, Came::ChangedSince(1), lines)
 }
 
@@ -398,6 +404,7 @@ fn check_failed_read<'l, R: AllocGlobal + Abort>(
         true,
         later,
         0,
+        TimeZone::UTC,
         &UNDO,
         &mut writer,
     ) {

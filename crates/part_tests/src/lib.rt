@@ -11,3 +11,5 @@ mod refusal_tests;
 mod report_tests;
 #[cfg(test)]
 mod runs;
+#[cfg(test)]
+mod zone_tests;

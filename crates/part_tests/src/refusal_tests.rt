@@ -7,6 +7,7 @@ use blog_run::Writing;
 use blog_sql::{Renamed, SqlOptions};
 use blog_sum::SumFault;
 use blog_trans::Selection;
+use jiff::tz::TimeZone;
 use linked_list_allocator::LocalHeap;
 use refusing::Refusing;
 use sample_logs::builder::{BEGIN, Part, T, XID, build, delete, insert};
@@ -177,6 +178,7 @@ fn a_schema_without_tables_is_told(rt: HostRuntime) -> Result<(), Fail> {
         false,
         no_logs(rt.alloc()),
         0,
+        TimeZone::UTC,
         &writing,
         &mut writer,
     ) {
@@ -223,6 +225,7 @@ fn refuse_each<'l, R: AllocGlobal + Abort>(
             looks,
             logs,
             0,
+            TimeZone::UTC,
             &UNDO,
             &mut writer,
         ) {
@@ -288,6 +291,7 @@ fn a_failed_read_writes_nothing(rt: HostRuntime) -> Result<(), Fail> {
             false,
             no_logs(rt.alloc()),
             0,
+            TimeZone::UTC,
             &UNDO,
             &mut writer,
         ) {
@@ -315,6 +319,7 @@ fn a_failed_write_is_told(rt: HostRuntime) -> Result<(), Fail> {
             false,
             no_logs(rt.alloc()),
             0,
+            TimeZone::UTC,
             &UNDO,
             &mut writer,
         ) {

@@ -5,6 +5,7 @@ use blog_device::Watched;
 use blog_row::Order;
 use blog_run::Writing;
 use blog_trans::Selection;
+use jiff::tz::TimeZone;
 use sample_logs::summed::CLOSED;
 use std::process::Abort;
 use std::test::Fail;
@@ -109,6 +110,7 @@ fn the_name_of_the_log_is_escaped(rt: HostRuntime) -> Result<(), Fail> {
         false,
         no_logs(rt.alloc()),
         0,
+        TimeZone::UTC,
         &UNDO,
         &mut writer,
     ) {

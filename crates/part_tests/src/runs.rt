@@ -7,6 +7,7 @@ use blog_event::Fault;
 use blog_row::Order;
 use blog_run::{Writing, WritingFault, write_changes};
 use blog_trans::Selection;
+use jiff::tz::TimeZone;
 use list_run::GivenLog;
 use std::alloc::{AllocError, Allocator};
 use std::test::Fail;
@@ -122,6 +123,21 @@ pub(crate) fn part_with<R: AllocGlobal>(
 ) -> Result<(Came, Vec<u8>, Vec<u8>), Fail>
     requires { HasShortWriting writing.now }
 {
+    part_in_zone(rt, TimeZone::UTC, log, part, looks, later, writing)
+}
+
+/// The same with times in a zone.
+pub(crate) fn part_in_zone<R: AllocGlobal>(
+    rt: &R,
+    zone: TimeZone<'_>,
+    log: &[u8],
+    part: &Selection<'_>,
+    looks: bool,
+    later: &[(&str, &[u8])],
+    writing: &Writing<'_>,
+) -> Result<(Came, Vec<u8>, Vec<u8>), Fail>
+    requires { HasShortWriting writing.now }
+{
     let mut reader = Watched::new(SlowReader::new(log, ALL, Failure::Never));
     let mut writer = Watched::new(SlowWriter::new(rt, ALL, Failure::Never));
     let name = b"binlog.000042";
@@ -133,6 +149,7 @@ pub(crate) fn part_with<R: AllocGlobal>(
         looks,
         given(rt.alloc(), later)?,
         0,
+        zone,
         writing,
         &mut writer,
     );

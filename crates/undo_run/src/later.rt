@@ -25,6 +25,7 @@ use blog_event::Log;
 use blog_later::LeftRows;
 use blog_source::Source;
 use blog_trans::{Index, Selection};
+use jiff::tz::TimeZone;
 use list_run::GivenLog;
 use std::alloc::Allocator;
 use std::io::Read;
@@ -46,7 +47,7 @@ fn look_into<'n, A: Allocator + Copy, L: Read + Drop>(
     given: GivenLog<'n, L>,
     seed: u64,
     since: &Since<'n, A>,
-    lines: &mut Lines<A>,
+    lines: &mut Lines<'_, A>,
     left: &LeftRows<A>,
     names: &ChosenNames<'_, A>,
 ) -> Result<Since<'n, A>, PartFault<A>>
@@ -72,7 +73,7 @@ fn look_into_all<'n, A: Allocator + Copy, L: Read + Drop>(
     later: Vec<GivenLog<'n, L>, A>,
     seed: u64,
     since: Since<'n, A>,
-    lines: &mut Lines<A>,
+    lines: &mut Lines<'_, A>,
     left: &LeftRows<A>,
     names: &ChosenNames<'_, A>,
 ) -> Result<Since<'n, A>, PartFault<A>>
@@ -95,7 +96,7 @@ fn look_into_all<'n, A: Allocator + Copy, L: Read + Drop>(
 fn judged<'n, A: Allocator + Copy>(
     alloc: A,
     since: Since<'n, A>,
-    lines: &Lines<A>,
+    lines: &Lines<'_, A>,
 ) -> Result<Since<'n, A>, PartFault<A>>
     ensures judges { (selected : List Change) → (kept : _) → (choice : _) → (ls : List Later) → AreKept (left_of selected) kept → AreSeen kept choice ls since.entry
         → Judges selected choice ls result }
@@ -111,7 +112,7 @@ fn judged<'n, A: Allocator + Copy>(
 }
 
 /// Looks at what came after a part of the log of a source, of which an index has the groups: at the rest of that log, and at later
-/// logs. Returns what was seen, unless it touches the part, or may.
+/// logs. Returns what was seen, unless it touches the part, or may. Times are told in a zone.
 pub(crate) fn look_later<'n, 'l, A: Allocator + Copy, L: Read + Drop>(
     alloc: A,
     source: &'l Source<A>,
@@ -120,6 +121,7 @@ pub(crate) fn look_later<'n, 'l, A: Allocator + Copy, L: Read + Drop>(
     index: &Index<'l, 'l, A>,
     later: Vec<GivenLog<'n, L>, A>,
     seed: u64,
+    zone: TimeZone<'_>,
 ) -> Result<Since<'n, A>, PartFault<A>>
     requires bytes { index_bytes index.now ≡ log_of source.now }
     requires selection { index_selection index.now ≡ selection_in (selection_of part.now) (log_of source.now) }
@@ -133,7 +135,7 @@ pub(crate) fn look_later<'n, 'l, A: Allocator + Copy, L: Read + Drop>(
     };
     let names = ChosenNames::new(alloc, &choice)?;
     let left = LeftRows::of(alloc, index)?;
-    let mut lines = Lines::none(alloc);
+    let mut lines = Lines::none(alloc, zone);
     let rest = look_on(
         alloc,
         &Since::none(alloc),

@@ -1,9 +1,11 @@
 //! The lines that say where a part was changed since, and what of it isn't known.
 
 use blog_later::{Looked, TouchedRows};
+use blog_list::time_text;
 use blog_row::RowsAction;
 use blog_source::Source;
 use blog_text::{put_escaped, put_number, put_table, put_text};
+use jiff::tz::TimeZone;
 use std::alloc::{AllocError, Allocator};
 
 /// How many rows events have a line, and how many units that may concern the tables.
@@ -11,7 +13,9 @@ const MOST: usize = 20;
 
 /// The lines that say where a part was changed since, and what of it isn't known.
 #[derive(Drop)]
-pub(crate) struct Lines<A: Allocator> {
+pub(crate) struct Lines<'z, A: Allocator> {
+    /// In which times are told.
+    zone: TimeZone<'z>,
     /// Those of rows events that take rows of the part.
     touched: Vec<u8, A>,
     /// How many these are.
@@ -26,10 +30,11 @@ pub(crate) struct Lines<A: Allocator> {
     damage: Vec<u8, A>,
 }
 
-impl<A: Allocator + Copy> Lines<A> {
-    /// None.
-    pub(crate) fn none(alloc: A) -> Lines<A> {
+impl<'z, A: Allocator + Copy> Lines<'z, A> {
+    /// None. Times will be told in a zone.
+    pub(crate) fn none(alloc: A, zone: TimeZone<'z>) -> Lines<'z, A> {
         Lines {
+            zone,
             touched: Vec::new(alloc),
             events: 0,
             unknown: Vec::new(alloc),
@@ -73,7 +78,7 @@ impl<A: Allocator + Copy> Lines<A> {
             return Ok(());
         }
         self.events = self.events.saturating_add(1);
-        put_touched(&mut self.touched, name, place, rows)
+        put_touched(&mut self.touched, self.zone, name, place, rows)
     }
 
     /// Appends the line of a unit, or counts it if enough have one.
@@ -121,14 +126,17 @@ fn put_place<A: Allocator>(
     put_number(out, u64::from(place))
 }
 
-/// Appends the line of a rows event that takes rows of a part.
+/// Appends the line of a rows event that takes rows of a part, with its time.
 fn put_touched<A: Allocator>(
     out: &mut Vec<u8, A>,
+    zone: TimeZone<'_>,
     name: &[u8],
     place: u32,
     rows: &TouchedRows<'_>,
 ) -> Result<(), AllocError> {
     put_place(out, name, place)?;
+    put_text(out, b" ")?;
+    put_text(out, time_text(zone, rows.time).as_str().as_bytes())?;
     put_text(out, b" ")?;
     put_table(out, rows.schema, rows.table)?;
     put_text(out, action_text(rows.action))

@@ -120,7 +120,7 @@ impl<'n, A: Allocator> Since<'n, A> {
 pub(crate) fn look_on<'n, A: Allocator + Copy, B: Allocator>(
     alloc: A,
     since: &Since<'n, A>,
-    lines: &mut Lines<A>,
+    lines: &mut Lines<'_, A>,
     name: &'n [u8],
     source: &Source<B>,
     log: &Log<'_>,

@@ -21,6 +21,7 @@ use blog_event::Fault;
 use blog_run::{Writing, WritingFault, write_groups};
 use blog_source::Source;
 use blog_trans::{Index, Selection};
+use jiff::tz::TimeZone;
 use list_run::GivenLog;
 use std::alloc::{AllocError, Allocator};
 use std::io::{Read, Write};
@@ -43,7 +44,8 @@ use std::io::{Read, Write};
 /// `LaterLog` of the first later log that isn't opened, by its number; with `ChangedSince` or `UnknownSince`; with `NoSchema` if the changes have no table of a schema that is to have another name; with `TooLong`. The writer wasn't called then.
 /// Fails with `Run(Write)` if a write failed; the writer then has a beginning of what is written.
 ///
-/// Names and ids of tables are hashed by the seed (`Log::with_seed`). What is written doesn't depend on it.
+/// Names and ids of tables are hashed by the seed (`Log::with_seed`). What is written doesn't depend on it. The lines of `ChangedSince` have
+/// times in a zone.
 pub fn write_part<'n, A: Allocator + Copy, R: Read, L: Read + Drop, W: Write>(
     alloc: A,
     reader: &mut Watched<R>,
@@ -52,6 +54,7 @@ pub fn write_part<'n, A: Allocator + Copy, R: Read, L: Read + Drop, W: Write>(
     looks: bool,
     later: Vec<GivenLog<'n, L>, A>,
     seed: u64,
+    zone: TimeZone<'_>,
     writing: &Writing<'_>,
     writer: &mut Watched<W>,
 ) -> Result<Vec<u8, A>, PartFault<A>>
@@ -65,7 +68,7 @@ pub fn write_part<'n, A: Allocator + Copy, R: Read, L: Read + Drop, W: Write>(
     let stop = if looks { None } else { part.stop };
     let source = open_log(alloc, reader, stop)?;
     write_opened(
-        alloc, &source, name, part, looks, later, seed, writing, writer,
+        alloc, &source, name, part, looks, later, seed, zone, writing, writer,
     )
 }
 
@@ -79,13 +82,14 @@ fn look_if<'n, 'l, A: Allocator + Copy, L: Read + Drop>(
     looks: bool,
     later: Vec<GivenLog<'n, L>, A>,
     seed: u64,
+    zone: TimeZone<'_>,
 ) -> Result<Option<Since<'n, A>>, PartFault<A>>
     requires bytes { index_bytes index.now ≡ log_of source.now }
     requires selection { index_selection index.now ≡ selection_in (selection_of part.now) (log_of source.now) }
     ensures { Looks looks L.remaining later.entry.items name.now (selection_of part.now) (log_of source.now) (end_of source.now) (fault_of source.now) result }
 {
     if looks {
-        match look_later(alloc, source, name, part, index, later, seed) {
+        match look_later(alloc, source, name, part, index, later, seed, zone) {
             Ok(since) => Ok(Some(since)),
             Err(fault) => Err(fault),
         }
@@ -103,6 +107,7 @@ fn write_opened<'n, A: Allocator + Copy, L: Read + Drop, W: Write>(
     looks: bool,
     later: Vec<GivenLog<'n, L>, A>,
     seed: u64,
+    zone: TimeZone<'_>,
     writing: &Writing<'_>,
     writer: &mut Watched<W>,
 ) -> Result<Vec<u8, A>, PartFault<A>>
@@ -113,7 +118,7 @@ fn write_opened<'n, A: Allocator + Copy, L: Read + Drop, W: Write>(
     ensures mark { has_failed writer.new ≡ (has_failed writer.old || is_failed_write result) }
 {
     let index = select_part(alloc, source, part, looks, seed)?;
-    let since = match look_if(alloc, source, name, part, &index, looks, later, seed) {
+    let since = match look_if(alloc, source, name, part, &index, looks, later, seed, zone) {
         Ok(since) => since,
         Err(fault) => return Err(fault),
     };
