@@ -12,31 +12,41 @@ work=$(mktemp -d)
 trap 'rm -rf "$work"' EXIT
 cd "$work"
 
-# undoes STATUS LOG START STOP: what is printed is wanted on standard input
+# undoes STATUS LOG START STOP THREAD: what is printed is wanted on standard input, where the transaction is chosen by its positions, and where
+# it is chosen by its thread
 undoes() {
     cp "$logs/$2" binlog.000042
     rm -f undo.sql
     status=0
     "$binlog" undo --utc --keep-times -j "$3" --stop-position "$4" binlog.000042 -r undo.sql > printed 2>&1 || status=$?
     cat > wanted
+    rm -f thread.sql
+    of_thread=0
+    "$binlog" undo --utc --keep-times --thread "$5" binlog.000042 -r thread.sql > of_thread 2>&1 || of_thread=$?
+    if [ "$of_thread" -ne "$1" ] || ! diff -u wanted of_thread >&2; then
+        echo "package/later.sh: $2: status $of_thread by the thread" >&2
+        exit 1
+    fi
     if [ "$status" -ne "$1" ] || ! diff -u wanted printed >&2; then
         echo "package/later.sh: $2: status $status" >&2
         exit 1
     fi
     if [ "$status" -eq 0 ]; then
         "$binlog" undo --anyway --keep-times -j "$3" --stop-position "$4" binlog.000042 2> /dev/null | cmp - undo.sql
-    elif [ -e undo.sql ]; then
+        cmp thread.sql undo.sql
+        "$binlog" undo --anyway --keep-times --thread "$5" binlog.000042 2> /dev/null | cmp - undo.sql
+    elif [ -e undo.sql ] || [ -e thread.sql ]; then
         echo "package/later.sh: $2: a refused undo was written" >&2
         exit 1
     fi
 }
 
-undoes 0 deleted_orders.binlog 504 6102 << 'END'
+undoes 0 deleted_orders.binlog 504 6102 13 << 'END'
 undoes 1 transaction of binlog.000042: `shop`.`orders` inserts 40; `shop`.`order_lines` inserts 80
 looked at 6 later transactions, up to 8483 of binlog.000042: none changes these rows
 binlog.000042 goes on in binlog.000003: give that as the next --later
 END
-undoes 1 updated_since.binlog 543 5991 << 'END'
+undoes 1 updated_since.binlog 543 5991 47 << 'END'
 binlog.000042 6221 2026-11-26 04:11:00 `shop`.`customers`: update
 binlog.000042 6568 2026-11-26 04:12:00 `shop`.`customers`: update
 binlog.000042 6915 2026-11-26 04:13:00 `shop`.`customers`: update
@@ -52,7 +62,7 @@ binlog.000042 10056 2026-11-26 04:22:00 `shop`.`customers`: update
 binlog.000042 10396 2026-11-26 04:30:00 `shop`.`customers`: delete
 binlog: ChangedSince: 13 rows that would be undone were changed since: undo these later changes first, or give --anyway to overwrite them
 END
-undoes 1 altered_since.binlog 499 1957 << 'END'
+undoes 1 altered_since.binlog 499 1957 61 << 'END'
 binlog.000042 1957: may change these tables, and can't be looked into
 binlog: UnknownSince: what came later may have changed these tables: give --anyway if it left these rows as they were
 END

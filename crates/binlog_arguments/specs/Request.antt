@@ -1,5 +1,5 @@
 -- What a run is asked to do, by the values of the options.
-use Rattle.std.specs.Prelude.{◌≡◌, ◌⊎◌, ◌&&◌, ◌||◌, ◌≤◌, ℕ, Bool, true, false, not, if◌then◌else◌, List, [], length, ⊤, IsSome, map, ◌∷◌, Option, Some, None, Result, Ok, Err, codes, option_map, slice_get, string_bytes, unwrap_or, String}
+use Rattle.std.specs.Prelude.{◌≡◌, ◌⊎◌, ◌&&◌, ◌||◌, ◌≤◌, ℕ, Bool, true, false, not, if◌then◌else◌, List, [], length, ⊤, IsSome, is_some, map, ◌∷◌, Option, Some, None, Result, Ok, Err, codes, option_map, slice_get, string_bytes, unwrap_or, String}
 use Rattle.std.specs.Option.{option_map_or, option_or}
 use Rattle.std.specs.List.{AllByRecursion}
 use Rattle.std.specs.Str.{bytes_eq}
@@ -18,7 +18,7 @@ use Rattle.blog_list.specs.declared.times.Side.{Side}
 use Rattle.blog_list.specs.declared.times.Side.TheVariants.{Start, Stop}
 use Rattle.blog_list.specs.Times.{IsRead as IsReadTime}
 use Rattle.jiff.specs.Types.{TimeZone}
-use Rattle.blog_choice.specs.Choice.{read_name}
+use Rattle.blog_choice.specs.Choice.{is_nil, read_name}
 use Rattle.blog_choice.specs.code.Views.{choice_value, name_value}
 use Rattle.blog_request.specs.Ids.{read_ids}
 use Rattle.blog_request.specs.code.IdsView.{ids_value}
@@ -39,6 +39,7 @@ use Rattle.binlog_arguments.specs.declared.arguments.Asked.TheVariants.{Text, Ne
 use Rattle.binlog_arguments.specs.declared.list_arguments.ListTask.{ListTask}
 use Rattle.binlog_arguments.specs.declared.sql_arguments.SqlTask.{SqlTask}
 use Rattle.binlog_arguments.specs.declared.undo_arguments.PartTask.{PartTask}
+use Rattle.binlog_arguments.specs.declared.unit_choice.UnitChoice.{UnitChoice}
 use Rattle.blog_choice.specs.Choice.{Name}
 use Rattle.blog_trans.specs.Selection.{Selection, selection_of}
 use Rattle.blog_row.specs.declared.order.Order.{Order}
@@ -206,10 +207,31 @@ abbrev pub later_paths : Found → Order → List (List ℕ)
 later_paths found Forward = []
 later_paths found Backward = all_values found (codes "later")
 
--- times are told in the zone that is asked for; `redo` tells none
-abbrev pub IsPartZone : Found → Order → Zone → Type 0
-IsPartZone found Forward zone = zone ≡ Utc
-IsPartZone found Backward zone = IsZoneAsked found zone
+-- the times, threads and global transaction ids of chosen transactions are the values of their options, times in a zone
+pub record IsUnitChoice {A : Type 0} (found : Found) (zone : TimeZone) (choice : UnitChoice A) : Type 0 where
+  pub times : AreTimes found choice.from_time choice.to_time zone
+  pub threads : AreNumbers (all_values found (codes "thread")) choice.threads.items
+  pub gtids : AreIds (all_values found (codes "gtid")) choice.gtids.items
+  pub gtid_texts : map (λ text. text.now) choice.gtid_texts.items ≡ all_values found (codes "gtid")
+
+-- one of them is given
+abbrev pub chooses_units : {A : Type 0} → UnitChoice A → Bool
+chooses_units choice = ((is_some choice.from_time || is_some choice.to_time) || not (is_nil choice.threads.items)) || not (is_nil choice.gtids.items)
+
+-- the chosen ones: those of these times, threads and ids, wherever they start and whichever tables they change
+pub record HasChosen {A : Type 0} (choice : UnitChoice A) (wanted : Wanted) : Type 0 where
+  pub start : wanted.start ≡ None
+  pub stop : wanted.stop ≡ None
+  pub from_time : wanted.from_time ≡ choice.from_time
+  pub to_time : wanted.to_time ≡ choice.to_time
+  pub threads : wanted.threads.now ≡ choice.threads.items
+  pub gtids : wanted.gtids.now ≡ choice.gtids.items
+  pub tables : choice_value wanted.choice ≡ record { database = None; tables = []; excluded = [] }
+
+-- which ones are chosen, and None where all of them are
+abbrev pub HasUnits : {A : Type 0} → UnitChoice A → Option Wanted → Type 0
+HasUnits choice None = chooses_units choice ≡ false
+HasUnits choice (Some wanted) = (chooses_units choice ≡ true) × HasChosen choice wanted
 
 -- each part of the task is the value of its option, or are its values
 pub record IsPartTask {A : Type 0} (found : Found) (direction : Order) (task : PartTask A) : Type 0 where
@@ -221,7 +243,8 @@ pub record IsPartTask {A : Type 0} (found : Found) (direction : Order) (task : P
   pub dry_run : task.dry_run ≡ is_given found (codes "dry-run")
   pub looks : task.looks ≡ looks_later found direction
   pub later : map (λ path. path.now) task.later.items ≡ later_paths found direction
-  pub zone : IsPartZone found direction task.zone
+  pub zone : IsZoneAsked found task.zone
+  pub units : (zone : TimeZone) × IsZoneOf task.zone zone × IsUnitChoice found zone task.units
 
 -- its changes are written as a log, or printed as SQL at this time
 abbrev pub HasForm : {A : Type 0} → PartTask A → ℕ → Option SqlOptions → Type 0
@@ -313,11 +336,17 @@ RefusesSplit matches fault = IsBehind (codes "split") matches (λ found. Refuses
 abbrev pub RefusesSql : {A : Type 0} → Found → ArgumentsFault A → Type 0
 RefusesSql found fault = RefusesSize (first_value found (codes "size")) fault ⊎ RefusesSchemas (all_values found (codes "rewrite-db")) fault
 
--- why no part of a log is asked for: a position, the number of bytes or a pair of schemas is wrong, or the name of a zone may be, or memory
--- was refused
+-- why no transactions are chosen: a thread or a global transaction id is wrong, or a time may be, or memory was refused
+abbrev pub RefusesUnits : {A : Type 0} → Found → ArgumentsFault A → Type 0
+RefusesUnits found fault = RefusesTime (first_value found (codes "start-datetime")) fault ⊎ RefusesTime (first_value found (codes "stop-datetime")) fault
+    ⊎ RefusesNumbers (all_values found (codes "thread")) fault ⊎ RefusesIds (all_values found (codes "gtid")) fault
+
+-- why no part of a log is asked for: a position, the number of bytes or a pair of schemas is wrong, the name of a zone may be, no transactions
+-- are chosen for such a reason, or memory was refused
 abbrev pub RefusesPart : {A : Type 0} → Found → ArgumentsFault A → Type 0
 RefusesPart found fault = RefusesPosition (first_value found (codes "start-position")) fault
-    ⊎ RefusesPosition (first_value found (codes "stop-position")) fault ⊎ RefusesSql found fault ⊎ RefusesTime (first_value found (codes "time-zone")) fault
+    ⊎ RefusesPosition (first_value found (codes "stop-position")) fault ⊎ RefusesSql found fault
+    ⊎ RefusesTime (first_value found (codes "time-zone")) fault ⊎ RefusesUnits found fault
 
 -- the parser found the command of this name
 abbrev pub names : ArgMatches → List ℕ → Bool

@@ -208,18 +208,21 @@ pub const UNDO_ABOUT: &str = "\
 Prints SQL that undoes changes of LOG: it deletes what was inserted, inserts what was deleted, and updates
 rows back, the last change first. Any mysql or mariadb client runs it, in one transaction: all of it, or
 after any error nothing. What is undone are the changes of the transactions from one position to another,
-which binlog list shows. LOG is a server's log as it is, with checksums or without.
+which binlog list shows. --thread, --gtid, --start-datetime and --stop-datetime choose some of these
+transactions. The others stay, those between the chosen ones too.
+LOG is a server's log as it is, with checksums or without.
 What can't be undone is refused, with its position, and then nothing is written.
-What came later is looked at, to the end of LOG and in the later logs that are given. If it changed rows
-that would be undone, or may have changed these tables in a way that can't be looked into, such as by
-ALTER TABLE, nothing is written, and lines say where. With --anyway nothing is looked at: later changes of
-these rows are overwritten.
+What came later is looked at, to the end of LOG and in the later logs that are given, and so is each
+transaction between the chosen ones. If it changed rows that would be undone, or may have changed these
+tables in a way that can't be looked into, such as by ALTER TABLE, nothing is written, and lines say where.
+With --anyway nothing is looked at: later changes of these rows are overwritten.
 A report says what is undone: on standard output with -r and with --dry-run, else on standard error.
 It counts rows as the undo changes them: 120 rows that were deleted are 120 inserts.";
 
 /// How `undo` is called.
 pub const UNDO_USAGE: &str = "\
 binlog undo [--later LOG].. [--anyway] [-j POS] [--stop-position POS]
+                   [--thread N].. [--gtid GTID].. [--start-datetime TIME] [--stop-datetime TIME]
                    [-d NAME] [-T [NAME.]NAME]
                    [--each-transaction] [--keep-times] [--rewrite-db FROM:TO].. [--size BYTES]
                    [--utc | --time-zone NAME] [--binlog] [--dry-run] [-r FILE [--force]] LOG";
@@ -229,8 +232,9 @@ pub const UNDO_AFTER_HELP: &str = "\
 Positions are bytes from the start of LOG, decimal, 0 to 4294967295: where an event begins. Give the start
 and the stop of transactions that binlog list prints. Names are compared byte by byte.
 Without -d and -T all tables are taken back, with them other tables stay as they are.
-Lines that say where rows were changed since have the times of the events, by the clock of this machine's
-time zone, unless --utc or --time-zone is given.
+Values of --thread and of --gtid are alternatives, and a transaction has to meet all options that are given.
+GTID and TIME are as binlog list has them. Times, given and printed, are those of this machine's time zone,
+unless --utc or --time-zone is given. Lines that say where rows were changed since have the times of the events.
 The last line that the client prints has to say COMMIT. ROLLBACK, or no such line, means that nothing
 was changed. Tables of an engine without transactions, such as MyISAM, keep what was changed before an error.
 With --binlog a binary log is written, as by flashback -B and binlog split. It isn't written to a terminal.
@@ -247,6 +251,12 @@ Examples:
       undo it on a server
   binlog undo -j 4021 --stop-position 9144 binlog.000042 --later binlog.000043 --later binlog.000044 | mysql
       look at what the next two logs have, too
+  binlog undo --thread 13 binlog.000042 --dry-run
+      all transactions of one connection of a client, and none of the others between them
+  binlog undo --gtid 283c105d-e730-11f1-97ff-02fc00000001:6 binlog.000042 | mysql
+      the transaction with this GTID; 5-9 in place of 6: those from 5 to 9
+  binlog undo --start-datetime '2026-11-21 02:02:00' --stop-datetime '2026-11-21 02:03:00' binlog.000042 --dry-run
+      those of the first time or later that are before the second
   binlog undo --utc -j 4021 --stop-position 9144 binlog.000042 --dry-run
       times in UTC; --time-zone Europe/Berlin: in that zone
   binlog undo -j 4021 --stop-position 9144 -T shop.orders binlog.000042 | mysql
@@ -271,22 +281,28 @@ pub const REDO_ABOUT: &str = "\
 Prints SQL that makes changes of LOG once more, in their order: after an undo that was a mistake, or on a
 table that was brought back from a backup. Any mysql or mariadb client runs it, in one transaction: all of
 it, or after any error nothing. The changes are those of the transactions from one position to another,
-which binlog list shows. LOG is a server's log as it is, with checksums or without. What is behind the
-stop isn't looked at.
+which binlog list shows. --thread, --gtid, --start-datetime and --stop-datetime choose some of these
+transactions: only their changes are made. LOG is a server's log as it is, with checksums or without. What is
+after the stop position doesn't count.
 What can't be made once more is refused, with its position, and then nothing is written.
 A report says what is made: on standard output with -r and with --dry-run, else on standard error.";
 
 /// How `redo` is called.
 pub const REDO_USAGE: &str = "\
-binlog redo [-j POS] [--stop-position POS] [-d NAME] [-T [NAME.]NAME]
+binlog redo [-j POS] [--stop-position POS]
+                   [--thread N].. [--gtid GTID].. [--start-datetime TIME] [--stop-datetime TIME]
+                   [-d NAME] [-T [NAME.]NAME]
                    [--each-transaction] [--keep-times] [--rewrite-db FROM:TO].. [--size BYTES]
-                   [--binlog] [--dry-run] [-r FILE [--force]] LOG";
+                   [--utc | --time-zone NAME] [--binlog] [--dry-run] [-r FILE [--force]] LOG";
 
 /// What there is to know of `redo`, with examples.
 pub const REDO_AFTER_HELP: &str = "\
 Positions are bytes from the start of LOG, decimal, 0 to 4294967295: where an event begins. Give the start
 and the stop of transactions that binlog list prints. Names are compared byte by byte.
 Without -d and -T the changes of all tables are made, with them only those of the chosen ones.
+Values of --thread and of --gtid are alternatives, and a transaction has to meet all options that are given.
+GTID and TIME are as binlog list has them. Times are those of this machine's time zone, unless --utc or
+--time-zone is given.
 The last line that the client prints has to say COMMIT. ROLLBACK, or no such line, means that nothing
 was changed. Tables of an engine without transactions, such as MyISAM, keep what was changed before an error.
 With --binlog a binary log is written, as by flashback --forward and binlog split. It isn't written to a
@@ -300,6 +316,12 @@ Examples:
       write to a file that isn't there yet; -r is the same as --result-file, -j as --start-position
   binlog redo -j 4021 --stop-position 9144 binlog.000042 -r redo.sql --force
       replace a file that is there
+  binlog redo --thread 13 binlog.000042 --dry-run
+      only the transactions of one connection of a client
+  binlog redo --gtid 283c105d-e730-11f1-97ff-02fc00000001:6 binlog.000042 --dry-run
+      the transaction with this GTID; 5-9 in place of 6: those from 5 to 9
+  binlog redo --utc --start-datetime '2026-11-21 02:02:00' --stop-datetime '2026-11-21 02:03:00' binlog.000042 --dry-run
+      those of the first time or later that are before the second, both in UTC
   binlog redo -T shop.orders binlog.000042 | mysql
       all changes of one table; -T is the same as --table
   binlog redo -d shop binlog.000042 | mysql

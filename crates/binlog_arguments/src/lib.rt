@@ -7,10 +7,12 @@ mod list_arguments;
 mod options;
 mod sql_arguments;
 mod undo_arguments;
+mod unit_choice;
 mod zones;
 
 pub use arguments::{ArgumentsFault, Asked, Making, NewLogTask, read_arguments};
 pub use list_arguments::ListTask;
 pub use sql_arguments::SqlTask;
 pub use undo_arguments::PartTask;
+pub use unit_choice::UnitChoice;
 pub use zones::{Zone, zone_in};

@@ -161,7 +161,7 @@ fn read_tables<'a, A: Allocator>(
 const THREAD_ID: &str = "a thread id: decimal digits, 0 to 4294967295";
 
 /// The threads that are asked for, in order.
-fn read_threads<'a, A: Allocator + Copy>(
+pub(crate) fn read_threads<'a, A: Allocator + Copy>(
     alloc: A,
     command: &mut Command<'a>,
     found: &ArgMatches<'a>,
@@ -201,7 +201,7 @@ const IDS: &str =
     "a GTID: UUID:NUMBER, UUID:TAG:NUMBER, or FIRST-LAST in place of the number, which is 1 to 18446744073709551615";
 
 /// The global transaction ids that are asked for, in order.
-fn read_gtids<'a, A: Allocator + Copy>(
+pub(crate) fn read_gtids<'a, A: Allocator + Copy>(
     alloc: A,
     command: &mut Command<'a>,
     found: &ArgMatches<'a>,
@@ -294,7 +294,7 @@ const SHOWN_TIME: &str =
     "a time in this time zone: its clock is put forward past it: give one before or after that";
 
 /// The time that this option has, where it is there, in seconds since 1970 in UTC.
-fn read_time<'a, A: Allocator + Copy>(
+pub(crate) fn read_time<'a, A: Allocator + Copy>(
     alloc: A,
     command: &mut Command<'a>,
     found: &ArgMatches<'a>,

@@ -169,7 +169,7 @@ fn undo_arguments<'a>(alloc: Global) -> Result<Command<'a>, AllocError> {
         "Look at this later log of the server too; can be given several times",
     );
     let command = command.arg(later.action(ArgAction::Append).conflicts_with(ANYWAY)?)?;
-    part_arguments(alloc, zone_arguments(alloc, command, TELLING)?)
+    part_arguments(alloc, command)
 }
 
 /// The command `redo`, with its options.
@@ -183,7 +183,8 @@ fn redo_arguments<'a>(alloc: Global) -> Result<Command<'a>, AllocError> {
 
 /// Adds the options of `undo` and `redo` that they share, and their argument LOG.
 fn part_arguments<'a>(alloc: Global, command: Command<'a>) -> Result<Command<'a>, AllocError> {
-    let command = sql_options(alloc, selection_options(alloc, command)?)?;
+    let command = unit_arguments(alloc, selection_options(alloc, command)?)?;
+    let command = sql_options(alloc, zone_arguments(alloc, command)?)?;
     let as_log = flag(alloc, AS_LOG).help("Write a binary log, and no SQL");
     let command = command.arg(as_log)?;
     let dry_run = flag(alloc, DRY_RUN).help("Write nothing but the report");
@@ -199,7 +200,7 @@ fn part_arguments<'a>(alloc: Global, command: Command<'a>) -> Result<Command<'a>
 fn selection_options<'a>(alloc: Global, command: Command<'a>) -> Result<Command<'a>, AllocError> {
     let start = option(alloc, START, "POS").help("Start at the event that begins at POS");
     let command = command.arg(start.short('j'))?;
-    let stop = option(alloc, STOP, "POS").help("Stop in front of the event that begins at POS");
+    let stop = option(alloc, STOP, "POS").help("Stop before the event that begins at POS");
     let command = command.arg(stop)?;
     let database = option(alloc, DATABASE, "NAME").help("Only tables of this database");
     let command = command.arg(database.short('d'))?;
@@ -243,10 +244,11 @@ fn list_arguments<'a>(alloc: Global) -> Result<Command<'a>, AllocError> {
         .override_usage(LIST_USAGE)
         .after_help(LIST_AFTER_HELP);
     let command = range_arguments(alloc, table_arguments(alloc, command)?)?;
+    let command = unit_arguments(alloc, command)?;
     let gtid = flag(alloc, SHOW_GTID).help("Print GTIDs too");
     let command = command.arg(gtid)?;
     let damaged = flag(alloc, SKIP_DAMAGED).help("Go on after an event whose checksum is wrong");
-    let command = zone_arguments(alloc, command.arg(damaged)?, READING)?;
+    let command = zone_arguments(alloc, command.arg(damaged)?)?;
     let sorted = option(alloc, SORT, "ORDER")
         .value_parser(ValueParser::Names(&[BY_ROWS]))
         .help("List the transactions of each log by how many rows they change, the most first");
@@ -259,32 +261,17 @@ fn list_arguments<'a>(alloc: Global) -> Result<Command<'a>, AllocError> {
     command.arg(logs.required(true).action(ArgAction::Append))
 }
 
-/// What the options of time zones say where times are read, too.
-const READING: [&str; 2] = [
-    "Read and print times in UTC",
-    "Read and print times in this time zone, such as Europe/Berlin",
-];
-
-/// What they say where times are printed alone.
-const TELLING: [&str; 2] = [
-    "Print times in UTC",
-    "Print times in this time zone, such as Europe/Berlin",
-];
-
 /// Adds the options that say in which time zone times are.
-fn zone_arguments<'a>(
-    alloc: Global,
-    command: Command<'a>,
-    saying: [&'a str; 2],
-) -> Result<Command<'a>, AllocError> {
-    let [in_utc, in_zone] = saying;
-    let utc = flag(alloc, UTC).help(in_utc);
+fn zone_arguments<'a>(alloc: Global, command: Command<'a>) -> Result<Command<'a>, AllocError> {
+    let utc = flag(alloc, UTC).help("Read and print times in UTC");
     let command = command.arg(utc)?;
-    let zone = option(alloc, TIME_ZONE, "NAME").help(in_zone);
+    let zone = option(alloc, TIME_ZONE, "NAME").help(
+        "Read and print times in this time zone, such as Europe/Berlin",
+    );
     command.arg(zone.conflicts_with(UTC)?)
 }
 
-/// Adds the options that choose tables and threads.
+/// Adds the options that choose tables.
 fn table_arguments<'a>(alloc: Global, command: Command<'a>) -> Result<Command<'a>, AllocError> {
     let database = option(alloc, DATABASE, "NAME").help(
         "Only the transactions that change a table of this database",
@@ -297,29 +284,33 @@ fn table_arguments<'a>(alloc: Global, command: Command<'a>) -> Result<Command<'a
     let excluded = option(alloc, EXCLUDED_TABLE, "[NAME.]NAME").help(
         "Don't count this table; can be given several times",
     );
-    let command = command.arg(excluded.action(ArgAction::Append))?;
-    let thread = option(alloc, THREAD, "N").help(
-        "Only those of this thread of the server; can be given several times",
-    );
-    command.arg(thread.action(ArgAction::Append))
+    command.arg(excluded.action(ArgAction::Append))
 }
 
-/// Adds the options that bound positions and times.
+/// Adds the options that bound positions.
 fn range_arguments<'a>(alloc: Global, command: Command<'a>) -> Result<Command<'a>, AllocError> {
-    let start = option(alloc, START, "POS").help("Only the units that start at POS or behind it");
+    let start = option(alloc, START, "POS").help(
+        "Only the transactions that start at POS or after it",
+    );
     let command = command.arg(start.short('j'))?;
-    let stop = option(alloc, STOP, "POS").help("Only the units that start before POS");
-    let command = command.arg(stop)?;
+    let stop = option(alloc, STOP, "POS").help("Only those that start before POS");
+    command.arg(stop)
+}
+
+/// Adds the options that choose transactions by thread, GTID and time.
+fn unit_arguments<'a>(alloc: Global, command: Command<'a>) -> Result<Command<'a>, AllocError> {
+    let thread = option(alloc, THREAD, "N").help(
+        "Only the transactions of this thread of the server; can be given several times",
+    );
+    let command = command.arg(thread.action(ArgAction::Append))?;
     let gtid = option(alloc, GTID, "GTID").help(
-        "Only the units with this GTID, or one of UUID:N-M; can be given several times",
+        "Only those with this GTID, or one of UUID:N-M; can be given several times",
     );
     let command = command.arg(gtid.action(ArgAction::Append))?;
     let from = option(alloc, START_TIME, "TIME").help(
-        "Only the units of TIME or later: YYYY-MM-DD hh:mm:ss",
+        "Only those of TIME or later: YYYY-MM-DD hh:mm:ss",
     );
     let command = command.arg(from)?;
-    let to = option(alloc, STOP_TIME, "TIME").help(
-        "Only the units before TIME: YYYY-MM-DD hh:mm:ss",
-    );
+    let to = option(alloc, STOP_TIME, "TIME").help("Only those before TIME: YYYY-MM-DD hh:mm:ss");
     command.arg(to)
 }

@@ -1,16 +1,17 @@
 //! Which arguments of `undo` and `redo` mean what.
 
-ghost use Rattle.std.specs.Prelude.{◌≡◌, IfErr, IfOk, codes, map};
-ghost use Rattle.clap.specs.Words.{first_value, found_of};
+ghost use Rattle.std.specs.Prelude.{◌≡◌, IfErr, IfOk, map};
+ghost use Rattle.clap.specs.Words.{found_of};
 ghost use Rattle.blog_run.specs.Writing.{HasShortWriting};
 ghost use Rattle.blog_sql.specs.Changed.{HaveShortNames};
 ghost use Rattle.blog_trans.specs.Selection.{selection_of};
-ghost use Rattle.binlog_arguments.specs.Request.{HasPartWriting, IsPart, IsPartTask, IsPartZone, RefusesPart, RefusesTime, later_paths, looks_later};
+ghost use Rattle.binlog_arguments.specs.Request.{HasPartWriting, IsPart, IsPartTask, RefusesPart, later_paths, looks_later};
 
 use crate::arguments::{ArgumentsFault, is_given, read_number};
 use crate::list_arguments::{read_paths, read_zone};
 use crate::options::{ANYWAY, AS_LOG, DATABASE, DRY_RUN, LATER, START, STOP, TABLE};
 use crate::sql_arguments::{SqlTask, read_sql};
+use crate::unit_choice::{UnitChoice, read_unit_choice};
 use crate::zones::Zone;
 use blog_choice::TableName;
 use blog_row::Order;
@@ -28,6 +29,8 @@ pub struct PartTask<'a, A: Allocator> {
     pub sql: SqlTask<'a, A>,
     /// The part, by places in the log.
     pub part: Selection<'a>,
+    /// Which of its transactions are chosen.
+    pub units: UnitChoice<'a, A>,
     /// Whether its changes are made once more (forward) or undone (backward).
     pub order: Order,
     /// Whether they are written as a log, and not as SQL.
@@ -38,7 +41,7 @@ pub struct PartTask<'a, A: Allocator> {
     pub looks: bool,
     /// The paths of later logs, in order, which are looked at too.
     pub later: Vec<&'a str, A>,
-    /// The time zone in which times are told.
+    /// The time zone in which times are given and printed.
     pub zone: Zone,
 }
 
@@ -75,15 +78,18 @@ pub(crate) fn read_part<'a, R: Files + Env + AllocGlobal, A: Allocator + Copy>(
     let start = read_number(alloc, command, found, START, "POS", POSITION)?;
     let stop = read_number(alloc, command, found, STOP, "POS", POSITION)?;
     let sql = read_sql(alloc, command, found)?;
+    let zone = read_zone(rt, alloc, command, found)?;
+    let units = read_unit_choice(alloc, command, found, zone.time_zone())?;
     Ok(PartTask {
         sql,
         part: part_of(found, start, stop),
+        units,
         order,
         as_log: is_given(found, AS_LOG),
         dry_run: is_given(found, DRY_RUN),
         looks: looks(found, order),
         later: read_later(alloc, found, order)?,
-        zone: read_part_zone(rt, alloc, command, found, order)?,
+        zone,
     })
 }
 
@@ -94,23 +100,6 @@ fn looks(found: &ArgMatches<'_>, order: Order) -> bool
     match order {
         Order::Forward => false,
         Order::Backward => !is_given(found, ANYWAY),
-    }
-}
-
-/// The time zone in which times are told: `redo` tells none.
-fn read_part_zone<'a, R: Files + Env + AllocGlobal, A: Allocator + Copy>(
-    rt: &R,
-    alloc: A,
-    command: &mut Command<'a>,
-    found: &ArgMatches<'a>,
-    order: Order,
-) -> Result<Zone, ArgumentsFault<A>>
-    ensures zone { IfOk result (IsPartZone (found_of found.now) order) }
-    ensures wrong { IfErr result (RefusesTime (first_value (found_of found.now) (codes "time-zone"))) }
-{
-    match order {
-        Order::Forward => Ok(Zone::Utc),
-        Order::Backward => read_zone(rt, alloc, command, found),
     }
 }
 

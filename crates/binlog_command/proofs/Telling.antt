@@ -1,14 +1,22 @@
 -- What is told of a part that is written.
 use Rattle.std.proofs.Common.{◌≡◌, ℕ, Bool, List, Option}
 use Rattle.std.specs.Prelude.{Vec}
-use Rattle.list_run.specs.declared.given.GivenLog.{GivenLog}
+use Rattle.blog_request.specs.declared.wanted.Wanted.{Wanted}
 use Rattle.blog_run.specs.declared.writing.Writing.{Writing}
+use Rattle.blog_source.specs.Found.{found_of}
+use Rattle.blog_source.specs.Handed.{handed_log}
 use Rattle.blog_trans.specs.Selection.{Selection}
-use Rattle.undo_run.specs.After.{Later}
-use Rattle.undo_run.specs.Parts.{CanBe, OfLooked, part_report}
+use Rattle.list_run.specs.declared.given.GivenLog.{GivenLog}
+use Rattle.undo_run.specs.Parts.{reading_of}
+use Rattle.undo_run.specs.Taken.{CanBe, OfLater, report_taken}
+use Rattle.undo_run.specs.Writes.{IsSoundIn, OfOpened, ReportsPart, taken_in}
 
 -- the report is that of the logs that were read, whatever was written
-pub told-of : {A R : Type 0} (looks : Bool) (known : R → Option (List ℕ)) (givens : List (GivenLog R)) (w : Writing) (name : List ℕ) (part : Selection) (old new : Option (List ℕ)) (P : List ℕ → Type 0) (told : Vec ℕ A)
-    → OfLooked looks known givens name part old new (λ bytes ls. CanBe looks w part bytes ls × P bytes × (told.items ≡ part_report looks w name part bytes ls))
-    → OfLooked looks known givens name part old new (λ bytes ls. CanBe looks w part bytes ls × (told.items ≡ part_report looks w name part bytes ls))
-told-of looks known givens w name part old new P told (bytes, opened, (logs, read, (can, text, is))) = (bytes, opened, (logs, read, (can, is)))
+pub told-of : {A R : Type 0} (looks : Bool) (known : R → Option (List ℕ)) (givens : List (GivenLog R)) (w : Writing) (name : List ℕ) (part : Selection) (wanted : Option Wanted) (old new : Option (List ℕ)) (P : List ℕ → Type 0) (told : Vec ℕ A)
+    → OfOpened old new (λ bytes.
+    let how = reading_of looks wanted part in
+    let t = taken_in looks wanted name part (handed_log how bytes) (found_of how bytes).end (found_of how bytes).fault in
+    IsSoundIn looks wanted part (handed_log how bytes) (found_of how bytes).end (found_of how bytes).fault
+    × OfLater looks known givens (λ logs. CanBe looks w t logs × P bytes × (told.items ≡ report_taken looks w name t logs)))
+    → ReportsPart looks known givens w name part wanted old new told.items
+told-of looks known givens w name part wanted old new P told (bytes, reads, opened, (sound, (logs, read, (can, text, is)))) = (bytes, reads, opened, (sound, (logs, read, (can, is))))

@@ -22,15 +22,16 @@ use Rattle.list_run.specs.Listed.{ListsLogs, MayFollow}
 use Rattle.list_run.specs.declared.fault.ListFault.{ListFault}
 use Rattle.list_run.specs.declared.given.GivenLog.{GivenLog}
 use Rattle.blog_request.specs.declared.wanted.Wanted.{Wanted}
-use Rattle.binlog_arguments.specs.Request.{HasPartWriting, HasTask, asks_for_list, asks_for_part}
+use Rattle.binlog_arguments.specs.Request.{HasPartWriting, HasTask, HasUnits, asks_for_list, asks_for_part}
 use Rattle.binlog_arguments.specs.declared.undo_arguments.PartTask.{PartTask}
-use Rattle.undo_run.specs.Parts.{CanBe, IsPlaced, OfLooked, WritesPart, part_report}
+use Rattle.undo_run.specs.Parts.{IsPlaced}
+use Rattle.undo_run.specs.Writes.{ReportsPart, WritesPart}
 use Rattle.undo_run.specs.declared.fault.PartFault.{PartFault}
-use Rattle.undo_run.specs.declared.fault.PartFault.TheVariants.{LaterLog}
+use Rattle.undo_run.specs.declared.fault.PartFault.TheVariants.{LaterLog, NoUnitWithGtid}
 use Rattle.binlog_arguments.specs.Zones.{IsZoneOf}
 use Rattle.binlog_arguments.specs.declared.list_arguments.ListTask.{ListTask}
 use Rattle.binlog_command.specs.declared.commands.Failure.{Failure}
-use Rattle.binlog_command.specs.declared.commands.Failure.TheVariants.{NewLog as NoNewLog, List as NoList, Part as NoPart, Later as NoLater}
+use Rattle.binlog_command.specs.declared.commands.Failure.TheVariants.{NewLog as NoNewLog, List as NoList, Part as NoPart, Later as NoLater, NoGtid}
 use Rattle.binlog_command.specs.declared.commands.NewLogFault.{NewLogFault}
 use Rattle.binlog_command.specs.declared.commands.NewLogFault.TheVariants.{Run, Sums, Split as Cut, NoSchema}
 use Rattle.binlog_arguments.specs.declared.arguments.Making.{Making}
@@ -148,10 +149,12 @@ abbrev pub may_report : {A B E : Type 0} → Result (Vec (String A) B) E → Boo
 may_report (Ok arguments) = asks_for_list arguments.items || asks_for_part arguments.items
 may_report (Err error) = false
 
--- a run fails with this fault of its part: in place of the number of a later log it has its path
+-- a run fails with this fault of its part: in place of the number of a later log it has its path, and in place of that of a global transaction
+-- id its text
 abbrev pub IsFailureOf : {A : Type 0} → PartTask A → PartFault A → Failure A → Type 0
 IsFailureOf task fault (NoPart same) = same ≡ fault
 IsFailureOf task fault (NoLater path cause) = (n : ℕ) × (slice_get task.later.items n ≡ Some path) × (fault ≡ LaterLog n cause)
+IsFailureOf task fault (NoGtid text) = (n : ℕ) × (slice_get task.units.gtid_texts.items n ≡ Some text) × (fault ≡ NoUnitWithGtid n)
 IsFailureOf task fault failure = ⊥
 
 -- the outcome is that of writing a part of a log, of which this holds
@@ -164,20 +167,19 @@ abbrev pub OfPart : {A : Type 0} → PartTask A → (Result (Vec ℕ A) (PartFau
 OfPart task P (Ok done) = (told : Vec ℕ _) × P (Ok told)
 OfPart task P (Err failure) = OfTold task P (Err failure)
 
--- a task's part is written, as it is written at this time
+-- a task's part is written, or the chosen transactions of that, as it is written at this time
 abbrev pub WritesTask : {A R : Type 0} → (R → Option (List ℕ)) → List (GivenLog R) → PartTask A → ℕ → Option (List ℕ) → Option (List ℕ) → Option (List ℕ) → Option (List ℕ) → Result Unit (Failure A) → Type 0
-WritesTask known givens task now old new had has result = (how : Writing) × HasPartWriting task now how
-    × OfPart task (WritesPart task.looks known givens how task.sql.log.now (selection_of task.part) old new had has) result
+WritesTask known givens task now old new had has result = (how : Writing) × HasPartWriting task now how × ((wanted : Option Wanted) × HasUnits task.units wanted
+    × OfPart task (WritesPart task.looks known givens how task.sql.log.now (selection_of task.part) wanted old new had has) result)
 
--- this is reported of a task's part, of the log that was read
-abbrev pub IsToldOf : {A R : Type 0} → (R → Option (List ℕ)) → List (GivenLog R) → Writing → PartTask A → Option (List ℕ) → Option (List ℕ) → List ℕ → Type 0
-IsToldOf known givens how task old new told = OfLooked task.looks known givens task.sql.log.now (selection_of task.part) old new
-    (λ bytes ls. CanBe task.looks how (selection_of task.part) bytes ls × (told ≡ part_report task.looks how task.sql.log.now (selection_of task.part) bytes ls))
+-- this is reported of it, of the log that was read
+abbrev pub IsToldOf : {A R : Type 0} → (R → Option (List ℕ)) → List (GivenLog R) → Writing → PartTask A → Option Wanted → Option (List ℕ) → Option (List ℕ) → List ℕ → Type 0
+IsToldOf known givens how task wanted old new told = ReportsPart task.looks known givens how task.sql.log.now (selection_of task.part) wanted old new told
 
 -- and it is written
 abbrev pub TellsPart : {A R : Type 0} → (R → Option (List ℕ)) → List (GivenLog R) → PartTask A → ℕ → Option (List ℕ) → Option (List ℕ) → Option (List ℕ) → Option (List ℕ) → Type 0
-TellsPart known givens task now old new had has =
-    (how : Writing) × HasPartWriting task now how × ((told : List ℕ) × IsToldOf known givens how task old new told × Appends had has told)
+TellsPart known givens task now old new had has = (how : Writing) × HasPartWriting task now how × ((wanted : Option Wanted) × HasUnits task.units wanted
+    × ((told : List ℕ) × IsToldOf known givens how task wanted old new told × Appends had has told))
 
 -- ---- lists
 

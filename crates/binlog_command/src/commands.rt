@@ -73,6 +73,8 @@ pub enum Failure<'a, A: Allocator> {
     Part(PartFault<A>),
     /// The later log of this path can't be read, so the part isn't written.
     Later(&'a str, OpeningFault),
+    /// No unit of the part has this global transaction id, or one of these, so the part isn't written.
+    NoGtid(&'a str),
     /// The list isn't whole. The path is that of the log for which it isn't, where several are listed.
     List(Option<&'a str>, ListFault),
 }

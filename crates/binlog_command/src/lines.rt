@@ -69,6 +69,10 @@ impl<A: Allocator> fmt::Display for Failure<'_, A> {
                 write!(f, "{path}: ")?;
                 print_opening_fault(f, fault)
             }
+            Failure::NoGtid(text) => write!(
+                f,
+                "NoUnitWithGtid: no transaction in this range has the GTID {text}: see binlog list --show-gtid"
+            ),
             Failure::List(_, ListFault::Run(RunFault::Write)) => print_run_fault(
                 f,
                 &RunFault::Write,
@@ -101,6 +105,7 @@ fn print_part_fault<W: fmt::Write, A: Allocator>(
             let fault = Fault::NoEventAt { pos: *pos };
             write!(f, "{fault}: {}", advice::of_log(&fault))
         }
+        PartFault::NoUnitWithGtid(_) => f.write_str(NO_UNIT_WITH_GTID),
         PartFault::Log(fault) => write!(f, "{fault}: {}", advice::of_log(fault)),
         PartFault::NothingSelected => f.write_str(NOTHING_SELECTED),
         PartFault::LaterLog(_, fault) => print_opening_fault(f, fault),
@@ -248,6 +253,9 @@ const TERMINAL: &str =
 
 const ENCRYPTED: &str =
     "fetch it from its server by mysqlbinlog --read-from-remote-server --raw, which decrypts it";
+
+const NO_UNIT_WITH_GTID: &str =
+    "NoUnitWithGtid: no transaction in this range has one of the GTIDs: see binlog list --show-gtid";
 
 const NOTHING_SELECTED: &str =
     "NothingSelected: no row of these tables is changed in this range: see binlog list";

@@ -8,12 +8,13 @@ ghost use Rattle.blog_sql.specs.Changed.{HaveShortNames};
 ghost use Rattle.blog_trans.specs.Selection.{selection_of};
 ghost use Rattle.binlog_command.specs.Runs.{IsFailureOf, IsToldOf, OfTold, TellsPart, WritesTask};
 ghost use Rattle.binlog_command.specs.Status.{status_of};
-ghost use Rattle.undo_run.specs.Parts.{WritesPart};
+ghost use Rattle.undo_run.specs.Writes.{WritesPart};
 
 use crate::commands::{Failure, Process};
 use crate::log_file::open_logs;
 use binlog_arguments::PartTask;
 use blog_device::{Watched, put};
+use blog_request::Wanted as Units;
 use blog_run::Writing;
 use list_run::GivenLog;
 use result_file::{ResultFile, Wanted};
@@ -107,14 +108,24 @@ pub(crate) fn run_part<
         (O.contents (device_of output.old)) (O.contents (device_of output.new))) }
 {
     let writing = task.writing(process.began);
+    let units = task.units.wanted();
     if task.dry_run {
         let mut nowhere = Watched::new(Nowhere {});
-        let told = part_to(alloc, process, reader, later, task, &writing, &mut nowhere)?;
+        let told = part_to(
+            alloc,
+            process,
+            reader,
+            later,
+            task,
+            units,
+            &writing,
+            &mut nowhere,
+        )?;
         return tell(&told, output);
     }
     match task.sql.result_file {
         None => {
-            let told = part_to(alloc, process, reader, later, task, &writing, output)?;
+            let told = part_to(alloc, process, reader, later, task, units, &writing, output)?;
             // what can't be printed is dropped
             let _ = put(errors, &told);
             Ok(())
@@ -126,24 +137,27 @@ pub(crate) fn run_part<
                 replace: task.sql.force,
                 process: process.id,
             };
-            let told = part_to_file(rt, alloc, process, reader, later, task, &writing, &wanted)?;
+            let told = part_to_file(
+                rt, alloc, process, reader, later, task, units, &writing, &wanted,
+            )?;
             tell(&told, output)
         }
     }
 }
 
-/// Writes the part of a task's log to a device, and returns the report.
+/// Writes the part of a task's log to a device, or the wanted units of it, and returns the report.
 fn part_to<'a, A: Allocator + Copy, D: Read, L: Read + Drop, W: Write>(
     alloc: A,
     process: Process,
     reader: &mut Watched<D>,
     later: Vec<GivenLog<'a, L>, A>,
     task: &PartTask<'a, A>,
+    units: Option<Units<'_>>,
     writing: &Writing<'_>,
     writer: &mut Watched<W>,
 ) -> Result<Vec<u8, A>, Failure<'a, A>>
     requires { HasShortWriting writing.now }
-    ensures writes { OfTold task.now (WritesPart task.now.looks L.remaining later.entry.items writing.now task.now.sql.log.now (selection_of task.now.part) (D.remaining (device_of reader.old)) (D.remaining (device_of reader.new))
+    ensures writes { OfTold task.now (WritesPart task.now.looks L.remaining later.entry.items writing.now task.now.sql.log.now (selection_of task.now.part) units.entry (D.remaining (device_of reader.old)) (D.remaining (device_of reader.new))
         (W.contents (device_of writer.old)) (W.contents (device_of writer.new))) result }
     ensures untouched { OnErr result (has_failed writer.new ≡ false → writer.new ≡ writer.old) }
     ensures status { IfErr result (λ f. status_of f ≡ 1) }
@@ -153,6 +167,7 @@ fn part_to<'a, A: Allocator + Copy, D: Read, L: Read + Drop, W: Write>(
         reader,
         task.sql.log.as_bytes(),
         &task.part,
+        units,
         task.looks,
         later,
         process.seed,
@@ -165,7 +180,7 @@ fn part_to<'a, A: Allocator + Copy, D: Read, L: Read + Drop, W: Write>(
     }
 }
 
-/// Why a part isn't written, with the path of the later log at fault.
+/// Why a part isn't written, with the path of the later log at fault, or the global transaction id.
 fn failure_of<'a, A: Allocator>(task: &PartTask<'a, A>, fault: PartFault<A>) -> Failure<'a, A>
     ensures told { IsFailureOf task.now fault result }
     ensures status { status_of result ≡ 1 }
@@ -175,11 +190,15 @@ fn failure_of<'a, A: Allocator>(task: &PartTask<'a, A>, fault: PartFault<A>) -> 
             Some(path) => Failure::Later(path, fault),
             None => Failure::Part(PartFault::LaterLog(n, fault)),
         },
+        PartFault::NoUnitWithGtid(n) => match task.units.gtid_texts.get(n) {
+            Some(text) => Failure::NoGtid(text),
+            None => Failure::Part(PartFault::NoUnitWithGtid(n)),
+        },
         fault => Failure::Part(fault),
     }
 }
 
-/// Writes the part of a task's log to the result file, which has its name once it is whole, and returns the report.
+/// Writes the part of a task's log, or the wanted units of it, to the result file, which has its name once it is whole, and returns the report.
 fn part_to_file<'a, R: Files, A: Allocator + Copy, D: Read, L: Read + Drop>(
     rt: &R,
     alloc: A,
@@ -187,12 +206,13 @@ fn part_to_file<'a, R: Files, A: Allocator + Copy, D: Read, L: Read + Drop>(
     reader: &mut Watched<D>,
     later: Vec<GivenLog<'a, L>, A>,
     task: &PartTask<'a, A>,
+    units: Option<Units<'_>>,
     writing: &Writing<'_>,
     wanted: &Wanted<'a>,
 ) -> Result<Vec<u8, A>, Failure<'a, A>>
     requires { HasShortWriting writing.now }
     ensures status { IfErr result (λ f. status_of f ≡ 1) }
-    ensures told { IfOk result (λ told. IsToldOf L.remaining later.entry.items writing.now task.now (D.remaining (device_of reader.old)) (D.remaining (device_of reader.new)) told.items) }
+    ensures told { IfOk result (λ told. IsToldOf L.remaining later.entry.items writing.now task.now units.entry (D.remaining (device_of reader.old)) (D.remaining (device_of reader.new)) told.items) }
 {
     let mut file = ResultFile::create(rt, alloc, wanted)?;
     match part_to(
@@ -201,6 +221,7 @@ fn part_to_file<'a, R: Files, A: Allocator + Copy, D: Read, L: Read + Drop>(
         reader,
         later,
         task,
+        units,
         writing,
         &mut file.writer,
     ) {

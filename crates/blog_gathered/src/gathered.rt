@@ -18,7 +18,7 @@ pub struct Gathered<A: Allocator = Global> {
 
 impl<A: Allocator> Gathered<A> {
     ghost use Rattle.std.specs.Prelude.{◌≡◌, List, [], IfErr, IfOk};
-    ghost use Rattle.blog_trans.specs.Acceptance.{IsRefusal, fault};
+    ghost use Rattle.blog_trans.specs.Acceptance.{IsAccepted, IsRefusal, fault};
     ghost use Rattle.blog_trans.specs.Groups.{groups};
     ghost use Rattle.blog_trans.specs.Selection.{all};
     ghost use Rattle.blog_trans.specs.code.IndexView.{index_bytes, index_selection};
@@ -72,6 +72,7 @@ impl<A: Allocator> Gathered<A> {
         alloc: B,
         seed: u64,
     ) -> Result<Index<'g, 'static, B>, Fault>
+        ensures accepted { IfOk result (λ index. IsAccepted (bytes_gathered self.now) all) }
         ensures bytes { IfOk result (λ index. index_bytes index ≡ bytes_gathered self.now) }
         ensures selection { IfOk result (λ index. index_selection index ≡ all) }
         ensures groups { (first : Range) → (rs : List Range) → IsGathered first rs self.now → IfOk result (λ index. groups (index_bytes index) (index_selection index) ≡ groups_of rs) }

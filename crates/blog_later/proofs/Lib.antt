@@ -3,3 +3,6 @@ mod EventChanges
 mod OtherTables
 mod Seen
 pub mod Untouched
+pub mod Numbered
+pub mod Among
+pub mod Amid

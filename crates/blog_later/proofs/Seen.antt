@@ -34,59 +34,60 @@ units-more test us u n is holds =
     at-more n 1 (length (filter test us)) (length (filter test (u ∷ []))) is (ap at_most (sym (ap length (one-in test u holds))))
     ∙ ap at_most (sym (count-append test us (u ∷ [])))
 
-changes-more : (bytes : List ℕ) (us : List Facts) (u : Facts) → is_accepted bytes u ≡ true → changes_in bytes (us ++ u ∷ []) ≡ changes_in bytes us ++ changes bytes (between u.start u.stop)
-changes-more bytes us u holds =
-    flat_map-append (unit_changes bytes) us (u ∷ [])
-    ∙ ap (λ (cs : List Change). changes_in bytes us ++ cs) (append-nil (unit_changes bytes u) ∙ cond-true (is_accepted bytes u) (changes bytes (between u.start u.stop)) [] holds)
+-- of one unit
+one-accepted : (left : Left) (bytes : List ℕ) (u : Facts) → is_accepted bytes u ≡ true → touches_in left bytes (u ∷ []) ≡ length (filter (takes_left left) (changes bytes (between u.start u.stop)))
+one-accepted left bytes u holds =
+    ap (λ (cs : List Change). length (filter (takes_left left) cs)) (append-nil (unit_changes bytes u) ∙ cond-true (is_accepted bytes u) (changes bytes (between u.start u.stop)) [] holds)
 
-touches-more : (left : Left) (bytes : List ℕ) (us : List Facts) (u : Facts) (n more : ℕ) → is_accepted bytes u ≡ true
-    → n ≡ at_most (touches_in left bytes us) → more ≡ at_most (length (filter (takes_left left) (changes bytes (between u.start u.stop))))
-    → min (n + more) (2 ^ 64 - 1) ≡ at_most (touches_in left bytes (us ++ u ∷ []))
-touches-more left bytes us u n more holds is counted =
-    let takes = takes_left left in
-    let cs = changes bytes (between u.start u.stop) in
-    at-more n more (touches_in left bytes us) (length (filter takes cs)) is counted
-    ∙ ap at_most (sym (ap (λ (ds : List Change). length (filter takes ds)) (changes-more bytes us u holds) ∙ count-append takes (changes_in bytes us) cs))
+pub one-refused : (left : Left) (bytes : List ℕ) (u : Facts) → is_accepted bytes u ≡ false → touches_in left bytes (u ∷ []) ≡ 0
+one-refused left bytes u fails =
+    ap (λ (cs : List Change). length (filter (takes_left left) cs)) (append-nil (unit_changes bytes u) ∙ cond-false (is_accepted bytes u) (changes bytes (between u.start u.stop)) [] fails)
+
+pub touches-append : (left : Left) (bytes : List ℕ) (us vs : List Facts) → touches_in left bytes (us ++ vs) ≡ touches_in left bytes us + touches_in left bytes vs
+touches-append left bytes us vs =
+    ap (λ (cs : List Change). length (filter (takes_left left) cs)) (flat_map-append (unit_changes bytes) us vs) ∙ count-append (takes_left left) (changes_in bytes us) (changes_in bytes vs)
 
 -- the groups of one that can be undone by itself
 pub judged-ok : {A : Type 0} (bytes : List ℕ) (unit : given.Unit A) (index : Index A) → IsJudged bytes unit → unit.groups ≡ Ok index
     → IsAccepted bytes (between unit.facts.start unit.facts.stop) × (index_bytes index ≡ bytes) × (index_selection index ≡ between unit.facts.start unit.facts.stop)
-judged-ok bytes unit index judged is = subst (λ (r : Result (Index _) Fault). AreGroups bytes unit.facts.start unit.facts.stop r) is judged
+judged-ok bytes unit index judged is = subst (λ (r : Result (Index _) Fault). AreGroups bytes (between unit.facts.start unit.facts.stop) r) is judged
 
-pub seen-accepted : {A : Type 0} (left : Left) (choice : Choice) (bytes : List ℕ) (us : List Facts) (u : Facts) (more : ℕ) (old new : Looked A)
-    → fault bytes (between u.start u.stop) ≡ None → AreSeen left choice bytes us old
+pub seen-accepted : {A : Type 0} (left : Left) (choice : Choice) (bytes : List ℕ) (us : List Facts) (u : Facts) (n more : ℕ) (old new : Looked A)
+    → fault bytes (between u.start u.stop) ≡ None → AreSeen choice bytes us n old
     → more ≡ at_most (length (filter (takes_left left) (changes bytes (between u.start u.stop))))
     → new.units ≡ min (old.units + 1) (2 ^ 64 - 1) → new.touched ≡ min (old.touched + more) (2 ^ 64 - 1) → new.unknown ≡ old.unknown → new.apart ≡ old.apart
-    → AreSeen left choice bytes (us ++ u ∷ []) new
-seen-accepted left choice bytes us u more old new accepted are counted units-are touched-are unknown-are apart-are =
+    → AreSeen choice bytes (us ++ u ∷ []) (n + touches_in left bytes (u ∷ [])) new
+seen-accepted left choice bytes us u n more old new accepted are counted units-are touched-are unknown-are apart-are =
     let holds : is_accepted bytes u ≡ true = ap is_none accepted in record {
       units = units-are ∙ units-more (is_accepted bytes) us u old.units are.units holds;
-      touched = touched-are ∙ touches-more left bytes us u old.touched more holds are.touched counted;
+      touched = touched-are ∙ at-more old.touched more n (touches_in left bytes (u ∷ [])) are.touched (counted ∙ ap at_most (sym (one-accepted left bytes u holds)));
       unknown = ap (λ v. v.items) unknown-are ∙ are.unknown ∙ ap starts (sym (one-out (may_concern choice bytes) us u (ap (λ b. not b && not (leaves_alone choice bytes u)) holds)));
       apart = ap (λ v. v.items) apart-are ∙ are.apart ∙ ap starts (sym (one-out (is_apart choice bytes) us u (ap (λ b. not b && leaves_alone choice bytes u) holds)));
     }
 
 -- ---- on the way through the units of a log
 
--- what was seen is of some units, which with those that are left make up all
-pub record IsLooking {A : Type 0} (kept : Left) (choice : Choice) (bytes : List ℕ) (all : List Facts) (looked : Looked A) (left : List Facts) : Type 0 where
+-- what was seen is of some units, which with those that are left make up all; counted says how many left rows units take
+pub record IsLooking {A : Type 0} (counted : List Facts → ℕ) (choice : Choice) (bytes : List ℕ) (all : List Facts) (looked : Looked A) (left : List Facts) : Type 0 where
   pub done : List Facts
   pub whole : done ++ left ≡ all
-  pub are : AreSeen kept choice bytes done looked
+  pub are : AreSeen choice bytes done (counted done) looked
 
-pub looking-none : {A : Type 0} (kept : Left) (choice : Choice) (bytes : List ℕ) (all left : List Facts) (looked : Looked A) → left ≡ all → AreSeen kept choice bytes [] looked → IsLooking kept choice bytes all looked left
-looking-none kept choice bytes all left looked same are = record { done = []; whole = same; are = are }
+pub looking-none : {A : Type 0} (counted : List Facts → ℕ) (choice : Choice) (bytes : List ℕ) (all left : List Facts) (looked : Looked A) → counted [] ≡ 0 → left ≡ all → AreSeen choice bytes [] 0 looked
+    → IsLooking counted choice bytes all looked left
+looking-none counted choice bytes all left looked none same are =
+    record { done = []; whole = same; are = subst (λ (n : ℕ). AreSeen choice bytes [] n looked) (sym none) are }
 
-pub looking-on : {A : Type 0} (kept : Left) (choice : Choice) (bytes : List ℕ) (all : List Facts) (looked new : Looked A) (u : Facts) (left rest : List Facts)
-    → (s : IsLooking kept choice bytes all looked left) → left ≡ u ∷ rest → AreSeen kept choice bytes (s.done ++ u ∷ []) new → IsLooking kept choice bytes all new rest
-looking-on kept choice bytes all looked new u left rest s first is = record {
+pub looking-on : {A : Type 0} (counted : List Facts → ℕ) (choice : Choice) (bytes : List ℕ) (all : List Facts) (looked new : Looked A) (u : Facts) (left rest : List Facts) (n : ℕ)
+    → (s : IsLooking counted choice bytes all looked left) → left ≡ u ∷ rest → n ≡ counted (s.done ++ u ∷ []) → AreSeen choice bytes (s.done ++ u ∷ []) n new → IsLooking counted choice bytes all new rest
+looking-on counted choice bytes all looked new u left rest n s first many is = record {
   done = s.done ++ u ∷ [];
   whole = append_assoc s.done (u ∷ []) rest ∙ ap (λ (xs : List Facts). s.done ++ xs) (sym first) ∙ s.whole;
-  are = is;
+  are = subst (λ (m : ℕ). AreSeen choice bytes (s.done ++ u ∷ []) m new) many is;
 }
 
-pub looking-end : {A : Type 0} (kept : Left) (choice : Choice) (bytes : List ℕ) (all : List Facts) (looked : Looked A) (left : List Facts)
-    → IsLooking kept choice bytes all looked left → left ≡ [] → AreSeen kept choice bytes all looked
-looking-end kept choice bytes all looked left s none =
+pub looking-end : {A : Type 0} (counted : List Facts → ℕ) (choice : Choice) (bytes : List ℕ) (all : List Facts) (looked : Looked A) (left : List Facts)
+    → IsLooking counted choice bytes all looked left → left ≡ [] → AreSeen choice bytes all (counted all) looked
+looking-end counted choice bytes all looked left s none =
     let done : s.done ≡ all = sym (append-nil s.done) ∙ ap (λ (xs : List Facts). s.done ++ xs) (sym none) ∙ s.whole in
-    subst (λ (us : List Facts). AreSeen kept choice bytes us looked) done s.are
+    subst (λ (us : List Facts). AreSeen choice bytes us (counted us) looked) done s.are

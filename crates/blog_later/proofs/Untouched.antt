@@ -35,7 +35,7 @@ as-many-taken kept left same cs = ap length (filtered-alike (takes_left kept) (t
 -- ---- rows that are left
 
 -- a test that holds of no element
-none-holds : (test : Change → Bool) (c : Change) (cs : List Change) → length (filter test (c ∷ cs)) ≡ 0 → (test c ≡ false) × (length (filter test cs) ≡ 0)
+pub none-holds : (test : Change → Bool) (c : Change) (cs : List Change) → length (filter test (c ∷ cs)) ≡ 0 → (test c ≡ false) × (length (filter test cs) ≡ 0)
 none-holds test c cs e = by_case (test c) refl
   where
     by_case : (b : Bool) → test c ≡ b → (test c ≡ false) × (length (filter test cs) ≡ 0)

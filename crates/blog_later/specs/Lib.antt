@@ -1,4 +1,5 @@
 pub mod Prints
+pub mod Among
 pub mod Later
 pub mod Laws
 pub mod code

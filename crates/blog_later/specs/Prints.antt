@@ -1,7 +1,7 @@
 -- Fingerprints of rows: numbers of 64 bits. Equal rows of a table have equal ones.
-use Rattle.std.specs.Prelude.{◌≡◌, ℕ, Bool, ◌&&◌, List, [], ◌∷◌, Option, option_map, nat_eq, codes}
+use Rattle.std.specs.Prelude.{◌≡◌, ℕ, ◌+◌, ◌*◌, ◌/◌, ◌%◌, Bool, ◌&&◌, if◌then◌else◌, List, [], ◌∷◌, take, Option, None, Some, option_map, nat_eq, nat_lt, codes}
 use Rattle.std.specs.Hash.FoldHasher.{initial, write, finish}
-use Rattle.std.specs.List.{filter_map, list_any}
+use Rattle.std.specs.List.{filter_map, flat_map, list_any}
 use Rattle.std.specs.Option.{option_map_or}
 use Rattle.std.specs.declared.hash.FoldHasher.{FoldHasher}
 use Rattle.blog_row.specs.Image.{Row}
@@ -44,6 +44,20 @@ prints_left f cs = filter_map (λ c. option_map f (leaves c)) cs
 
 abbrev pub left_of : List Change → Left
 left_of cs = record { rows = prints_left print_of cs; tables = prints_left (λ r. table_print r.table) cs }
+
+-- ---- of several lists of changes
+
+-- a fingerprint with the number of a list, below 2^32
+abbrev pub print_in : ℕ → TableRow → ℕ
+print_in n r = print_of r * 4294967296 + n
+
+-- those that are kept of the first k lists
+abbrev pub prints_before : ℕ → List ℕ → List ℕ
+prints_before k kept = filter_map (λ e. if nat_lt (e % 4294967296) k then Some (e / 4294967296) else None) kept
+
+-- those of the rows that the first k lists left, and of the tables of all
+abbrev pub left_by : ℕ → List (List Change) → Left
+left_by k css = record { rows = prints_left print_of (flat_map (λ cs. cs) (take k css)); tables = prints_left (λ r. table_print r.table) (flat_map (λ cs. cs) css) }
 
 -- a change takes a row with one of these fingerprints, of a table with one of these
 abbrev pub takes_left : Left → Change → Bool

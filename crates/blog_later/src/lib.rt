@@ -9,8 +9,9 @@ mod looking;
 mod prints;
 mod touched;
 
-pub use laws::fingerprints_of_left_rows_suffice;
+pub use laws::{fingerprints_of_left_rows_suffice, fingerprints_of_rows_left_before_suffice};
+pub use leaving::Leaving;
 pub use left::LeftRows;
 pub use looked::Looked;
-pub use looking::look;
+pub use looking::{look, look_among};
 pub use touched::TouchedRows;

@@ -1,11 +1,12 @@
 //! What was seen of the units of a log.
 
-ghost use Rattle.std.specs.Prelude.{◌++◌, ◌∷◌, IfOk, List, OnOk, []};
+ghost use Rattle.std.specs.Prelude.{ℕ, ◌+◌, ◌++◌, ◌∷◌, IfOk, List, OnOk, []};
 ghost use Rattle.blog_choice.specs.code.ChosenView.{names_choice};
 ghost use Rattle.blog_event.specs.code.LogView.{log_bytes};
 ghost use Rattle.blog_units.specs.Units.{Facts};
 ghost use Rattle.blog_units.specs.code.UnitsView.{IsJudged, facts_told};
-ghost use Rattle.blog_later.specs.code.LookedView.{AreSeen, left_kept};
+ghost use Rattle.blog_later.specs.Later.{touches_in};
+ghost use Rattle.blog_later.specs.code.LookedView.{AreSeen, left_before};
 
 use crate::left::LeftRows;
 use crate::touched::{TouchedRows, touched_by};
@@ -33,7 +34,7 @@ pub struct Looked<'a, A: Allocator> {
 impl<'a, A: Allocator + Copy> Looked<'a, A> {
     /// Nothing.
     pub(crate) fn none(alloc: A) -> Looked<'a, A>
-        ensures { (left : _) → (choice : _) → (bytes : _) → AreSeen left choice bytes [] result }
+        ensures { (choice : _) → (bytes : _) → AreSeen choice bytes [] 0 result }
     {
         Looked {
             units: 0,
@@ -44,21 +45,23 @@ impl<'a, A: Allocator + Copy> Looked<'a, A> {
         }
     }
 
-    /// Looks at one more unit.
+    /// Looks at one more unit, after so many lists of changes, from the first on.
     pub(crate) fn look<B: Allocator>(
         &mut self,
         left: &LeftRows<A>,
+        lists: u32,
         names: &ChosenNames<'_, A>,
         log: &Log<'_>,
         unit: &Unit<'a, B>,
     ) -> Result<(), AllocError>
         requires { IsJudged (log_bytes log.now) unit.now }
-        ensures { (us : List Facts) → AreSeen (left_kept left.now) (names_choice names.now) (log_bytes log.now) us self.old
-            → OnOk result (AreSeen (left_kept left.now) (names_choice names.now) (log_bytes log.now) (us ++ facts_told unit.now.facts ∷ []) self.new) }
+        ensures { (us : List Facts) → (n : ℕ) → AreSeen (names_choice names.now) (log_bytes log.now) us n self.old
+            → OnOk result (AreSeen (names_choice names.now) (log_bytes log.now) (us ++ facts_told unit.now.facts ∷ [])
+            (n + touches_in (left_before left.now lists) (log_bytes log.now) (facts_told unit.now.facts ∷ [])) self.new) }
     {
         match &unit.groups {
             Ok(index) => {
-                let touched = touched_by(left, index, &mut self.first)?;
+                let touched = touched_by(left, lists, index, &mut self.first)?;
                 self.units = self.units.saturating_add(1);
                 self.touched = self.touched.saturating_add(touched);
                 Ok(())

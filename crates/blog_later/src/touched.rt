@@ -12,7 +12,7 @@ ghost use Rattle.blog_trans.specs.declared.group_events.GroupEvent.TheVariants a
 ghost use Rattle.blog_later.specs.Prints.{table_hasher, table_print, takes_left};
 ghost use Rattle.blog_later.specs.code.EventChanges.{event_changes, image_changes};
 ghost use Rattle.blog_later.specs.code.Counted.{at_most};
-ghost use Rattle.blog_later.specs.code.LookedView.{left_kept};
+ghost use Rattle.blog_later.specs.code.LookedView.{left_before};
 
 use crate::left::LeftRows;
 use crate::prints::{print_of, table_hasher};
@@ -39,26 +39,27 @@ pub struct TouchedRows<'a> {
 /// How many rows events that take left rows are kept.
 const MOST: usize = 20;
 
-/// Returns whether a change takes a row that was left. `hasher` is that of its table, of which rows were left.
+/// Returns whether a change takes a row that the first lists left. `hasher` is that of its table, of which rows were left.
 fn is_touched<A: Allocator>(
     left: &LeftRows<A>,
+    lists: u32,
     hasher: FoldHasher,
     layout: &StoredLayout<'_>,
     row: &RowChange<'_>,
 ) -> bool
-    ensures { (t : Table) → hasher ≡ table_hasher t → list_any (nat_eq (table_print t)) (left_kept left.now).tables ≡ true
-        → length (filter (takes_left (left_kept left.now)) (image_changes t (stored_columns layout.now) (row_seen row.now).before (row_seen row.now).after)) ≡ (if result then 1 else 0) }
+    ensures { (t : Table) → hasher ≡ table_hasher t → list_any (nat_eq (table_print t)) (left_before left.now lists).tables ≡ true
+        → length (filter (takes_left (left_before left.now lists)) (image_changes t (stored_columns layout.now) (row_seen row.now).before (row_seen row.now).after)) ≡ (if result then 1 else 0) }
 {
     match row.before {
-        Some(image) => left.has(print_of(hasher, layout, image)),
+        Some(image) => left.has(print_of(hasher, layout, image), lists),
         None => false,
     }
 }
 
-/// Counts the rows that a rows event takes, and that were left.
-fn touched_by_event<A: Allocator>(left: &LeftRows<A>, group: &GroupRows<'_>) -> u64
+/// Counts the rows that a rows event takes, and that the first lists left.
+fn touched_by_event<A: Allocator>(left: &LeftRows<A>, lists: u32, group: &GroupRows<'_>) -> u64
     requires { IsByMap group.now }
-    ensures { result ≡ at_most (length (filter (takes_left (left_kept left.now)) (event_changes (event_seen (GroupEvent.Rows group.now))))) }
+    ensures { result ≡ at_most (length (filter (takes_left (left_before left.now lists)) (event_changes (event_seen (GroupEvent.Rows group.now))))) }
 {
     let layout = StoredLayout::new(&group.rows.layout(), group.rows.rows_len());
     let hasher = table_hasher(&group.table);
@@ -67,7 +68,7 @@ fn touched_by_event<A: Allocator>(left: &LeftRows<A>, group: &GroupRows<'_>) -> 
     }
     let mut touched = 0u64;
     for row in group.rows.rows() {
-        if is_touched(left, hasher, &layout, &row) {
+        if is_touched(left, lists, hasher, &layout, &row) {
             touched = touched.saturating_add(1);
         }
     }
@@ -95,15 +96,16 @@ fn keep<'a, A: Allocator>(
 /// Counts the rows that an event of groups takes, and that were left. Keeps it if there are such rows.
 fn touched_by_one<'a, A: Allocator>(
     left: &LeftRows<A>,
+    lists: u32,
     event: &GroupEvent<'a>,
     first: &mut Vec<TouchedRows<'a>, A>,
 ) -> Result<u64, AllocError>
     requires { IsWhole event.now }
-    ensures { IfOk result (λ n. n ≡ at_most (length (filter (takes_left (left_kept left.now)) (event_changes (event_seen event.now))))) }
+    ensures { IfOk result (λ n. n ≡ at_most (length (filter (takes_left (left_before left.now lists)) (event_changes (event_seen event.now))))) }
 {
     match event {
         GroupEvent::Rows(rows) => {
-            let touched = touched_by_event(left, rows);
+            let touched = touched_by_event(left, lists, rows);
             if touched > 0 {
                 keep(first, rows)?;
             }
@@ -116,14 +118,15 @@ fn touched_by_one<'a, A: Allocator>(
 /// Counts the rows that the changes of an index take, and that were left. Keeps the first rows events that do.
 pub(crate) fn touched_by<'a, A: Allocator, B: Allocator>(
     left: &LeftRows<A>,
+    lists: u32,
     index: &Index<'a, '_, B>,
     first: &mut Vec<TouchedRows<'a>, A>,
 ) -> Result<u64, AllocError>
-    ensures { IfOk result (λ n. n ≡ at_most (length (filter (takes_left (left_kept left.now)) (changes (index_bytes index.now) (index_selection index.now))))) }
+    ensures { IfOk result (λ n. n ≡ at_most (length (filter (takes_left (left_before left.now lists)) (changes (index_bytes index.now) (index_selection index.now))))) }
 {
     let mut touched = 0u64;
     for event in index.in_turn(Order::Forward) {
-        let more = touched_by_one(left, &event, first)?;
+        let more = touched_by_one(left, lists, &event, first)?;
         touched = touched.saturating_add(more);
     }
     Ok(touched)

@@ -1,7 +1,7 @@
 -- The events behind a position, and positions at which events end.
 use Rattle.std.proofs.Common.{◌≡◌, ℕ, ◌+◌, ◌≤◌, ◌<◌, Bool, true, false, ◌&&◌, nat_lt, List, [], ◌∷◌, length, drop, Option, Some, None, refl, sym, subst, ap, ◌∙◌, inl, arith}
 use Rattle.std.specs.Prelude.{filter, nat_le}
-use Rattle.std.proofs.lemmas.Bool.{cond-false, cond-true, le-leb, le-ltb, lt-leb, lt-ltb}
+use Rattle.std.proofs.lemmas.Bool.{cond-false, cond-true, le-leb, le-ltb, lt-leb, lt-ltb, ltb-true}
 use Rattle.std.proofs.lemmas.List.{length-drop}
 use Rattle.std.proofs.lemmas.Option.{same_Some}
 use Rattle.blog_event.specs.declared.event.Event as told
@@ -14,7 +14,8 @@ use Rattle.blog_event.proofs.Items.{are-left, events-left-more, events-left-none
 use Rattle.blog_event.proofs.Opened.{LogReads}
 use Rattle.blog_trans.specs.Places.{placed}
 use Rattle.blog_trans.specs.code.WalkView.{Lead, IsReached, IsPassedBy}
-use Rattle.blog_units.specs.Units.{between, units, units_in}
+use Rattle.blog_trans.specs.Selection.{Selection}
+use Rattle.blog_units.specs.Units.{is_behind, units, units_in}
 use Rattle.blog_units.specs.code.Boundaries.{IsBoundary, events_behind}
 
 -- ---- the events behind a position
@@ -156,31 +157,39 @@ no : (b : Bool) → b && false ≡ false
 no true = refl
 no false = refl
 
+-- a selection's tables, from a start to a stop
+abbrev between_of : Selection → ℕ → ℕ → Selection
+between_of sel start stop = record sel { start = start; stop = Some stop }
+
 -- an event that ends there or before is in front of the range
-in-front : (start stop : ℕ) (p : Placed) → p.pos + event_size p.event ≤ start → IsPassedBy (between start stop) p
-in-front start stop p ends = (
+in-front : (sel : Selection) (start stop : ℕ) (p : Placed) → p.pos + event_size p.event ≤ start → IsPassedBy (between_of sel start stop) p
+in-front sel start stop p ends = (
   ap (λ b. nat_lt 4 p.pos && b) (lt-leb start p.pos (omega (arith, ends))) ∙ no (nat_lt 4 p.pos),
   ap (λ b. nat_lt start stop && (nat_lt p.pos start && b)) (le-ltb start (p.pos + event_size p.event) ends)
       ∙ ap (λ b. nat_lt start stop && b) (no (nat_lt p.pos start)) ∙ no (nat_lt start stop),
 )
 
-lead-reached : (bytes : List ℕ) (start stop : ℕ) → start ≤ stop → (at : ℕ) (es : List Event) → LeadTo bytes at start es → Lead bytes (between start stop) at start es
-lead-reached bytes start stop order at [] is = is
-lead-reached bytes start stop order at (e ∷ es) (here, lead) =
+lead-reached : (bytes : List ℕ) (sel : Selection) (start stop : ℕ) → start ≤ stop → (at : ℕ) (es : List Event) → LeadTo bytes at start es → Lead bytes (between_of sel start stop) at start es
+lead-reached bytes sel start stop order at [] is = is
+lead-reached bytes sel start stop order at (e ∷ es) (here, lead) =
     let later = lead-order bytes (at + event_size e) start es lead in (
       lt-ltb at stop (omega (arith, later, order)),
       here,
-      in-front start stop (record { pos = at; event = e }) later,
-      lead-reached bytes start stop order (at + event_size e) es lead,
+      in-front sel start stop (record { pos = at; event = e }) later,
+      lead-reached bytes sel start stop order (at + event_size e) es lead,
     )
 
-pub boundary-reached : (bytes : List ℕ) (start stop : ℕ) → start ≤ stop → opening_fault bytes ≡ None → IsBoundary bytes start → IsReached bytes (between start stop) start
-boundary-reached bytes start stop order opened is =
+pub boundary-reached : (bytes : List ℕ) (sel : Selection) (start stop : ℕ) → start ≤ stop → opening_fault bytes ≡ None → IsBoundary bytes start → IsReached bytes (between_of sel start stop) start
+boundary-reached bytes sel start stop order opened is =
     let leads = boundary-leads bytes start opened is in
     record {
       first = leads.first;
       later = leads.later;
       stands = leads.stands;
-      outside = (in-front start stop (record { pos = 4; event = leads.first }) (lead-order bytes (4 + event_size leads.first) start leads.later leads.lead)).1;
-      lead = lead-reached bytes start stop order (4 + event_size leads.first) leads.later leads.lead;
+      outside = (in-front sel start stop (record { pos = 4; event = leads.first }) (lead-order bytes (4 + event_size leads.first) start leads.later leads.lead)).1;
+      lead = lead-reached bytes sel start stop order (4 + event_size leads.first) leads.later leads.lead;
     }
+
+-- a stop behind a position is greater
+pub stop-behind : (at stop : ℕ) → is_behind (Some stop) at ≡ true → at < stop
+stop-behind at stop behind = ltb-true at stop behind

@@ -1,6 +1,6 @@
 -- The units of a log: what of it is undone, or refused, by itself. A unit is a transaction, or what stands outside of
 -- transactions and may not stand there, with the Gtid event in front of it.
-use Rattle.std.specs.Prelude.{ℕ, ◌+◌, ◌==◌, ◌&&◌, ◌||◌, Bool, true, false, not, nat_le, nat_lt, if◌then◌else◌, List, [], ◌∷◌, length, take, drop, filter, find, Option, Some, None, option_map, bytes_eq, codes, slice_index}
+use Rattle.std.specs.Prelude.{ℕ, ◌+◌, ◌==◌, ◌&&◌, ◌||◌, Bool, true, false, not, nat_le, nat_lt, if◌then◌else◌, List, [], ◌∷◌, length, take, drop, filter, find, min, Option, Some, None, option_map, bytes_eq, codes, slice_index}
 use Rattle.std.specs.Option.{option_map_or}
 use Rattle.byteorder.specs.Endian.{little_number}
 use Rattle.blog_event.specs.Event.{Event, event_size}
@@ -174,3 +174,11 @@ facts_of u = record {
 -- the range from a start to a stop, of all tables
 abbrev pub between : ℕ → ℕ → Selection
 between start stop = record { start = start; stop = Some stop; database = None; table = None }
+
+-- a stop, where there is one, is behind a position
+abbrev pub is_behind : Option ℕ → ℕ → Bool
+is_behind stop at = option_map_or (λ stop. nat_lt at stop) stop true
+
+-- the range of a unit with these facts, up to the stop of a selection, of the selection's tables
+abbrev pub range_of_unit : Selection → Facts → Selection
+range_of_unit sel u = record sel { start = u.start; stop = Some (option_map_or (λ stop. min stop u.stop) sel.stop u.stop) }

@@ -5,7 +5,7 @@ ghost use Rattle.blog_event.specs.Event.{event_of};
 ghost use Rattle.blog_event.specs.code.LogView.{log_bytes};
 ghost use Rattle.blog_units.specs.code.Boundaries.{IsBoundary, events_behind};
 ghost use Rattle.blog_units.specs.Units.{id_of, is_query, is_query_or_rows, is_whole, tag_of, thread_of, units_in};
-ghost use Rattle.blog_units.specs.code.UnitsView.{AreGroups, HasStopped, IsFirst, id_told, none_seen, or_this, seen_with, timestamp_of};
+ghost use Rattle.blog_units.specs.code.UnitsView.{HasStopped, IsFirst, id_told, none_seen, or_this, seen_with, timestamp_of};
 ghost use Rattle.blog_trans.specs.Places.{kind_at, placed};
 
 use crate::part::{Part, is_query, is_query_or_rows, opened_by};
@@ -28,7 +28,33 @@ pub struct GlobalId<'a> {
 }
 
 impl<'a> UnitFacts<'a> {
-    ghost use Rattle.blog_units.specs.code.UnitsView.{IsJudged};
+    ghost use Rattle.std.specs.Prelude.{true};
+    ghost use Rattle.blog_trans.specs.Selection.{selection_of};
+    ghost use Rattle.blog_units.specs.Units.{is_behind, range_of_unit};
+    ghost use Rattle.blog_units.specs.code.UnitsView.{AreGroups, IsJudged, facts_told};
+
+    /// Looks at the changes of the unit to the tables of a selection, up to the selection's stop, which is behind the unit's start. The
+    /// selection's start isn't looked at. Returns the groups, or the fault of that range, or `OutOfMemory` if memory was refused, which
+    /// is taken from `alloc`.
+    pub fn groups_of<'s, A: Allocator + Copy>(
+        &self,
+        alloc: A,
+        sel: &Selection<'s>,
+    ) -> Result<Index<'a, 's, A>, Fault>
+        requires { is_behind sel.now.stop self.now.start ≡ true }
+        ensures { AreGroups (log_bytes self.now.log) (range_of_unit (selection_of sel.now) (facts_told self.now)) result }
+    {
+        let stop = match sel.stop {
+            Some(stop) => stop.min(self.stop),
+            None => self.stop,
+        };
+        let range = Selection {
+            start: self.start,
+            stop: Some(stop),
+            ..*sel
+        };
+        index_from(alloc, &self.log, &range, self.start)
+    }
 
     /// Looks at the changes of the unit. Memory for them is taken from `alloc`.
     pub fn with_groups<A: Allocator + Copy>(self, alloc: A) -> Unit<'a, A>
@@ -37,7 +63,7 @@ impl<'a> UnitFacts<'a> {
     {
         Unit {
             facts: self,
-            groups: groups_between(alloc, &self.log, self.start, self.stop),
+            groups: self.groups_of(alloc, &Selection::all()),
         }
     }
 }
@@ -45,7 +71,7 @@ impl<'a> UnitFacts<'a> {
 /// A unit of a log, with what it changes.
 #[derive(Drop)]
 pub struct Unit<'a, A: Allocator = Global> {
-    /// What is told of it before.
+    /// Where it starts and stops, its time, thread and id.
     pub facts: UnitFacts<'a>,
     /// What it changes: the groups of the range from its start to its stop; or the fault of that range, or `OutOfMemory` where
     /// memory for them was refused.
@@ -188,24 +214,4 @@ pub(crate) fn go_through(
         at += event.header.size;
     }
     (at, seen, None)
-}
-
-/// The groups of the range from a start to a stop, or why it is refused.
-fn groups_between<'a, A: Allocator + Copy>(
-    alloc: A,
-    log: &Log<'a>,
-    start: u32,
-    stop: u32,
-) -> Result<Index<'a, 'static, A>, Fault>
-    requires boundary { IsBoundary (log_bytes log.now) start }
-    requires order { start ≤ stop }
-    ensures { AreGroups (log_bytes log.now) start stop result }
-{
-    let sel = Selection {
-        start,
-        stop: Some(stop),
-        database: None,
-        table: None,
-    };
-    index_from(alloc, log, &sel, start)
 }

@@ -1,4 +1,4 @@
-//! What is told of a unit before its changes are looked at.
+//! What is known of a unit before its changes are looked at.
 
 ghost use Rattle.std.specs.Prelude.{◌≤◌};
 ghost use Rattle.blog_event.specs.code.LogView.{log_bytes};
@@ -7,7 +7,7 @@ ghost use Rattle.blog_units.specs.code.Boundaries.{IsBoundary};
 use crate::unit::GlobalId;
 use blog_event::Log;
 
-/// What is told of a unit of a log, before its changes are looked at. A unit is a transaction, or what stands outside of transactions
+/// What is known of a unit of a log, before its changes are looked at. A unit is a transaction, or what stands outside of transactions
 /// and can't be undone, with the Gtid event in front of it.
 #[derive(Clone, Copy)]
 pub struct UnitFacts<'a> {

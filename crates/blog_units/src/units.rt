@@ -10,7 +10,7 @@ use crate::unit_facts::UnitFacts;
 use blog_event::Log;
 
 /// The units of a log that are left.
-#[derive(Clone, Copy)]
+#[derive(Drop)]
 pub struct Units<'a> {
     log: Log<'a>,
     // An event ends here, and no unit is open.

@@ -5,3 +5,5 @@
 mod since_tests;
 #[cfg(test)]
 mod undo_tests;
+#[cfg(test)]
+mod wanted_tests;

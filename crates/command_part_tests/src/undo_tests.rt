@@ -313,8 +313,8 @@ fn wrong_arguments_of_parts_are_told(rt: HostRuntime) -> Result<(), Fail> {
             "error: the following required arguments were not provided:\n  <LOG>\n",
         ),
         (
-            &["redo", "--utc", "a"],
-            "error: unexpected argument '--utc' found\n",
+            &["redo", "--utc", "--time-zone", "UTC", "a"],
+            "error: the argument '--utc' cannot be used with '--time-zone <NAME>'\n",
         ),
         (
             &["undo", "--utc", "--time-zone", "UTC", "a"],

@@ -401,6 +401,7 @@ fn check_failed_read<'l, R: AllocGlobal + Abort>(
         &mut reader,
         b"",
         &between(4, Some(stop)),
+        None,
         true,
         later,
         0,

@@ -12,4 +12,6 @@ mod report_tests;
 #[cfg(test)]
 mod runs;
 #[cfg(test)]
+mod wanted_tests;
+#[cfg(test)]
 mod zone_tests;

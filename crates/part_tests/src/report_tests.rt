@@ -107,6 +107,7 @@ fn the_name_of_the_log_is_escaped(rt: HostRuntime) -> Result<(), Fail> {
         &mut reader,
         name,
         &part,
+        None,
         false,
         no_logs(rt.alloc()),
         0,

@@ -4,6 +4,7 @@ ghost use Rattle.blog_run.specs.Writing.{HasShortWriting};
 
 use blog_device::Watched;
 use blog_event::Fault;
+use blog_request::Wanted;
 use blog_row::Order;
 use blog_run::{Writing, WritingFault, write_changes};
 use blog_trans::Selection;
@@ -37,6 +38,7 @@ pub(crate) enum Came {
     Done,
     Sums(blog_sum::SumFault),
     NoEventAt(u32),
+    NoUnitWithGtid(usize),
     Log(Fault),
     NothingSelected,
     LaterLog(usize, OpeningFault),
@@ -55,6 +57,7 @@ fn came_of<A: Allocator>(fault: &PartFault<A>) -> Came {
         PartFault::LaterLog(n, fault) => Came::LaterLog(*n, *fault),
         PartFault::ChangedSince(rows, _) => Came::ChangedSince(*rows),
         PartFault::UnknownSince(_) => Came::UnknownSince,
+        PartFault::NoUnitWithGtid(n) => Came::NoUnitWithGtid(*n),
         PartFault::Run(_) | PartFault::TooLong | PartFault::NoSchema(_) => Came::Other,
     }
 }
@@ -126,12 +129,52 @@ pub(crate) fn part_with<R: AllocGlobal>(
     part_in_zone(rt, TimeZone::UTC, log, part, looks, later, writing)
 }
 
+/// The same of wanted units of the part.
+pub(crate) fn units_with<R: AllocGlobal>(
+    rt: &R,
+    log: &[u8],
+    part: &Selection<'_>,
+    wanted: Wanted<'_>,
+    looks: bool,
+    later: &[(&str, &[u8])],
+    writing: &Writing<'_>,
+) -> Result<(Came, Vec<u8>, Vec<u8>), Fail>
+    requires { HasShortWriting writing.now }
+{
+    run(
+        rt,
+        TimeZone::UTC,
+        log,
+        part,
+        Some(wanted),
+        looks,
+        later,
+        writing,
+    )
+}
+
 /// The same with times in a zone.
 pub(crate) fn part_in_zone<R: AllocGlobal>(
     rt: &R,
     zone: TimeZone<'_>,
     log: &[u8],
     part: &Selection<'_>,
+    looks: bool,
+    later: &[(&str, &[u8])],
+    writing: &Writing<'_>,
+) -> Result<(Came, Vec<u8>, Vec<u8>), Fail>
+    requires { HasShortWriting writing.now }
+{
+    run(rt, zone, log, part, None, looks, later, writing)
+}
+
+/// What comes of writing a part of a log, or wanted units of it, what was written, and the report, or the lines that a refusal comes with.
+fn run<R: AllocGlobal>(
+    rt: &R,
+    zone: TimeZone<'_>,
+    log: &[u8],
+    part: &Selection<'_>,
+    wanted: Option<Wanted<'_>>,
     looks: bool,
     later: &[(&str, &[u8])],
     writing: &Writing<'_>,
@@ -146,6 +189,7 @@ pub(crate) fn part_in_zone<R: AllocGlobal>(
         &mut reader,
         name,
         part,
+        wanted,
         looks,
         given(rt.alloc(), later)?,
         0,

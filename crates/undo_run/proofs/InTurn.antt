@@ -1,9 +1,11 @@
 -- Later logs, each of which is looked at in its turn.
-use Rattle.std.proofs.Common.{◌≡◌, ℕ, List, [], ◌∷◌, ◌++◌, length, map, Ok, Err, Option, Some, refl, sym, ap, subst, ◌∙◌, append_assoc, append-nil, inl, inr}
-use Rattle.std.specs.Prelude.{slice_get}
+use Rattle.std.proofs.Common.{◌≡◌, ℕ, List, [], ◌∷◌, ◌++◌, length, map, Ok, Err, Option, Some, refl, sym, ap, subst, ◌∙◌, ◌+◌, arith, append_assoc, append-nil, inl, inr}
+use Rattle.std.specs.Prelude.{filter, slice_get}
 use Rattle.std.proofs.lemmas.List.{map-append}
 use Rattle.blog_choice.specs.Choice.{Choice}
-use Rattle.blog_later.specs.Prints.{Left}
+use Rattle.blog_later.specs.Later.{changes_in, later_units, touches_in}
+use Rattle.blog_later.specs.Prints.{Left, takes_left}
+use Rattle.blog_trans.specs.Changes.{Change}
 use Rattle.list_run.proofs.Going.{read-more}
 use Rattle.list_run.specs.Listed.{AreRead, NamedLog}
 use Rattle.blog_device.specs.Watched.{device_of}
@@ -11,62 +13,72 @@ use Rattle.blog_device.specs.declared.fault.RunFault.TheVariants as run
 use Rattle.blog_source.specs.Found.{found_of}
 use Rattle.blog_source.specs.Handed.{handed_log}
 use Rattle.blog_source.specs.Laws.{whole_reading}
-use Rattle.blog_source.specs.code.SourceView.{end_of, fault_of}
+use Rattle.blog_source.specs.code.SourceView.{end_of, fault_of, log_of}
 use Rattle.blog_source.specs.declared.reading.Reading.{Reading}
 use Rattle.blog_source.specs.declared.source.Source.{Source}
 use Rattle.blog_sum.specs.declared.fault.SumFault.{SumFault}
 use Rattle.list_run.specs.declared.given.GivenLog.{GivenLog}
-use Rattle.undo_run.specs.After.{Later}
-use Rattle.undo_run.specs.Parts.{FailsToOpen, whole_log}
+use Rattle.undo_run.specs.After.{Later, touches}
+use Rattle.undo_run.specs.Taken.{FailsToOpen, whole_log}
+use Rattle.undo_run.proofs.Counted.{touches-more}
 use Rattle.undo_run.specs.code.SinceView.{AreSeen, later_of}
 use Rattle.undo_run.specs.code.Steps.{IsSource, LooksInto, LooksOn, OpensLog}
 use Rattle.undo_run.specs.declared.fault.OpeningFault.{OpeningFault}
 use Rattle.undo_run.specs.declared.fault.OpeningFault.TheVariants as opening
 use Rattle.undo_run.specs.declared.fault.PartFault.{PartFault}
-use Rattle.undo_run.specs.declared.fault.PartFault.TheVariants.{Run, Sums, NoEventAt, Log, NothingSelected, LaterLog, ChangedSince, UnknownSince, TooLong, NoSchema}
+use Rattle.undo_run.specs.declared.fault.PartFault.TheVariants.{Run, Sums, NoEventAt, NoUnitWithGtid, Log, NothingSelected, LaterLog, ChangedSince, UnknownSince, TooLong, NoSchema}
 use Rattle.undo_run.specs.declared.since.Since as told
 
 -- those so far were read, and this was seen of them, after others
-pub record AreGoing {A R : Type 0} (known : R → Option (List ℕ)) (givens : List (GivenLog R)) (kept : Left) (choice : Choice) (ls : List Later) (since : told.Since A) : Type 0 where
+pub record AreGoing {A R : Type 0} (known : R → Option (List ℕ)) (givens : List (GivenLog R)) (kept : Left) (choice : Choice) (m : ℕ) (ls : List Later) (since : told.Since A) : Type 0 where
   pub logs : List NamedLog
   pub read : AreRead known givens logs
-  pub seen : AreSeen kept choice (ls ++ map whole_log logs) since
+  pub seen : AreSeen (m + touches kept (map whole_log logs)) choice (ls ++ map whole_log logs) since
 
-pub none-gone : {A R : Type 0} (known : R → Option (List ℕ)) (kept : Left) (choice : Choice) (ls : List Later) (since : told.Since A) → AreSeen kept choice ls since → AreGoing known [] kept choice ls since
-none-gone known kept choice ls since are = record { logs = []; read = tt; seen = subst (λ (ks : List Later). AreSeen kept choice ks since) (sym (append-nil ls)) are }
+pub none-gone : {A R : Type 0} (known : R → Option (List ℕ)) (kept : Left) (choice : Choice) (m : ℕ) (ls : List Later) (since : told.Since A) → AreSeen m choice ls since → AreGoing known [] kept choice m ls since
+none-gone known kept choice m ls since are =
+    let none : m ≡ m + 0 = omega arith in
+    record { logs = []; read = tt; seen = subst (λ (n : ℕ). AreSeen n choice (ls ++ []) since) none (subst (λ (ks : List Later). AreSeen m choice ks since) (sym (append-nil ls)) are) }
 
-pub goes-on : (A : Type 0) {R : Type 0} (known : R → Option (List ℕ)) (givens : List (GivenLog R)) (given : GivenLog R) (n : ℕ) (kept : Left) (choice : Choice) (ls : List Later) (old new : told.Since A)
-    → (g : AreGoing known givens kept choice ls old) → LooksInto {A = A} known n given kept choice (ls ++ map whole_log g.logs) (Ok new) → AreGoing known (givens ++ given ∷ []) kept choice ls new
-goes-on A known givens given n kept choice ls old new g (log, is, are) = record {
-  logs = g.logs ++ log ∷ [];
-  read = read-more known givens g.logs given log g.read is;
-  seen = subst (λ (ks : List Later). AreSeen kept choice ks new)
-      (append_assoc ls (map whole_log g.logs) (whole_log log ∷ []) ∙ ap (λ (ks : List Later). ls ++ ks) (sym (map-append whole_log g.logs (log ∷ [])))) are;
-}
+pub goes-on : (A : Type 0) {R : Type 0} (known : R → Option (List ℕ)) (givens : List (GivenLog R)) (given : GivenLog R) (n : ℕ) (kept : Left) (choice : Choice) (m : ℕ) (ls : List Later) (old new : told.Since A)
+    → (g : AreGoing known givens kept choice m ls old) → LooksInto {A = A} known n given kept choice (m + touches kept (map whole_log g.logs)) (ls ++ map whole_log g.logs) (Ok new) → AreGoing known (givens ++ given ∷ []) kept choice m ls new
+goes-on A known givens given n kept choice m ls old new g (log, is, are) =
+    let all = map-append whole_log g.logs (log ∷ []) in
+    let more = touches-more kept (map whole_log g.logs) (whole_log log ∷ []) in
+    let joined = ap (touches kept) all in
+    let sum : (m + touches kept (map whole_log g.logs)) + touches kept (whole_log log ∷ []) ≡ m + touches kept (map whole_log (g.logs ++ log ∷ [])) = omega (arith, more, joined) in
+    record {
+      logs = g.logs ++ log ∷ [];
+      read = read-more known givens g.logs given log g.read is;
+      seen = subst (λ (k : ℕ). AreSeen k choice (ls ++ map whole_log (g.logs ++ log ∷ [])) new) sum
+          (subst (λ (ks : List Later). AreSeen ((m + touches kept (map whole_log g.logs)) + touches kept (whole_log log ∷ [])) choice ks new)
+          (append_assoc ls (map whole_log g.logs) (whole_log log ∷ []) ∙ ap (λ (ks : List Later). ls ++ ks) (sym all)) are);
+    }
 
-pub all-gone : (A : Type 0) {R : Type 0} (known : R → Option (List ℕ)) (givens all : List (GivenLog R)) (kept : Left) (choice : Choice) (ls : List Later) (since : told.Since A) → givens ≡ all
-    → AreGoing known givens kept choice ls since → LooksOn {A = A} known all kept choice ls (Ok since)
-all-gone A known givens all kept choice ls since is g = (g.logs, subst (λ (gs : List (GivenLog _)). AreRead known gs g.logs) is g.read, g.seen)
+pub all-gone : (A : Type 0) {R : Type 0} (known : R → Option (List ℕ)) (givens all : List (GivenLog R)) (kept : Left) (choice : Choice) (m : ℕ) (ls : List Later) (since : told.Since A) → givens ≡ all
+    → AreGoing known givens kept choice m ls since → LooksOn {A = A} known all kept choice m ls (Ok since)
+all-gone A known givens all kept choice m ls since is g = (g.logs, subst (λ (gs : List (GivenLog _)). AreRead known gs g.logs) is g.read, g.seen)
 
 given-at : {X : Type 0} (xs ys : List X) (x : X) → slice_get (xs ++ x ∷ ys) (length xs) ≡ Some x
 given-at [] ys x = refl
 given-at (z ∷ xs) ys x = given-at xs ys x
 
-pub stops : {A R : Type 0} (known : R → Option (List ℕ)) (givens rest all : List (GivenLog R)) (given : GivenLog R) (n : ℕ) (kept : Left) (choice : Choice) (ls ks : List Later) (cause : PartFault A)
-    → givens ++ given ∷ rest ≡ all → n ≡ length givens → LooksInto known n given kept choice ks (Err cause) → LooksOn known all kept choice ls (Err cause)
-stops known givens rest all given n kept choice ls ks (LaterLog m f) split number (same, fails) =
+pub stops : {A R : Type 0} (known : R → Option (List ℕ)) (givens rest all : List (GivenLog R)) (given : GivenLog R) (n : ℕ) (kept : Left) (choice : Choice) (m k : ℕ) (ls ks : List Later) (cause : PartFault A)
+    → givens ++ given ∷ rest ≡ all → n ≡ length givens → LooksInto known n given kept choice k ks (Err cause) → LooksOn known all kept choice m ls (Err cause)
+stops known givens rest all given n kept choice m k ls ks (LaterLog l f) split number (same, fails) =
     (given, ap (slice_get all) (same ∙ number) ∙ ap (λ (gs : List (GivenLog _)). slice_get gs (length givens)) (sym split) ∙ given-at givens rest given, fails)
-stops known givens rest all given n kept choice ls ks (Run (run.Log f)) split number is = is
-stops known givens rest all given n kept choice ls ks (Run run.Read) split number is = absurd is
-stops known givens rest all given n kept choice ls ks (Run run.Write) split number is = absurd is
-stops known givens rest all given n kept choice ls ks (Sums f) split number is = absurd is
-stops known givens rest all given n kept choice ls ks (NoEventAt pos) split number is = absurd is
-stops known givens rest all given n kept choice ls ks (Log f) split number is = absurd is
-stops known givens rest all given n kept choice ls ks NothingSelected split number is = absurd is
-stops known givens rest all given n kept choice ls ks (ChangedSince rows lines) split number is = absurd is
-stops known givens rest all given n kept choice ls ks (UnknownSince lines) split number is = absurd is
-stops known givens rest all given n kept choice ls ks TooLong split number is = absurd is
-stops known givens rest all given n kept choice ls ks (NoSchema text) split number is = absurd is
+stops known givens rest all given n kept choice m k ls ks (Run (run.Log f)) split number is = is
+stops known givens rest all given n kept choice m k ls ks (Run run.Read) split number is = absurd is
+stops known givens rest all given n kept choice m k ls ks (Run run.Write) split number is = absurd is
+stops known givens rest all given n kept choice m k ls ks (Sums f) split number is = absurd is
+stops known givens rest all given n kept choice m k ls ks (NoEventAt pos) split number is = absurd is
+stops known givens rest all given n kept choice m k ls ks (NoUnitWithGtid gtid) split number is = absurd is
+stops known givens rest all given n kept choice m k ls ks (Log f) split number is = absurd is
+stops known givens rest all given n kept choice m k ls ks NothingSelected split number is = absurd is
+stops known givens rest all given n kept choice m k ls ks (ChangedSince rows lines) split number is = absurd is
+stops known givens rest all given n kept choice m k ls ks (UnknownSince lines) split number is = absurd is
+stops known givens rest all given n kept choice m k ls ks TooLong split number is = absurd is
+stops known givens rest all given n kept choice m k ls ks (NoSchema text) split number is = absurd is
 
 -- ---- one more log
 
@@ -80,15 +92,23 @@ not-opened A known given how left (opening.Run (run.Log f)) (inr (is, long)) = i
 not-opened A known given how left (opening.Sums f) (bytes, reads, refused) = (bytes, (left, reads), refused)
 
 -- of one that is opened all is looked at
-later-whole : {A : Type 0} (name bytes : List ℕ) (source : Source A) → IsSource whole_reading bytes source → later_of name source 0 ≡ whole_log (record { name = name; bytes = bytes })
+later-whole : {A : Type 0} (name bytes : List ℕ) (source : Source A) → IsSource whole_reading bytes source → later_of name source (later_units (log_of source) 0) ≡ whole_log (record { name = name; bytes = bytes })
 later-whole name bytes source is =
-    ap (λ (handed : List ℕ). record { name = name; handed = handed; at = 0; end = end_of source; fault = fault_of source }) is.log
-    ∙ ap (λ (end : ℕ). record { name = name; handed = handed_log whole_reading bytes; at = 0; end = end; fault = fault_of source }) is.end
-    ∙ ap (λ (fault : Option SumFault). record { name = name; handed = handed_log whole_reading bytes; at = 0; end = (found_of whole_reading bytes).end; fault = fault }) is.fault
+    ap (λ (handed : List ℕ). record { name = name; handed = handed; units = later_units handed 0; end = end_of source; fault = fault_of source }) is.log
+    ∙ ap (λ (end : ℕ). record { name = name; handed = handed_log whole_reading bytes; units = later_units (handed_log whole_reading bytes) 0; end = end; fault = fault_of source }) is.end
+    ∙ ap (λ (fault : Option SumFault). record { name = name; handed = handed_log whole_reading bytes; units = later_units (handed_log whole_reading bytes) 0; end = (found_of whole_reading bytes).end; fault = fault }) is.fault
 
-pub one-looked : (A : Type 0) {R S : Type 0} (known : R → Option (List ℕ)) (n : ℕ) (given : GivenLog R) (kept : Left) (choice : Choice) (ls : List Later) (left : Option (List ℕ)) (source : Source S) (since : told.Since A)
-    → OpensLog whole_reading (known (device_of given.reader)) left (Ok source) → AreSeen kept choice (ls ++ later_of given.name.now source 0 ∷ []) since
-    → LooksInto {A = A} known n given kept choice ls (Ok since)
-one-looked A known n given kept choice ls left source since (bytes, reads, is) are =
+pub one-looked : (A : Type 0) {R S : Type 0} (known : R → Option (List ℕ)) (n : ℕ) (given : GivenLog R) (kept : Left) (choice : Choice) (m : ℕ) (ls : List Later) (left : Option (List ℕ)) (source : Source S) (since : told.Since A)
+    → OpensLog whole_reading (known (device_of given.reader)) left (Ok source)
+    → AreSeen (m + touches_in kept (log_of source) (later_units (log_of source) 0)) choice (ls ++ later_of given.name.now source (later_units (log_of source) 0) ∷ []) since
+    → LooksInto {A = A} known n given kept choice m ls (Ok since)
+one-looked A known n given kept choice m ls left source since (bytes, reads, is) are =
     let log : NamedLog = record { name = given.name.now; bytes = bytes } in
-    (log, (refl, (left, reads)), subst (λ (l : Later). AreSeen kept choice (ls ++ l ∷ []) since) (later-whole given.name.now bytes source is) are)
+    let same = later-whole given.name.now bytes source is in
+    let alone : touches_in kept (log_of source) (later_units (log_of source) 0) ≡ touches kept (later_of given.name.now source (later_units (log_of source) 0) ∷ []) =
+    ap (λ (cs : List Change). length (filter (takes_left kept) cs)) (sym (append-nil (changes_in (log_of source) (later_units (log_of source) 0)))) in (
+      log,
+      (refl, (left, reads)),
+      subst (λ (l : Later). AreSeen (m + touches kept (l ∷ [])) choice (ls ++ l ∷ []) since) same
+          (subst (λ (k : ℕ). AreSeen (m + k) choice (ls ++ later_of given.name.now source (later_units (log_of source) 0) ∷ []) since) alone are),
+    )

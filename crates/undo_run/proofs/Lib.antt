@@ -1,5 +1,8 @@
+mod Asked
+mod Counted
 mod InTurn
 mod Judged
+mod Kept
 mod LastEvent
 mod LookedAt
 mod Names

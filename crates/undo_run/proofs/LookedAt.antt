@@ -8,17 +8,12 @@ use Rattle.std.proofs.lemmas.Grind.{flat_map-append}
 use Rattle.std.proofs.lemmas.List.{length-map}
 use Rattle.std.proofs.lemmas.List.Folds.{list_any-append}
 use Rattle.blog_choice.specs.Choice.{Choice}
-use Rattle.blog_later.proofs.Counting.{at-more, count-append}
-use Rattle.blog_later.proofs.Untouched.{as-many-taken, prints-of-left-suffice}
-use Rattle.blog_later.specs.Laws.{and_later}
-use Rattle.blog_later.specs.Later.{changes_in, is_accepted, is_apart, may_concern, touches_in}
-use Rattle.blog_later.specs.Prints.{AreKept, Left, left_of, takes_left}
+use Rattle.blog_later.proofs.Counting.{at-more}
+use Rattle.blog_later.specs.Later.{is_accepted, is_apart, may_concern}
 use Rattle.blog_later.specs.code.Counted.{at_most, starts}
 use Rattle.blog_later.specs.declared.looked.Looked.{Looked}
-use Rattle.blog_trans.specs.Changes.{Change}
-use Rattle.blog_undo.proofs.TakingBack.{takes-back}
 use Rattle.blog_units.specs.Units.{Facts}
-use Rattle.undo_run.specs.After.{AreChanged, AreSafe, Later, MayBeChanged, Place, is_damaged, last_end, last_next, later_changes, next_log, place_at, places_apart, touches, units_of, unknown_units}
+use Rattle.undo_run.specs.After.{Later, Place, is_damaged, last_end, last_next, next_log, place_at, places_apart, unknown_units}
 use Rattle.undo_run.specs.code.SinceView.{AreSeen, IsLooked, place_seen}
 use Rattle.undo_run.specs.declared.since.Since as told
 
@@ -31,13 +26,6 @@ more-counted : {A B : Type 0} (f : A → List B) (xs : List A) (x : A) (n m : �
     → min (n + m) (2 ^ 64 - 1) ≡ at_most (length (flat_map f (xs ++ x ∷ [])))
 more-counted f xs x n m is more =
     at-more n m (length (flat_map f xs)) (length (f x)) is more ∙ ap at_most (sym (ap length (one-more f xs x) ∙ length-append (flat_map f xs) (f x)))
-
-more-touched : (kept : Left) (ls : List Later) (l : Later) (n m : ℕ) → n ≡ at_most (touches kept ls) → m ≡ at_most (touches_in kept l.handed (units_of l))
-    → min (n + m) (2 ^ 64 - 1) ≡ at_most (touches kept (ls ++ l ∷ []))
-more-touched kept ls l n m is more =
-    let cs = changes_in l.handed (units_of l) in
-    at-more n m (touches kept ls) (length (filter (takes_left kept) cs)) is more
-    ∙ ap at_most (sym (ap (λ (all : List Change). length (filter (takes_left kept) all)) (one-more (λ (k : Later). changes_in k.handed (units_of k)) ls l) ∙ count-append (takes_left kept) (later_changes ls) cs))
 
 -- a length that a number of 64 bits has
 pub counted-starts : (us : List Facts) (ns : List ℕ) (n : ℕ) → ns ≡ starts us → n ≡ length ns → n ≤ 2 ^ 64 - 1 → n ≡ at_most (length us)
@@ -57,22 +45,22 @@ next-more next (k ∷ ls) l = next-more (next_log k.handed) ls l
 more-damaged : (ls : List Later) (l : Later) → is_damaged (ls ++ l ∷ []) ≡ (is_damaged ls || is_some l.fault)
 more-damaged ls l = list_any-append (λ k. is_some k.fault) ls (l ∷ []) ∙ ap (λ b. is_damaged ls || b) (or-false (is_some l.fault))
 
-pub with-more : {A B : Type 0} (kept : Left) (choice : Choice) (ls : List Later) (l : Later) (looked : Looked A) (old new : told.Since B) (unknown apart : ℕ)
-    → IsLooked kept choice l looked → AreSeen kept choice ls old
+pub with-more : {A B : Type 0} (n m : ℕ) (choice : Choice) (ls : List Later) (l : Later) (looked : Looked A) (old new : told.Since B) (unknown apart : ℕ)
+    → IsLooked m choice l looked → AreSeen n choice ls old
     → unknown ≡ length looked.unknown.items → unknown ≤ 2 ^ 64 - 1 → apart ≡ length looked.apart.items → apart ≤ 2 ^ 64 - 1
     → new.units ≡ min (old.units + looked.units) (2 ^ 64 - 1) → new.touched ≡ min (old.touched + looked.touched) (2 ^ 64 - 1)
     → new.unknown ≡ min (old.unknown + unknown) (2 ^ 64 - 1) → new.apart ≡ min (old.apart + apart) (2 ^ 64 - 1)
     → ((ps : List Place) → option_map place_seen old.first ≡ slice_get ps 0 → option_map place_seen new.first ≡ slice_get (ps ++ map (place_at l.name l.handed l.end) looked.apart.items) 0)
     → option_map place_seen new.end ≡ Some (record { name = l.name; at = l.end }) → new.next.items ≡ next_log l.handed → new.is_damaged ≡ (old.is_damaged || is_some l.fault)
-    → AreSeen kept choice (ls ++ l ∷ []) new
-with-more kept choice ls l looked old new unknown apart is are unknown-len unknown-small apart-len apart-small units-are touched-are unknown-are apart-are first-is end-is next-is damaged-is =
-    let apart-of : Later → List Place = λ k. map (place_at k.name k.handed k.end) (starts (filter (is_apart choice k.handed) (units_of k))) in record {
-      units = units-are ∙ more-counted (λ k. filter (is_accepted k.handed) (units_of k)) ls l old.units looked.units are.units is.units;
-      touched = touched-are ∙ more-touched kept ls l old.touched looked.touched are.touched is.touched;
-      unknown = unknown-are ∙ more-counted (λ k. filter (may_concern choice k.handed) (units_of k)) ls l old.unknown unknown are.unknown
-          (counted-starts (filter (may_concern choice l.handed) (units_of l)) looked.unknown.items unknown is.unknown unknown-len unknown-small);
+    → AreSeen (n + m) choice (ls ++ l ∷ []) new
+with-more n m choice ls l looked old new unknown apart is are unknown-len unknown-small apart-len apart-small units-are touched-are unknown-are apart-are first-is end-is next-is damaged-is =
+    let apart-of : Later → List Place = λ k. map (place_at k.name k.handed k.end) (starts (filter (is_apart choice k.handed) k.units)) in record {
+      units = units-are ∙ more-counted (λ k. filter (is_accepted k.handed) k.units) ls l old.units looked.units are.units is.units;
+      touched = touched-are ∙ at-more old.touched looked.touched n m are.touched is.touched;
+      unknown = unknown-are ∙ more-counted (λ k. filter (may_concern choice k.handed) k.units) ls l old.unknown unknown are.unknown
+          (counted-starts (filter (may_concern choice l.handed) l.units) looked.unknown.items unknown is.unknown unknown-len unknown-small);
       apart = apart-are ∙ more-counted apart-of ls l old.apart apart are.apart
-          (counted-places (place_at l.name l.handed l.end) (filter (is_apart choice l.handed) (units_of l)) looked.apart.items apart is.apart apart-len apart-small);
+          (counted-places (place_at l.name l.handed l.end) (filter (is_apart choice l.handed) l.units) looked.apart.items apart is.apart apart-len apart-small);
       first = first-is (places_apart choice ls) are.first
           ∙ ap (λ (ats : List ℕ). slice_get (places_apart choice ls ++ map (place_at l.name l.handed l.end) ats) 0) is.apart
           ∙ ap (λ (ps : List Place). slice_get ps 0) (sym (one-more apart-of ls l));
@@ -105,30 +93,15 @@ none-left : {A : Type 0} (xs : List A) → length xs ≡ 0 → xs ≡ []
 none-left [] e = refl
 none-left (x ∷ xs) e = absurd (omega (arith, e))
 
-touches-left : (selected : List Change) (kept : Left) (ls : List Later) → AreKept (left_of selected) kept → touches kept ls ≡ touches (left_of selected) ls
-touches-left selected kept ls same = as-many-taken kept (left_of selected) same (later_changes ls)
+pub changed-since : {A : Type 0} (m : ℕ) (choice : Choice) (ls : List Later) (since : told.Since A) → AreSeen m choice ls since → 0 < since.touched → (since.touched ≡ at_most m) × (0 < m)
+changed-since m choice ls since are some = (are.touched, some-more since.touched m are.touched some)
 
-pub changed-since : {A : Type 0} (selected : List Change) (kept : Left) (choice : Choice) (ls : List Later) (since : told.Since A) → AreKept (left_of selected) kept → AreSeen kept choice ls since
-    → 0 < since.touched → AreChanged selected ls since.touched
-changed-since selected kept choice ls since same are some =
-    let touched = are.touched ∙ ap at_most (touches-left selected kept ls same) in (touched, some-more since.touched (touches (left_of selected) ls) touched some)
+pub unknown-since : {A : Type 0} (m : ℕ) (choice : Choice) (ls : List Later) (since : told.Since A) → AreSeen m choice ls since → since.touched ≡ 0 → (0 < since.unknown) ⊎ (since.is_damaged ≡ true)
+    → (m ≡ 0) × ((0 < length (unknown_units choice ls)) ⊎ (is_damaged ls ≡ true))
+unknown-since m choice ls since are none (inl some) = (none-more since.touched m are.touched none, inl (some-more since.unknown (length (unknown_units choice ls)) are.unknown some))
+unknown-since m choice ls since are none (inr damaged) = (none-more since.touched m are.touched none, inr (sym are.damaged ∙ damaged))
 
-pub unknown-since : {A : Type 0} (selected : List Change) (kept : Left) (choice : Choice) (ls : List Later) (since : told.Since A) → AreKept (left_of selected) kept → AreSeen kept choice ls since
-    → since.touched ≡ 0 → (0 < since.unknown) ⊎ (since.is_damaged ≡ true) → MayBeChanged selected choice ls
-unknown-since selected kept choice ls since same are none (inl some) =
-    let touched = are.touched ∙ ap at_most (touches-left selected kept ls same) in
-    (none-more since.touched (touches (left_of selected) ls) touched none, inl (some-more since.unknown (length (unknown_units choice ls)) are.unknown some))
-unknown-since selected kept choice ls since same are none (inr damaged) =
-    let touched = are.touched ∙ ap at_most (touches-left selected kept ls same) in
-    (none-more since.touched (touches (left_of selected) ls) touched none, inr (sym are.damaged ∙ damaged))
-
-pub safe-since : {A : Type 0} (selected : List Change) (kept : Left) (choice : Choice) (ls : List Later) (since : told.Since A) → AreKept (left_of selected) kept → AreSeen kept choice ls since
-    → since.touched ≡ 0 → since.unknown ≡ 0 → since.is_damaged ≡ false → AreSafe selected choice ls
-safe-since selected kept choice ls since same are none known whole =
-    let touched = are.touched ∙ ap at_most (touches-left selected kept ls same) in
-    let untouched = prints-of-left-suffice selected (later_changes ls) (none-more since.touched (touches (left_of selected) ls) touched none) in record {
-      untouched = untouched;
-      taken_back = λ before after applied. takes-back (and_later selected (later_changes ls)) before after untouched applied;
-      known = none-left (unknown_units choice ls) (none-more since.unknown (length (unknown_units choice ls)) are.unknown known);
-      whole = sym are.damaged ∙ whole;
-    }
+pub clear-since : {A : Type 0} (m : ℕ) (choice : Choice) (ls : List Later) (since : told.Since A) → AreSeen m choice ls since → since.touched ≡ 0 → since.unknown ≡ 0 → since.is_damaged ≡ false
+    → (m ≡ 0) × (unknown_units choice ls ≡ []) × (is_damaged ls ≡ false)
+clear-since m choice ls since are none known whole =
+    (none-more since.touched m are.touched none, none-left (unknown_units choice ls) (none-more since.unknown (length (unknown_units choice ls)) are.unknown known), sym are.damaged ∙ whole)

@@ -7,7 +7,7 @@ use Rattle.std.proofs.lemmas.List.Elements.{filter-append}
 use Rattle.blog_choice.specs.Choice.{Name}
 use Rattle.blog_text.specs.Tables.{rows_in}
 use Rattle.blog_trans.specs.Changes.{TableCount}
-use Rattle.undo_run.specs.Parts.{names_of}
+use Rattle.undo_run.specs.Taken.{names_of}
 
 names-append : (cs ds : List TableCount) → names_of (cs ++ ds) ≡ names_of cs ++ names_of ds
 names-append cs ds = ap (map name_of) (filter-append (λ c. nat_lt 0 (rows_in c)) cs ds) ∙ map-append name_of (filter (λ c. nat_lt 0 (rows_in c)) cs) (filter (λ c. nat_lt 0 (rows_in c)) ds)

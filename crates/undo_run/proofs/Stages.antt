@@ -1,119 +1,263 @@
--- What comes of a part of a log, by what comes of each step.
-use Rattle.std.proofs.Common.{◌≡◌, ℕ, Bool, true, false, List, [], ◌∷◌, length, map, Option, Some, None, Result, Ok, Err, refl, sym, ap, subst, ◌∙◌, inl, inr}
+-- What comes of writing what is taken out of a log, by what comes of each step.
+use Rattle.std.proofs.Common.{◌≡◌, ◌⊎◌, ℕ, Bool, true, false, List, [], length, Option, Some, None, Result, Ok, Err, refl, sym, ap, subst, ◌∙◌, inl, inr}
 use Rattle.std.specs.Prelude.{Vec, option_map}
-use Rattle.std.specs.Io.KnownBytes.{Appends, Keeps}
+use Rattle.std.specs.Io.KnownBytes.{Keeps}
 use Rattle.std.proofs.lemmas.Bool.{false≢true}
 use Rattle.std.proofs.lemmas.List.{length-map}
 use Rattle.blog_device.specs.Devices.{ReadsLog}
 use Rattle.blog_device.specs.declared.fault.RunFault.TheVariants as run
-use Rattle.list_run.specs.declared.given.GivenLog.{GivenLog}
+use Rattle.blog_event.specs.declared.fault.Fault.TheVariants.{OutOfMemory}
+use Rattle.blog_request.specs.declared.wanted.Wanted.{Wanted}
+use Rattle.blog_run.specs.declared.writing.Writing.{Writing}
+use Rattle.blog_source.specs.Found.{found_of, source_refusal}
+use Rattle.blog_source.specs.Handed.{handed_log}
 use Rattle.blog_source.specs.code.SourceView.{end_of, fault_of, log_of}
+use Rattle.blog_source.specs.declared.reading.Reading.{Reading}
 use Rattle.blog_source.specs.declared.source.Source.{Source}
 use Rattle.blog_sum.specs.declared.fault.SumFault.{SumFault}
-use Rattle.blog_trans.specs.Changes.{counts_of}
 use Rattle.blog_trans.specs.Groups.{groups, placed_groups, transaction_value}
 use Rattle.blog_trans.specs.Selection.{Selection}
-use Rattle.blog_run.specs.Writing.{CanBeWritten, text_of}
-use Rattle.blog_run.specs.declared.writing.Writing.{Writing}
-use Rattle.undo_run.specs.After.{Later}
-use Rattle.undo_run.specs.Parts.{IsOpened, IsSafe, IsSound, WritesPart, counts_in_part, damage_before, found_in, handed_of, reading_of, rest_of, selection_in, since_told, whole_log}
+use Rattle.list_run.specs.declared.given.GivenLog.{GivenLog}
+use Rattle.undo_run.specs.Parts.{Refuses as RefusesAll, RefusesStart, damage_before, has_start, reading_of, selection_in}
 use Rattle.undo_run.specs.Reports.{Since, report}
+use Rattle.undo_run.specs.Taken.{IsSafeIf, OfLater, Taken, WritesTaken, counts_taken, since_told}
+use Rattle.undo_run.specs.Units.{IsMissing, RefusesChosen, RefusesUnits, ids_asked, wanted_in}
+use Rattle.undo_run.specs.Writes.{WritesHanded, WritesPart, WritesRead, is_failed_write}
+use Rattle.undo_run.proofs.Asked.{missing-not-found}
 use Rattle.undo_run.specs.code.SinceView.{since_seen}
-use Rattle.undo_run.specs.code.Steps.{IsFree, IsSource, Looks, OfLater, WritesOpened}
+use Rattle.undo_run.specs.code.Steps.{Chooses, IsNoUnit, IsSource, Looks, OpensLog, WritesIndex, opening_cause}
+use Rattle.undo_run.specs.declared.fault.OpeningFault.{OpeningFault}
+use Rattle.undo_run.specs.declared.fault.OpeningFault.TheVariants as opening
 use Rattle.undo_run.specs.declared.fault.PartFault.{PartFault}
-use Rattle.undo_run.specs.declared.fault.PartFault.TheVariants.{Run, Sums, NoEventAt, Log, NothingSelected, LaterLog, ChangedSince, UnknownSince, TooLong, NoSchema}
+use Rattle.undo_run.specs.declared.fault.PartFault.TheVariants.{Run, Sums, NoEventAt, NoUnitWithGtid, Log, NothingSelected, LaterLog, ChangedSince, UnknownSince, TooLong, NoSchema}
 use Rattle.undo_run.specs.declared.since.Since as told
 
--- ---- of a log that is opened
+-- ---- what is taken
 
-how-many : (bytes : List ℕ) (sel : Selection) → length (groups bytes sel) ≡ length (placed_groups bytes sel)
+pub how-many : (bytes : List ℕ) (sel : Selection) → length (groups bytes sel) ≡ length (placed_groups bytes sel)
 unfolding groups
 how-many bytes sel = length-map (placed_groups bytes sel) transaction_value
 
--- what holds of groups holds of the part
-pub moved : (P : List ℕ → Selection → Type 0) (part : Selection) (handed bytes : List ℕ) (sel : Selection) → bytes ≡ handed → sel ≡ selection_in part handed → P bytes sel → P handed (selection_in part handed)
-moved P part handed bytes sel same chosen here = subst (λ (b : List ℕ). P b (selection_in part handed)) same (subst (λ (s : Selection). P bytes s) chosen here)
+-- what was seen, where it was asked for, is what is told, and touches nothing
+abbrev IsFree : {R : Type 0} → Bool → (R → Option (List ℕ)) → List (GivenLog R) → Taken → Option Since → Type 0
+IsFree looks known givens t since = OfLater looks known givens (λ logs. IsSafeIf looks t logs × (since ≡ since_told looks t logs))
 
--- what was seen where it was asked for is what is told, and touches nothing
-pub are-free : (A : Type 0) {R : Type 0} (looks : Bool) (known : R → Option (List ℕ)) (givens : List (GivenLog R)) (name : List ℕ) (part : Selection) (handed : List ℕ) (end : ℕ) (fault : Option SumFault) (since : Option (told.Since A))
-    → Looks {A = A} looks known givens name part handed end fault (Ok since)
-    → OfLater looks known givens name part handed end fault (λ ls. (looks ≡ true → IsSafe part handed ls) × (option_map since_seen since ≡ since_told looks part handed ls))
-are-free A true known givens name part handed end fault (Some since) (logs, read, (safe, told)) = (logs, read, ((λ asked. safe), told))
-are-free A true known givens name part handed end fault None is = absurd is
-are-free A false known givens name part handed end fault since is = ([], refl, ((λ asked. absurd (false≢true asked)), ap (option_map (since_seen {A = A})) is))
+pub are-free : (A : Type 0) {R : Type 0} (looks : Bool) (known : R → Option (List ℕ)) (givens : List (GivenLog R)) (t : Taken) (since : Option (told.Since A))
+    → Looks {A = A} looks known givens t (Ok since) → IsFree looks known givens t (option_map since_seen since)
+are-free A true known givens t (Some since) (logs, read, (safe, told)) = (logs, read, ((λ asked. safe), told))
+are-free A true known givens t None is = absurd is
+are-free A false known givens t since is = ([], refl, ((λ asked. absurd (false≢true asked)), ap (option_map (since_seen {A = A})) is))
 
--- what is written of groups, and what is reported of them
-abbrev IsWritten : Writing → List ℕ → Option Since → Option (List ℕ) → Option (List ℕ) → List ℕ → List ℕ → Selection → Type 0
-IsWritten w name since had has told bytes sel = CanBeWritten w.sql w.order w.limit bytes sel × Appends had has (text_of w.sql w.order w.limit bytes sel)
-    × (told ≡ report w.order name (length (groups bytes sel)) (counts_of (groups bytes sel)) since)
+-- it is written by the groups of a log
+by-groups : {A R : Type 0} (looks : Bool) (known : R → Option (List ℕ)) (givens : List (GivenLog R)) (w : Writing) (name : List ℕ) (t : Taken) (Sound : Type 0) (Refuses : PartFault A → Type 0) (had has : Option (List ℕ)) (since : Option Since)
+    (r : Result (Vec ℕ A) (PartFault A)) → Sound → IsFree looks known givens t since → WritesIndex w name since t.log t.sel had has r → WritesTaken looks known givens w name t Sound Refuses had has r
+by-groups looks known givens w name t Sound Refuses had has since (Ok told) sound (logs, read, (safe, seen)) (can, text, is) =
+    (sound, (logs, read, ((safe, can), text, is ∙ ap (λ (s : Option Since). report w.order name (length (groups t.log t.sel)) (counts_taken t) s) seen)))
+by-groups looks known givens w name t Sound Refuses had has since (Err (Run run.Write)) sound (logs, read, (safe, seen)) (can, text) = (sound, (logs, read, ((safe, can), text)))
+by-groups looks known givens w name t Sound Refuses had has since (Err (Run run.Read)) sound free none = absurd none
+by-groups looks known givens w name t Sound Refuses had has since (Err (Run (run.Log f))) sound free is = is
+by-groups looks known givens w name t Sound Refuses had has since (Err TooLong) sound (logs, read, (safe, seen)) (long, keeps) = (inl (sound, (logs, read, (safe, long))), keeps)
+by-groups looks known givens w name t Sound Refuses had has since (Err (NoSchema text)) sound (logs, read, (safe, seen)) (lacks, keeps) = ((sound, (logs, read, (safe, lacks))), keeps)
+by-groups looks known givens w name t Sound Refuses had has since (Err (LaterLog n f)) sound free none = absurd none
+by-groups looks known givens w name t Sound Refuses had has since (Err (ChangedSince rows lines)) sound free none = absurd none
+by-groups looks known givens w name t Sound Refuses had has since (Err (UnknownSince lines)) sound free none = absurd none
+by-groups looks known givens w name t Sound Refuses had has since (Err (NoEventAt pos)) sound free none = absurd none
+by-groups looks known givens w name t Sound Refuses had has since (Err (NoUnitWithGtid gtid)) sound free none = absurd none
+by-groups looks known givens w name t Sound Refuses had has since (Err (Sums f)) sound free none = absurd none
+by-groups looks known givens w name t Sound Refuses had has since (Err (Log f)) sound free none = absurd none
+by-groups looks known givens w name t Sound Refuses had has since (Err NothingSelected) sound free none = absurd none
 
-pub all-written : {R : Type 0} (looks : Bool) (known : R → Option (List ℕ)) (givens : List (GivenLog R)) (w : Writing) (name : List ℕ) (part : Selection) (handed : List ℕ) (end : ℕ) (fault : Option SumFault) (since : Option Since)
-    (bytes : List ℕ) (sel : Selection) (had has : Option (List ℕ)) (told : List ℕ)
-    → bytes ≡ handed → sel ≡ selection_in part handed → IsSound part handed end (damage_before looks part end fault)
-    → OfLater looks known givens name part handed end fault (λ ls. (looks ≡ true → IsSafe part handed ls) × (since ≡ since_told looks part handed ls))
-    → CanBeWritten w.sql w.order w.limit bytes sel × Appends had has (text_of w.sql w.order w.limit bytes sel)
-    → told ≡ report w.order name (length (placed_groups bytes sel)) (counts_of (groups bytes sel)) since
-    → OfLater looks known givens name part handed end fault (λ ls. IsFree looks part handed end fault ls
-    × CanBeWritten w.sql w.order w.limit handed (selection_in part handed) × Appends had has (text_of w.sql w.order w.limit handed (selection_in part handed))
-    × (told ≡ report w.order name (length (groups handed (selection_in part handed))) (counts_in_part part handed) (since_told looks part handed ls)))
-all-written looks known givens w name part handed end fault since bytes sel had has told same chosen sound (logs, read, (safe, seen)) (can, text) is =
-    let ls : List Later = rest_of name part handed end fault ∷ map whole_log logs in
-    let counted = ap (λ (n : ℕ). report w.order name n (counts_of (groups bytes sel)) since) (sym (how-many bytes sel)) in
-    let later = ap (report w.order name (length (groups bytes sel)) (counts_of (groups bytes sel))) seen in
-    let here : IsWritten w name (since_told looks part handed ls) had has told bytes sel = (can, text, is ∙ counted ∙ later) in
-    let (can-there, text-there, is-there) = moved (IsWritten w name (since_told looks part handed ls) had has told) part handed bytes sel same chosen here in
-    (logs, read, ((sound, safe), can-there, text-there, is-there))
-
--- what else is known where it is free
-pub and-sound : {R : Type 0} (looks : Bool) (known : R → Option (List ℕ)) (givens : List (GivenLog R)) (name : List ℕ) (part : Selection) (handed : List ℕ) (end : ℕ) (fault : Option SumFault) (since : Option Since) (P : Type 0)
-    → IsSound part handed end (damage_before looks part end fault)
-    → OfLater looks known givens name part handed end fault (λ ls. (looks ≡ true → IsSafe part handed ls) × (since ≡ since_told looks part handed ls))
-    → P → OfLater looks known givens name part handed end fault (λ ls. IsFree looks part handed end fault ls × P)
-and-sound looks known givens name part handed end fault since P sound (logs, read, (safe, seen)) p = (logs, read, ((sound, safe), p))
+pub taken-written : {A R : Type 0} (looks : Bool) (known : R → Option (List ℕ)) (givens : List (GivenLog R)) (w : Writing) (name : List ℕ) (t : Taken) (Sound : Type 0) (Refuses : PartFault A → Type 0) (had has : Option (List ℕ)) (since : Option (told.Since A))
+    (bytes : List ℕ) (sel : Selection) (r : Result (Vec ℕ A) (PartFault A)) → Sound → Looks {A = A} looks known givens t (Ok since) → bytes ≡ t.log → sel ≡ t.sel
+    → WritesIndex w name (option_map since_seen since) bytes sel had has r → WritesTaken looks known givens w name t Sound Refuses had has r
+taken-written {A = A} looks known givens w name t Sound Refuses had has since bytes sel r sound looked same chosen is =
+    by-groups looks known givens w name t Sound Refuses had has (option_map since_seen since) r sound (are-free A looks known givens t since looked)
+    (subst (λ (s : Selection). WritesIndex w name (option_map since_seen since) t.log s had has r) chosen
+    (subst (λ (b : List ℕ). WritesIndex w name (option_map since_seen since) b sel had has r) same is))
 
 -- what came later can't be looked at, or touches it
-pub not-free : {A R : Type 0} (looks : Bool) (known : R → Option (List ℕ)) (givens : List (GivenLog R)) (w : Writing) (name : List ℕ) (part : Selection) (handed : List ℕ) (end : ℕ) (fault : Option SumFault) (had has : Option (List ℕ)) (cause : PartFault A)
-    → IsSound part handed end (damage_before looks part end fault) → Looks looks known givens name part handed end fault (Err cause) → Keeps had has
-    → WritesOpened looks known givens w name part handed end fault had has (Err cause)
-not-free false known givens w name part handed end fault had has cause sound none keeps = absurd none
-not-free true known givens w name part handed end fault had has (ChangedSince rows lines) sound (logs, read, changed) keeps = ((logs, read, (sound, refl, changed)), keeps)
-not-free true known givens w name part handed end fault had has (UnknownSince lines) sound (logs, read, unknown) keeps = ((logs, read, (sound, refl, unknown)), keeps)
-not-free true known givens w name part handed end fault had has (LaterLog n f) sound fails keeps = (sound, refl, fails, keeps)
-not-free true known givens w name part handed end fault had has (Run (run.Log f)) sound is keeps = (is, keeps)
-not-free true known givens w name part handed end fault had has (Run run.Read) sound none keeps = absurd none
-not-free true known givens w name part handed end fault had has (Run run.Write) sound none keeps = absurd none
-not-free true known givens w name part handed end fault had has (Sums f) sound none keeps = absurd none
-not-free true known givens w name part handed end fault had has (NoEventAt pos) sound none keeps = absurd none
-not-free true known givens w name part handed end fault had has (Log f) sound none keeps = absurd none
-not-free true known givens w name part handed end fault had has NothingSelected sound none keeps = absurd none
-not-free true known givens w name part handed end fault had has TooLong sound none keeps = absurd none
-not-free true known givens w name part handed end fault had has (NoSchema text) sound none keeps = absurd none
+pub not-free : {A R : Type 0} (looks : Bool) (known : R → Option (List ℕ)) (givens : List (GivenLog R)) (w : Writing) (name : List ℕ) (t : Taken) (Sound : Type 0) (Refuses : PartFault A → Type 0) (had has : Option (List ℕ)) (cause : PartFault A)
+    → Sound → Looks looks known givens t (Err cause) → Keeps had has → WritesTaken looks known givens w name t Sound Refuses had has (Err cause)
+not-free false known givens w name t Sound Refuses had has cause sound none keeps = absurd none
+not-free true known givens w name t Sound Refuses had has (ChangedSince rows lines) sound (logs, read, changed) keeps = ((sound, (logs, read, (refl, changed))), keeps)
+not-free true known givens w name t Sound Refuses had has (UnknownSince lines) sound (logs, read, unknown) keeps = ((sound, (logs, read, (refl, unknown))), keeps)
+not-free true known givens w name t Sound Refuses had has (LaterLog n f) sound fails keeps = ((sound, refl, fails), keeps)
+not-free true known givens w name t Sound Refuses had has (Run (run.Log f)) sound is keeps = (is, keeps)
+not-free true known givens w name t Sound Refuses had has (Run run.Read) sound none keeps = absurd none
+not-free true known givens w name t Sound Refuses had has (Run run.Write) sound none keeps = absurd none
+not-free true known givens w name t Sound Refuses had has (Sums f) sound none keeps = absurd none
+not-free true known givens w name t Sound Refuses had has (NoEventAt pos) sound none keeps = absurd none
+not-free true known givens w name t Sound Refuses had has (NoUnitWithGtid gtid) sound none keeps = absurd none
+not-free true known givens w name t Sound Refuses had has (Log f) sound none keeps = absurd none
+not-free true known givens w name t Sound Refuses had has (NoSchema text) sound none keeps = absurd none
+not-free true known givens w name t Sound Refuses had has NothingSelected sound none keeps = absurd none
+not-free true known givens w name t Sound Refuses had has TooLong sound none keeps = absurd none
+
+pub no-write-failed : {A R : Type 0} (X : Type 0) (looks : Bool) (known : R → Option (List ℕ)) (givens : List (GivenLog R)) (t : Taken) (cause : PartFault A) → Looks looks known givens t (Err cause) → is_failed_write {A = A} {X = X} (Err cause) ≡ false
+no-write-failed X false known givens t cause none = absurd none
+no-write-failed X true known givens t (ChangedSince rows lines) is = refl
+no-write-failed X true known givens t (UnknownSince lines) is = refl
+no-write-failed X true known givens t (LaterLog n f) is = refl
+no-write-failed X true known givens t (Run (run.Log f)) is = refl
+no-write-failed X true known givens t (Run run.Read) is = refl
+no-write-failed X true known givens t (Run run.Write) none = absurd none
+no-write-failed X true known givens t (Sums f) is = refl
+no-write-failed X true known givens t (NoEventAt pos) is = refl
+no-write-failed X true known givens t (NoUnitWithGtid gtid) is = refl
+no-write-failed X true known givens t (Log f) is = refl
+no-write-failed X true known givens t (NoSchema text) is = refl
+no-write-failed X true known givens t NothingSelected is = refl
+no-write-failed X true known givens t TooLong is = refl
+
+-- it isn't selected
+abbrev pub IsRefused : {A : Type 0} → (PartFault A → Type 0) → PartFault A → Type 0
+IsRefused Refuses (Run (run.Log f)) = f ≡ OutOfMemory
+IsRefused Refuses (NoEventAt pos) = Refuses (NoEventAt pos)
+IsRefused Refuses (NoUnitWithGtid gtid) = Refuses (NoUnitWithGtid gtid)
+IsRefused Refuses (Sums f) = Refuses (Sums f)
+IsRefused Refuses (Log f) = Refuses (Log f)
+IsRefused Refuses NothingSelected = Refuses NothingSelected
+IsRefused Refuses TooLong = Refuses TooLong
+IsRefused Refuses cause = ⊥
+
+pub not-selected : {A R : Type 0} (looks : Bool) (known : R → Option (List ℕ)) (givens : List (GivenLog R)) (w : Writing) (name : List ℕ) (t : Taken) (Sound : Type 0) (Refuses : PartFault A → Type 0) (had has : Option (List ℕ)) (cause : PartFault A)
+    → IsRefused Refuses cause → Keeps had has → WritesTaken looks known givens w name t Sound Refuses had has (Err cause)
+not-selected looks known givens w name t Sound Refuses had has (Run (run.Log f)) is keeps = (is, keeps)
+not-selected looks known givens w name t Sound Refuses had has (NoEventAt pos) is keeps = (is, keeps)
+not-selected looks known givens w name t Sound Refuses had has (NoUnitWithGtid gtid) is keeps = (is, keeps)
+not-selected looks known givens w name t Sound Refuses had has (Sums f) is keeps = (is, keeps)
+not-selected looks known givens w name t Sound Refuses had has (Log f) is keeps = (is, keeps)
+not-selected looks known givens w name t Sound Refuses had has NothingSelected is keeps = (is, keeps)
+not-selected looks known givens w name t Sound Refuses had has TooLong is keeps = (inr is, keeps)
+not-selected looks known givens w name t Sound Refuses had has (Run run.Read) none keeps = absurd none
+not-selected looks known givens w name t Sound Refuses had has (Run run.Write) none keeps = absurd none
+not-selected looks known givens w name t Sound Refuses had has (LaterLog n f) none keeps = absurd none
+not-selected looks known givens w name t Sound Refuses had has (ChangedSince rows lines) none keeps = absurd none
+not-selected looks known givens w name t Sound Refuses had has (UnknownSince lines) none keeps = absurd none
+not-selected looks known givens w name t Sound Refuses had has (NoSchema text) none keeps = absurd none
+
+-- ---- of a part
+
+part-refused : {A : Type 0} (part : Selection) (handed : List ℕ) (end : ℕ) (damage : Option SumFault) (cause : PartFault A) → RefusesAll part handed end damage cause → IsRefused (RefusesAll part handed end damage) cause
+part-refused part handed end damage (NoEventAt pos) is = is
+part-refused part handed end damage (NoUnitWithGtid gtid) none = absurd none
+part-refused part handed end damage (Sums f) is = is
+part-refused part handed end damage (Log f) is = is
+part-refused part handed end damage NothingSelected is = is
+part-refused part handed end damage (Run f) none = absurd none
+part-refused part handed end damage (LaterLog n f) none = absurd none
+part-refused part handed end damage (ChangedSince rows lines) none = absurd none
+part-refused part handed end damage (UnknownSince lines) none = absurd none
+part-refused part handed end damage (NoSchema text) none = absurd none
+part-refused part handed end damage TooLong none = absurd none
+
+pub all-refused : {A R : Type 0} (looks : Bool) (known : R → Option (List ℕ)) (givens : List (GivenLog R)) (w : Writing) (name : List ℕ) (t : Taken) (Sound : Type 0) (had has : Option (List ℕ)) (part : Selection) (handed : List ℕ) (end : ℕ) (damage : Option SumFault)
+    (cause : PartFault A) → RefusesAll part handed end damage cause → Keeps had has → WritesTaken looks known givens w name t Sound (RefusesAll part handed end damage) had has (Err cause)
+all-refused looks known givens w name t Sound had has part handed end damage cause is keeps =
+    not-selected looks known givens w name t Sound (RefusesAll part handed end damage) had has cause (part-refused part handed end damage cause is) keeps
+
+-- ---- of chosen units
+
+pub start-refused : {A : Type 0} (w : Wanted) (part : Selection) (handed : List ℕ) (end : ℕ) (fault damage : Option SumFault) (cause : PartFault A) → RefusesStart part handed end fault cause
+    → IsRefused (RefusesUnits w part handed end fault damage) cause
+start-refused w part handed end fault damage (NoEventAt pos) is = inl is
+start-refused w part handed end fault damage (Sums f) is = inl is
+start-refused w part handed end fault damage (Run f) none = absurd none
+start-refused w part handed end fault damage (NoUnitWithGtid gtid) none = absurd none
+start-refused w part handed end fault damage (Log f) none = absurd none
+start-refused w part handed end fault damage (LaterLog n f) none = absurd none
+start-refused w part handed end fault damage (ChangedSince rows lines) none = absurd none
+start-refused w part handed end fault damage (UnknownSince lines) none = absurd none
+start-refused w part handed end fault damage (NoSchema text) none = absurd none
+start-refused w part handed end fault damage NothingSelected none = absurd none
+start-refused w part handed end fault damage TooLong none = absurd none
+
+pub ids-refused : {A : Type 0} (w : Wanted) (part : Selection) (handed : List ℕ) (end : ℕ) (fault damage : Option SumFault) (n : ℕ) (cause : PartFault A) → has_start part handed end ≡ true
+    → IsMissing (ids_asked w) (selection_in part handed) handed n → IsNoUnit n (damage_before true part end fault) cause → IsRefused (RefusesUnits w part handed end fault damage) cause
+ids-refused w part handed end fault damage n (NoUnitWithGtid m) start missing (none, same) = inr (start, inl (none, subst (λ (k : ℕ). IsMissing (ids_asked w) (selection_in part handed) handed k) (sym same) missing))
+ids-refused w part handed end fault damage n (Sums f) start missing is = inr (start, inl (is, missing-not-found (ids_asked w) (selection_in part handed) handed n missing))
+ids-refused w part handed end fault damage n (Run f) start missing none = absurd none
+ids-refused w part handed end fault damage n (NoEventAt pos) start missing none = absurd none
+ids-refused w part handed end fault damage n (Log f) start missing none = absurd none
+ids-refused w part handed end fault damage n (LaterLog k f) start missing none = absurd none
+ids-refused w part handed end fault damage n (ChangedSince rows lines) start missing none = absurd none
+ids-refused w part handed end fault damage n (UnknownSince lines) start missing none = absurd none
+ids-refused w part handed end fault damage n (NoSchema text) start missing none = absurd none
+ids-refused w part handed end fault damage n NothingSelected start missing none = absurd none
+ids-refused w part handed end fault damage n TooLong start missing none = absurd none
+
+pub chosen-refused : {A : Type 0} (w : Wanted) (part : Selection) (handed : List ℕ) (end : ℕ) (fault damage : Option SumFault) (cause : PartFault A) → has_start part handed end ≡ true
+    → RefusesChosen (wanted_in w part handed) (selection_in part handed) handed end damage cause → IsRefused (RefusesUnits w part handed end fault damage) cause
+chosen-refused w part handed end fault damage (Sums f) start is = inr (start, inr is)
+chosen-refused w part handed end fault damage (Log f) start is = inr (start, inr is)
+chosen-refused w part handed end fault damage NothingSelected start is = inr (start, inr is)
+chosen-refused w part handed end fault damage TooLong start is = inr (start, inr is)
+chosen-refused w part handed end fault damage (Run f) start none = absurd none
+chosen-refused w part handed end fault damage (NoEventAt pos) start none = absurd none
+chosen-refused w part handed end fault damage (NoUnitWithGtid gtid) start none = absurd none
+chosen-refused w part handed end fault damage (LaterLog n f) start none = absurd none
+chosen-refused w part handed end fault damage (ChangedSince rows lines) start none = absurd none
+chosen-refused w part handed end fault damage (UnknownSince lines) start none = absurd none
+chosen-refused w part handed end fault damage (NoSchema text) start none = absurd none
+
+pub not-chosen : {A : Type 0} (looks : Bool) (w : Wanted) (part : Selection) (handed : List ℕ) (end : ℕ) (fault damage : Option SumFault) (cause : PartFault A) → has_start part handed end ≡ true
+    → Chooses {A = A} looks (wanted_in w part handed) (selection_in part handed) handed end damage (Err cause) → IsRefused (RefusesUnits w part handed end fault damage) cause
+not-chosen looks w part handed end fault damage (Run (run.Log f)) start is = is
+not-chosen looks w part handed end fault damage (Run run.Read) start none = absurd none
+not-chosen looks w part handed end fault damage (Run run.Write) start none = absurd none
+not-chosen looks w part handed end fault damage (Sums f) start is = inr (start, inr is)
+not-chosen looks w part handed end fault damage (Log f) start is = inr (start, inr is)
+not-chosen looks w part handed end fault damage NothingSelected start is = inr (start, inr is)
+not-chosen looks w part handed end fault damage TooLong start is = inr (start, inr is)
+not-chosen looks w part handed end fault damage (NoEventAt pos) start none = absurd none
+not-chosen looks w part handed end fault damage (NoUnitWithGtid gtid) start none = absurd none
+not-chosen looks w part handed end fault damage (LaterLog n f) start none = absurd none
+not-chosen looks w part handed end fault damage (ChangedSince rows lines) start none = absurd none
+not-chosen looks w part handed end fault damage (UnknownSince lines) start none = absurd none
+not-chosen looks w part handed end fault damage (NoSchema text) start none = absurd none
+
+-- what holds of units and a selection of the program holds of those that they are
+pub of-units : (P : Wanted → Selection → Type 0) (v w : Wanted) (sel there : Selection) → v ≡ w → sel ≡ there → P v sel → P w there
+of-units P v w sel there same chosen here = subst (λ (s : Selection). P w s) chosen (subst (λ (u : Wanted). P u sel) same here)
 
 -- ---- of a log that is read
 
--- it is opened, and this comes of its part
-of-read : {A R : Type 0} (looks : Bool) (known : R → Option (List ℕ)) (givens : List (GivenLog R)) (w : Writing) (name : List ℕ) (part : Selection) (old new had has : Option (List ℕ)) (bytes : List ℕ) → IsOpened part old new bytes
-    → (r : Result (Vec ℕ A) (PartFault A)) → WritesOpened looks known givens w name part (handed_of looks part bytes) (found_in looks part bytes).end (found_in looks part bytes).fault had has r
-    → WritesPart looks known givens w name part old new had has r
-of-read looks known givens w name part old new had has bytes opened (Ok told) (logs, read, ((sound, safe), can, text, is)) = (bytes, opened, (logs, read, ((sound, safe, can), text, is)))
-of-read looks known givens w name part old new had has bytes opened (Err (Run run.Write)) (logs, read, ((sound, safe), can, text)) = (bytes, opened, (logs, read, ((sound, safe, can), text)))
-of-read looks known givens w name part old new had has bytes opened (Err (Run run.Read)) is = absurd is
-of-read looks known givens w name part old new had has bytes opened (Err (Run (run.Log f))) (is, keeps) = (inl is, keeps)
-of-read looks known givens w name part old new had has bytes opened (Err TooLong) ((logs, read, ((sound, safe), long)), keeps) = ((bytes, opened, (logs, read, (sound, safe, long))), keeps)
-of-read looks known givens w name part old new had has bytes opened (Err (NoSchema text)) ((logs, read, ((sound, safe), none)), keeps) = ((bytes, opened, (logs, read, (sound, safe, none))), keeps)
-of-read looks known givens w name part old new had has bytes opened (Err (LaterLog n f)) (sound, looked, fails, keeps) = ((bytes, opened, (sound, looked, fails)), keeps)
-of-read looks known givens w name part old new had has bytes opened (Err (ChangedSince rows lines)) ((logs, read, (sound, looked, changed)), keeps) = ((bytes, opened, (logs, read, (sound, (looked, changed)))), keeps)
-of-read looks known givens w name part old new had has bytes opened (Err (UnknownSince lines)) ((logs, read, (sound, looked, unknown)), keeps) = ((bytes, opened, (logs, read, (sound, (looked, unknown)))), keeps)
-of-read looks known givens w name part old new had has bytes opened (Err (NoEventAt pos)) (is, keeps) = ((bytes, opened, is), keeps)
-of-read looks known givens w name part old new had has bytes opened (Err (Sums f)) (is, keeps) = (inr (bytes, opened, is), keeps)
-of-read looks known givens w name part old new had has bytes opened (Err (Log f)) (is, keeps) = ((bytes, opened, is), keeps)
-of-read looks known givens w name part old new had has bytes opened (Err NothingSelected) (is, keeps) = ((bytes, opened, is), keeps)
+of-read : {A R : Type 0} (looks : Bool) (known : R → Option (List ℕ)) (givens : List (GivenLog R)) (w : Writing) (name : List ℕ) (part : Selection) (wanted : Option Wanted) (old new had has : Option (List ℕ)) (bytes : List ℕ)
+    → ReadsLog old new bytes → source_refusal bytes ≡ None → (r : Result (Vec ℕ A) (PartFault A)) → WritesRead looks known givens w name part wanted had has r bytes → WritesPart looks known givens w name part wanted old new had has r
+of-read looks known givens w name part wanted old new had has bytes reads sound (Err (Run run.Read)) none = absurd none
+of-read looks known givens w name part wanted old new had has bytes reads sound (Err (Run (run.Log f))) (is, keeps) = (inl is, keeps)
+of-read looks known givens w name part wanted old new had has bytes reads sound (Err (Sums f)) is = inr (bytes, reads, sound, is)
+of-read looks known givens w name part wanted old new had has bytes reads sound (Ok told) is = (bytes, reads, sound, is)
+of-read looks known givens w name part wanted old new had has bytes reads sound (Err (Run run.Write)) is = (bytes, reads, sound, is)
+of-read looks known givens w name part wanted old new had has bytes reads sound (Err (NoEventAt pos)) is = (bytes, reads, sound, is)
+of-read looks known givens w name part wanted old new had has bytes reads sound (Err (NoUnitWithGtid gtid)) is = (bytes, reads, sound, is)
+of-read looks known givens w name part wanted old new had has bytes reads sound (Err (Log f)) is = (bytes, reads, sound, is)
+of-read looks known givens w name part wanted old new had has bytes reads sound (Err (LaterLog n f)) is = (bytes, reads, sound, is)
+of-read looks known givens w name part wanted old new had has bytes reads sound (Err (ChangedSince rows lines)) is = (bytes, reads, sound, is)
+of-read looks known givens w name part wanted old new had has bytes reads sound (Err (UnknownSince lines)) is = (bytes, reads, sound, is)
+of-read looks known givens w name part wanted old new had has bytes reads sound (Err (NoSchema text)) is = (bytes, reads, sound, is)
+of-read looks known givens w name part wanted old new had has bytes reads sound (Err NothingSelected) is = (bytes, reads, sound, is)
+of-read looks known givens w name part wanted old new had has bytes reads sound (Err TooLong) is = (bytes, reads, sound, is)
 
-pub opened-written : {A R S : Type 0} (looks : Bool) (known : R → Option (List ℕ)) (givens : List (GivenLog R)) (w : Writing) (name : List ℕ) (part : Selection) (old new had has : Option (List ℕ)) (source : Source S)
-    (r : Result (Vec ℕ A) (PartFault A)) → ((bytes : List ℕ) × ReadsLog old new bytes × IsSource (reading_of looks part) bytes source)
-    → WritesOpened looks known givens w name part (log_of source) (end_of source) (fault_of source) had has r → WritesPart looks known givens w name part old new had has r
-opened-written looks known givens w name part old new had has source r (bytes, reads, opened) is =
-    of-read looks known givens w name part old new had has bytes (reads, opened.sound) r
-    (subst (λ (d : Option SumFault). WritesOpened looks known givens w name part (handed_of looks part bytes) (found_in looks part bytes).end d had has r) opened.fault
-    (subst (λ (n : ℕ). WritesOpened looks known givens w name part (handed_of looks part bytes) n (fault_of source) had has r) opened.end
-    (subst (λ (b : List ℕ). WritesOpened looks known givens w name part b (end_of source) (fault_of source) had has r) opened.log is)))
+pub opened-written : {A R S : Type 0} (looks : Bool) (known : R → Option (List ℕ)) (givens : List (GivenLog R)) (w : Writing) (name : List ℕ) (part : Selection) (wanted : Option Wanted) (old new had has : Option (List ℕ)) (source : Source S)
+    (r : Result (Vec ℕ A) (PartFault A)) → ((bytes : List ℕ) × ReadsLog old new bytes × IsSource (reading_of looks wanted part) bytes source)
+    → WritesHanded looks known givens w name part wanted (log_of source) (end_of source) (fault_of source) had has r → WritesPart looks known givens w name part wanted old new had has r
+opened-written looks known givens w name part wanted old new had has source r (bytes, reads, opened) is =
+    let how = reading_of looks wanted part in
+    of-read looks known givens w name part wanted old new had has bytes reads opened.sound r
+    (subst (λ (d : Option SumFault). WritesHanded looks known givens w name part wanted (handed_log how bytes) (found_of how bytes).end d had has r) opened.fault
+    (subst (λ (n : ℕ). WritesHanded looks known givens w name part wanted (handed_log how bytes) n (fault_of source) had has r) opened.end
+    (subst (λ (b : List ℕ). WritesHanded looks known givens w name part wanted b (end_of source) (fault_of source) had has r) opened.log is)))
+
+-- it isn't opened
+unopened : (A : Type 0) {R : Type 0} (S : Type 0) (looks : Bool) (known : R → Option (List ℕ)) (givens : List (GivenLog R)) (w : Writing) (name : List ℕ) (part : Selection) (wanted : Option Wanted) (old new had has : Option (List ℕ)) (how : Reading)
+    (fault : OpeningFault) → OpensLog {A = S} how old new (Err fault) → Keeps had has → WritesPart {A = A} looks known givens w name part wanted old new had has (Err (opening_cause fault))
+unopened A S looks known givens w name part wanted old new had has how (opening.Run run.Read) is keeps = keeps
+unopened A S looks known givens w name part wanted old new had has how (opening.Run run.Write) none keeps = absurd none
+unopened A S looks known givens w name part wanted old new had has how (opening.Run (run.Log f)) is keeps = (is, keeps)
+unopened A S looks known givens w name part wanted old new had has how (opening.Sums f) is keeps = inl (is, keeps)
+
+pub unopened-written : {A R : Type 0} (S : Type 0) (looks : Bool) (known : R → Option (List ℕ)) (givens : List (GivenLog R)) (w : Writing) (name : List ℕ) (part : Selection) (wanted : Option Wanted) (old new had has : Option (List ℕ)) (how : Reading)
+    (fault : OpeningFault) (cause : PartFault A) → cause ≡ opening_cause fault → OpensLog {A = S} how old new (Err fault) → Keeps had has → WritesPart looks known givens w name part wanted old new had has (Err cause)
+unopened-written {A = A} S looks known givens w name part wanted old new had has how fault cause same is keeps =
+    subst (λ (c : PartFault A). WritesPart looks known givens w name part wanted old new had has (Err c)) (sym same) (unopened A S looks known givens w name part wanted old new had has how fault is keeps)

@@ -4,9 +4,9 @@ use Rattle.std.specs.List.{flat_map, last_or, list_any}
 use Rattle.std.specs.Option.{option_map_or}
 use Rattle.blog_event.specs.File.{Placed, placed_from, read}
 use Rattle.blog_choice.specs.Choice.{Choice}
-use Rattle.blog_later.specs.Later.{changes_in, is_accepted, is_apart, later_units, may_concern}
-use Rattle.blog_later.specs.Laws.{and_later}
-use Rattle.blog_later.specs.Prints.{Left, left_of, takes_left}
+use Rattle.blog_later.specs.Among.{Step, Other, marked_in, touches_among}
+use Rattle.blog_later.specs.Later.{changes_in, is_accepted, is_apart, may_concern}
+use Rattle.blog_later.specs.Prints.{Left, takes_left}
 use Rattle.blog_later.specs.code.Counted.{at_most, starts}
 use Rattle.blog_source.specs.Places.{place_of}
 use Rattle.blog_sum.specs.declared.fault.SumFault.{SumFault}
@@ -16,12 +16,12 @@ use Rattle.blog_undo.specs.Mixed.{all_changes, is_untouched}
 use Rattle.blog_flash.specs.States.{State, apply_all}
 use Rattle.blog_units.specs.Units.{Facts}
 
--- A log after changes: its name; what is handed out of it, and from where on that comes after the changes; where in the server's log the
--- reading ended, and why, if the log is damaged there.
+-- A log after changes: its name; what is handed out of it; the units there that come after the changes and aren't selected; where in the
+-- server's log the reading ended, and why, if the log is damaged there.
 pub record Later : Type 0 where
   pub name : List ℕ
   pub handed : List ℕ
-  pub at : ℕ
+  pub units : List Facts
   pub end : ℕ
   pub fault : Option SumFault
 
@@ -30,33 +30,33 @@ pub record Place : Type 0 where
   pub name : List ℕ
   pub at : ℕ
 
-abbrev pub units_of : Later → List Facts
-units_of l = later_units l.handed l.at
-
 -- ---- units that can be undone by themselves, and their changes
 
 abbrev pub accepted_units : List Later → List Facts
-accepted_units ls = flat_map (λ l. filter (is_accepted l.handed) (units_of l)) ls
+accepted_units ls = flat_map (λ l. filter (is_accepted l.handed) l.units) ls
 
 abbrev pub later_changes : List Later → List Change
-later_changes ls = flat_map (λ l. changes_in l.handed (units_of l)) ls
+later_changes ls = flat_map (λ l. changes_in l.handed l.units) ls
 
--- How many of these take a row by these fingerprints. If they are those of rows that were left, no fewer take such a row, and more do
--- only if rows that aren't equal have equal fingerprints.
+-- those of one log, as a step among others
+abbrev pub later_step : Later → Step
+later_step l = Other (changes_in l.handed l.units)
+
+-- how many of these take a row by these fingerprints
 abbrev pub touches : Left → List Later → ℕ
 touches left ls = length (filter (takes_left left) (later_changes ls))
 
 -- ---- the others: those that may concern chosen tables, and where those begin that don't
 
 abbrev pub unknown_units : Choice → List Later → List Facts
-unknown_units choice ls = flat_map (λ l. filter (may_concern choice l.handed) (units_of l)) ls
+unknown_units choice ls = flat_map (λ l. filter (may_concern choice l.handed) l.units) ls
 
 -- where a position in what is handed out of a log is in the server's log
 abbrev pub place_at : List ℕ → List ℕ → ℕ → ℕ → Place
 place_at name handed end at = record { name = name; at = place_of handed end at }
 
 abbrev pub places_apart : Choice → List Later → List Place
-places_apart choice ls = flat_map (λ l. map (place_at l.name l.handed l.end) (starts (filter (is_apart choice l.handed) (units_of l)))) ls
+places_apart choice ls = flat_map (λ l. map (place_at l.name l.handed l.end) (starts (filter (is_apart choice l.handed) l.units))) ls
 
 -- ---- the logs' ends
 
@@ -83,20 +83,21 @@ last_next next (l ∷ ls) = last_next (next_log l.handed) ls
 
 -- ---- whether it touches them
 
--- Nothing touches these changes of chosen tables: no later change takes a row that one of them left; no later unit may concern their
--- tables and can't be looked into; and the logs are read to their ends. So from every state on which they and the later changes apply:
--- undoing them makes no fault, and the tables are then as if only the later ones had been made.
-pub record AreSafe (selected : List Change) (choice : Choice) (ls : List Later) : Type 0 where
-  pub untouched : is_untouched (and_later selected (later_changes ls)) ≡ true
-  pub taken_back : (before after : State) → apply_all (all_changes (and_later selected (later_changes ls))) before ≡ Some after
-      → AsIfNever (and_later selected (later_changes ls)) before after
+-- What logs change in steps, of which some are selected, and chosen tables. Nothing touches what is selected: no change that isn't takes a
+-- row that a selected one before it left; no unit that isn't selected may concern the tables and can't be looked into; and the logs are read
+-- to their ends. So from every state on which all the changes apply: undoing the selected ones makes no fault, and the tables are then as if
+-- only the others had been made.
+pub record AreSafe (ss : List Step) (choice : Choice) (ls : List Later) : Type 0 where
+  pub untouched : is_untouched (marked_in ss) ≡ true
+  pub taken_back : (before after : State) → apply_all (all_changes (marked_in ss)) before ≡ Some after → AsIfNever (marked_in ss) before after
   pub known : unknown_units choice ls ≡ []
   pub whole : is_damaged ls ≡ false
 
--- so many rows that they left were changed since
-abbrev pub AreChanged : List Change → List Later → ℕ → Type 0
-AreChanged selected ls rows = (rows ≡ at_most (touches (left_of selected) ls)) × (0 < touches (left_of selected) ls)
+-- So many rows that selected changes left were changed since, by their fingerprints: no fewer were, and more only if rows that aren't equal
+-- have equal fingerprints.
+abbrev pub AreChanged : List Step → ℕ → Type 0
+AreChanged ss rows = (rows ≡ at_most (touches_among ss)) × (0 < touches_among ss)
 
--- none were, as far as is known; but a later unit may concern their tables, or a log isn't read to its end
-abbrev pub MayBeChanged : List Change → Choice → List Later → Type 0
-MayBeChanged selected choice ls = (touches (left_of selected) ls ≡ 0) × ((0 < length (unknown_units choice ls)) ⊎ (is_damaged ls ≡ true))
+-- none were, as far as is known; but a unit may concern the tables, or a log isn't read to its end
+abbrev pub MayBeChanged : List Step → Choice → List Later → Type 0
+MayBeChanged ss choice ls = (touches_among ss ≡ 0) × ((0 < length (unknown_units choice ls)) ⊎ (is_damaged ls ≡ true))

@@ -1,4 +1,7 @@
 pub mod After
 pub mod Parts
 pub mod Reports
+pub mod Taken
+pub mod Units
+pub mod Writes
 pub mod code

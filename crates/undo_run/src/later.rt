@@ -1,28 +1,31 @@
-//! Looking at what came after a part of a log.
+//! Looking at what came after what is taken out of a log.
 
-ghost use Rattle.std.specs.Prelude.{◌≡◌, IfOk, List};
+ghost use Rattle.std.specs.Prelude.{◌≡◌, ◌∷◌, ℕ, IfOk, List, []};
 ghost use Rattle.blog_choice.specs.code.ChosenView.{names_choice};
-ghost use Rattle.blog_later.specs.Prints.{AreKept, left_of};
-ghost use Rattle.blog_later.specs.code.LookedView.{left_kept};
+ghost use Rattle.blog_event.specs.code.LogView.{log_bytes};
+ghost use Rattle.blog_later.specs.code.LeavingView.{HasLeft};
+ghost use Rattle.blog_later.specs.code.LookedView.{left_before};
 ghost use Rattle.blog_source.specs.code.SourceView.{end_of, fault_of, log_of};
-ghost use Rattle.blog_trans.specs.Changes.{Change};
-ghost use Rattle.blog_trans.specs.Selection.{selection_of};
+ghost use Rattle.blog_trans.specs.Selection.{all, selection_of};
 ghost use Rattle.blog_trans.specs.code.IndexView.{index_bytes, index_selection};
 ghost use Rattle.undo_run.specs.After.{Later};
-ghost use Rattle.undo_run.specs.Parts.{selection_in, stop_in};
+ghost use Rattle.undo_run.specs.Parts.{part_taken, selection_in, stop_in};
+ghost use Rattle.undo_run.specs.Taken.{Taken, tables_taken};
+ghost use Rattle.undo_run.specs.Units.{chosen_taken, chosen_units, kept_log};
 ghost use Rattle.undo_run.specs.code.SinceView.{AreSeen};
-ghost use Rattle.undo_run.specs.code.Steps.{Judges, LooksAt, LooksInto, LooksOn};
+ghost use Rattle.undo_run.specs.code.Steps.{CountsOn, Judges, LooksAt, LooksInto, LooksOn, chosen_changes};
 
 use crate::fault::PartFault;
 use crate::lines::Lines;
 use crate::opening::open_log;
-use crate::seen::look_on;
+use crate::seen::{look_between, look_on};
 use crate::since::Since;
 use crate::tables::tables_named;
 use blog_choice::{ChosenNames, TableChoice};
 use blog_device::RunFault;
 use blog_event::Log;
-use blog_later::LeftRows;
+use blog_later::{Leaving, LeftRows};
+use blog_request::Wanted;
 use blog_source::Source;
 use blog_trans::{Index, Selection};
 use jiff::tz::TimeZone;
@@ -49,10 +52,11 @@ fn look_into<'n, A: Allocator + Copy, L: Read + Drop>(
     since: &Since<'n, A>,
     lines: &mut Lines<'_, A>,
     left: &LeftRows<A>,
+    lists: u32,
     names: &ChosenNames<'_, A>,
 ) -> Result<Since<'n, A>, PartFault<A>>
-    ensures { (ls : List Later) → AreSeen (left_kept left.now) (names_choice names.now) ls since.now
-        → LooksInto L.remaining n given.entry (left_kept left.now) (names_choice names.now) ls result }
+    ensures { (m : ℕ) → (ls : List Later) → AreSeen m (names_choice names.now) ls since.now
+        → LooksInto L.remaining n given.entry (left_before left.now lists) (names_choice names.now) m ls result }
 {
     let mut given = given;
     let source = match open_log(alloc, &mut given.reader, None) {
@@ -64,7 +68,9 @@ fn look_into<'n, A: Allocator + Copy, L: Read + Drop>(
         Err(fault) => return Err(PartFault::Run(RunFault::Log(fault))),
     };
     let name = given.name.as_bytes();
-    Ok(look_on(alloc, since, lines, name, &source, &log, 0, left, names)?)
+    Ok(look_on(
+        alloc, since, lines, name, &source, &log, 0, left, lists, names,
+    )?)
 }
 
 /// Looks at later logs, each of which is read when its turn comes, and returns what was seen of all.
@@ -75,15 +81,16 @@ fn look_into_all<'n, A: Allocator + Copy, L: Read + Drop>(
     since: Since<'n, A>,
     lines: &mut Lines<'_, A>,
     left: &LeftRows<A>,
+    lists: u32,
     names: &ChosenNames<'_, A>,
 ) -> Result<Since<'n, A>, PartFault<A>>
-    ensures { (ls : List Later) → AreSeen (left_kept left.now) (names_choice names.now) ls since.entry
-        → LooksOn L.remaining later.entry.items (left_kept left.now) (names_choice names.now) ls result }
+    ensures { (m : ℕ) → (ls : List Later) → AreSeen m (names_choice names.now) ls since.entry
+        → LooksOn L.remaining later.entry.items (left_before left.now lists) (names_choice names.now) m ls result }
 {
     let mut since = since;
     let mut n = 0usize;
     'logs: for given in later {
-        match look_into(alloc, n, given, seed, &since, lines, left, names) {
+        match look_into(alloc, n, given, seed, &since, lines, left, lists, names) {
             Ok(with) => since = with,
             Err(fault) => return Err(fault),
         }
@@ -98,8 +105,7 @@ fn judged<'n, A: Allocator + Copy>(
     since: Since<'n, A>,
     lines: &Lines<'_, A>,
 ) -> Result<Since<'n, A>, PartFault<A>>
-    ensures judges { (selected : List Change) → (kept : _) → (choice : _) → (ls : List Later) → AreKept (left_of selected) kept → AreSeen kept choice ls since.entry
-        → Judges selected choice ls result }
+    ensures judges { (m : ℕ) → (choice : _) → (ls : List Later) → AreSeen m choice ls since.entry → Judges m choice ls result }
     ensures same { IfOk result (λ told. told ≡ since.entry) }
 {
     if since.touched > 0 {
@@ -109,6 +115,27 @@ fn judged<'n, A: Allocator + Copy>(
         return Err(PartFault::UnknownSince(lines.text(alloc)?));
     }
     Ok(since)
+}
+
+/// Looks at later logs, after what was seen of the log itself, and returns what was seen of all, unless it touches what is taken, or may.
+/// `left` has the rows that were left, in so many lists.
+fn look_further<'n, A: Allocator + Copy, L: Read + Drop>(
+    alloc: A,
+    later: Vec<GivenLog<'n, L>, A>,
+    seed: u64,
+    rest: Since<'n, A>,
+    lines: &mut Lines<'_, A>,
+    left: &LeftRows<A>,
+    lists: u32,
+    names: &ChosenNames<'_, A>,
+) -> Result<Since<'n, A>, PartFault<A>>
+    ensures { (t : Taken) → (m : ℕ) → names_choice names.now ≡ tables_taken t → AreSeen m (names_choice names.now) (t.rest ∷ []) rest.entry → CountsOn (left_before left.now lists) m t.steps
+        → LooksAt L.remaining later.entry.items t result }
+{
+    match look_into_all(alloc, later, seed, rest, lines, left, lists, names) {
+        Ok(all) => judged(alloc, all, lines),
+        Err(fault) => Err(fault),
+    }
 }
 
 /// Looks at what came after a part of the log of a source, of which an index has the groups: at the rest of that log, and at later
@@ -125,7 +152,7 @@ pub(crate) fn look_later<'n, 'l, A: Allocator + Copy, L: Read + Drop>(
 ) -> Result<Since<'n, A>, PartFault<A>>
     requires bytes { index_bytes index.now ≡ log_of source.now }
     requires selection { index_selection index.now ≡ selection_in (selection_of part.now) (log_of source.now) }
-    ensures { LooksAt L.remaining later.entry.items name.now (selection_of part.now) (log_of source.now) (end_of source.now) (fault_of source.now) result }
+    ensures { LooksAt L.remaining later.entry.items (part_taken name.now (selection_of part.now) (log_of source.now) (end_of source.now) (fault_of source.now)) result }
 {
     let tables = tables_named(alloc, index)?;
     let choice = TableChoice {
@@ -145,10 +172,62 @@ pub(crate) fn look_later<'n, 'l, A: Allocator + Copy, L: Read + Drop>(
         &index.log(),
         stop_in(source, part),
         &left,
+        1,
         &names,
     )?;
-    match look_into_all(alloc, later, seed, rest, &mut lines, &left, &names) {
-        Ok(all) => judged(alloc, all, &lines),
-        Err(fault) => Err(fault),
-    }
+    look_further(alloc, later, seed, rest, &mut lines, &left, 1, &names)
+}
+
+/// Looks at what came after the first wanted unit of the log of a source, which is in the range of a selection, but for the wanted ones: at
+/// the units of that log, and at later logs. An index has the groups of the wanted units, and `leaving` the rows that each of them left.
+/// Returns what was seen, unless it touches the wanted units, or may. Times are told in a zone.
+pub(crate) fn look_after_units<'n, A: Allocator + Copy, L: Read + Drop>(
+    alloc: A,
+    source: &Source<A>,
+    name: &'n [u8],
+    log: &Log<'_>,
+    inside: &Selection<'_>,
+    wanted: &Wanted<'_>,
+    index: &Index<'_, '_, A>,
+    leaving: Leaving<A>,
+    later: Vec<GivenLog<'n, L>, A>,
+    seed: u64,
+    zone: TimeZone<'_>,
+) -> Result<Since<'n, A>, PartFault<A>>
+    requires bytes { log_bytes log.now ≡ log_of source.now }
+    requires kept { index_bytes index.now ≡ kept_log (selection_of inside.now) (log_of source.now) (chosen_units wanted.now (selection_of inside.now) (log_of source.now)) }
+    requires selection { index_selection index.now ≡ all }
+    requires left { HasLeft (chosen_changes (selection_of inside.now) (log_of source.now) (chosen_units wanted.now (selection_of inside.now) (log_of source.now))) leaving }
+    ensures { LooksAt L.remaining later.entry.items (chosen_taken name.now wanted.now (selection_of inside.now) (log_of source.now) (end_of source.now) (fault_of source.now)) result }
+{
+    let tables = tables_named(alloc, index)?;
+    let choice = TableChoice {
+        database: None,
+        tables: &tables,
+        excluded: &[],
+    };
+    let names = ChosenNames::new(alloc, &choice)?;
+    let left = leaving.sorted();
+    let mut lines = Lines::none(alloc, zone);
+    let rest = look_between(
+        alloc,
+        &mut lines,
+        name,
+        source,
+        log,
+        inside.start,
+        wanted,
+        &left,
+        &names,
+    )?;
+    look_further(
+        alloc,
+        later,
+        seed,
+        rest,
+        &mut lines,
+        &left,
+        u32::MAX,
+        &names,
+    )
 }

@@ -1,9 +1,11 @@
 //! The run behind `undo` and `redo`: the changes of a part of a server's log, or what undoes them, and a report of them.
 #![tactic(auto)]
 
+mod chosen;
 mod fault;
 mod later;
 mod lines;
+mod missing;
 mod opening;
 mod part;
 mod reports;

@@ -6,8 +6,7 @@ ghost use Rattle.blog_text.specs.code.Counted.{counts_in};
 ghost use Rattle.blog_trans.specs.Selection.{selection_of};
 ghost use Rattle.blog_text.specs.Tables.{rows_in};
 ghost use Rattle.blog_trans.specs.code.IndexView.{index_bytes, index_selection, table_counted};
-ghost use Rattle.undo_run.specs.Parts.{IsSound, begins_at, damage_before, has_rows, has_start, is_at_end, is_behind, is_empty, selection_in};
-ghost use Rattle.undo_run.specs.code.Steps.{Refuses};
+ghost use Rattle.undo_run.specs.Parts.{IsSound, Refuses, RefusesStart, begins_at, damage_before, has_rows, has_start, is_at_end, is_behind, is_empty, selection_in};
 
 use crate::fault::PartFault;
 use blog_event::{Fault, event_at};
@@ -27,8 +26,8 @@ fn is_behind<A: Allocator>(source: &Source<A>, part: &Selection<'_>) -> bool
     }
 }
 
-/// Why the reading of a source ended, if it ended in front of the stop of a part.
-fn damage_before<A: Allocator>(
+/// Why the reading of a source ended, if it ended in front of the stop of a part. `looks` says whether the log was read to its end.
+pub(crate) fn damage_before<A: Allocator>(
     source: &Source<A>,
     part: &Selection<'_>,
     looks: bool,
@@ -77,11 +76,7 @@ fn select_by<'l, A: Allocator + Copy>(
     if !has_start(source, part) {
         return Err(no_start(source, part, damage));
     }
-    let inside = Selection {
-        start: source.position(part.start),
-        stop: part.stop.map(|stop| source.position(stop)),
-        ..*part
-    };
+    let inside = inside_of(source, part);
     match selected(alloc, source.bytes(), &inside, seed) {
         Ok(index) => match damage {
             Some(damage) => Err(PartFault::Sums(damage)),
@@ -95,8 +90,19 @@ fn select_by<'l, A: Allocator + Copy>(
     }
 }
 
+/// The part, by positions in what is handed out of a source.
+pub(crate) fn inside_of<'s, A: Allocator>(source: &Source<A>, part: &Selection<'s>) -> Selection<'s>
+    ensures { selection_of result ≡ selection_in (selection_of part.now) (log_of source.now) }
+{
+    Selection {
+        start: source.position(part.start),
+        stop: part.stop.map(|stop| source.position(stop)),
+        ..*part
+    }
+}
+
 /// Whether an event begins at the start of a part, or the part is empty.
-fn has_start<A: Allocator>(source: &Source<A>, part: &Selection<'_>) -> bool
+pub(crate) fn has_start<A: Allocator>(source: &Source<A>, part: &Selection<'_>) -> bool
     ensures { result ≡ has_start (selection_of part.now) (log_of source.now) (end_of source.now) }
 {
     is_empty(part) || begins_at(source, part.start)
@@ -127,13 +133,14 @@ fn begins_at<A: Allocator>(source: &Source<A>, place: u32) -> bool
 }
 
 /// Why a part without a start isn't written: what was read may end in front of it.
-fn no_start<A: Allocator>(
+pub(crate) fn no_start<A: Allocator>(
     source: &Source<A>,
     part: &Selection<'_>,
     damage: Option<SumFault>,
 ) -> PartFault<A>
     requires { has_start (selection_of part.now) (log_of source.now) (end_of source.now) ≡ false }
-    ensures { Refuses (selection_of part.now) (log_of source.now) (end_of source.now) damage result }
+    ensures start { RefusesStart (selection_of part.now) (log_of source.now) (end_of source.now) damage result }
+    ensures part { Refuses (selection_of part.now) (log_of source.now) (end_of source.now) damage result }
 {
     match damage {
         Some(damage) if source.end() <= part.start => PartFault::Sums(damage),
@@ -142,7 +149,7 @@ fn no_start<A: Allocator>(
 }
 
 /// Whether a fault isn't one of an event, but stands where the log of a source ends.
-fn is_at_end<A: Allocator>(source: &Source<A>, fault: &Fault) -> bool
+pub(crate) fn is_at_end<A: Allocator>(source: &Source<A>, fault: &Fault) -> bool
     ensures { result ≡ is_at_end (log_of source.now) fault.now }
 {
     match fault.at() {
@@ -159,7 +166,7 @@ pub(crate) fn has_some(count: &TableCount<'_>) -> bool
 }
 
 /// Whether an index has rows.
-fn has_rows<A: Allocator>(index: &Index<'_, '_, A>) -> bool
+pub(crate) fn has_rows<A: Allocator>(index: &Index<'_, '_, A>) -> bool
     ensures { result ≡ has_rows (counts_in index.now) }
 {
     for n in 0..index.tables() {

@@ -1,10 +1,13 @@
 //! Looking at what one more log has after a part.
 
-ghost use Rattle.std.specs.Prelude.{◌≡◌, ◌++◌, ◌∷◌, IfOk, List, [], map, option_map, slice_get};
+ghost use Rattle.std.specs.Prelude.{◌≡◌, ℕ, ◌+◌, ◌++◌, ◌∷◌, IfOk, List, [], map, option_map, slice_get};
 ghost use Rattle.blog_choice.specs.Choice.{Choice};
 ghost use Rattle.blog_choice.specs.code.ChosenView.{names_choice};
 ghost use Rattle.blog_event.specs.code.LogView.{log_bytes};
-ghost use Rattle.blog_later.specs.code.LookedView.{left_kept};
+ghost use Rattle.blog_later.specs.Among.{from_first, others_of, touches_by};
+ghost use Rattle.blog_later.specs.Later.{later_units, touches_in};
+ghost use Rattle.blog_later.specs.code.LookedView.{left_before};
+ghost use Rattle.blog_units.specs.Units.{Facts};
 ghost use Rattle.blog_source.specs.code.SourceView.{end_of, fault_of, log_of};
 ghost use Rattle.blog_trans.specs.Places.{placed};
 ghost use Rattle.undo_run.specs.After.{Later, Place as APlace, next_log, place_at, rotated_to};
@@ -15,7 +18,8 @@ use crate::since::{Place, Since};
 use blog_choice::ChosenNames;
 use blog_event::constants::ROTATE_EVENT;
 use blog_event::{Event, Log};
-use blog_later::{LeftRows, Looked, look};
+use blog_later::{LeftRows, Looked, look, look_among};
+use blog_request::Wanted;
 use blog_source::Source;
 use std::alloc::{AllocError, Allocator};
 
@@ -71,7 +75,7 @@ fn rotated_to<'l>(event: &Event<'l>) -> &'l [u8]
 impl<'n, A: Allocator> Since<'n, A> {
     /// What was seen of no log.
     pub(crate) fn none(alloc: A) -> Since<'n, A>
-        ensures { (kept : _) → (choice : Choice) → AreSeen kept choice [] result }
+        ensures { (choice : Choice) → AreSeen 0 choice [] result }
     {
         Since {
             units: 0,
@@ -95,8 +99,8 @@ impl<'n, A: Allocator> Since<'n, A> {
         next: &[u8],
     ) -> Result<Since<'n, A>, AllocError>
         requires { next.now ≡ next_log (log_of source.now) }
-        ensures { (kept : _) → (choice : Choice) → (at : _) → (ls : List Later) → IsLooked kept choice (later_of name.now source.now at) looked.now → AreSeen kept choice ls self.now
-            → IfOk result (AreSeen kept choice (ls ++ later_of name.now source.now at ∷ [])) }
+        ensures { (n m : ℕ) → (choice : Choice) → (us : List Facts) → (ls : List Later) → IsLooked m choice (later_of name.now source.now us) looked.now → AreSeen n choice ls self.now
+            → IfOk result (AreSeen (n + m) choice (ls ++ later_of name.now source.now us ∷ [])) }
     {
         let mut goes_on = Vec::new(alloc);
         goes_on.extend_from_slice(next)?;
@@ -126,13 +130,36 @@ pub(crate) fn look_on<'n, A: Allocator + Copy, B: Allocator>(
     log: &Log<'_>,
     at: u32,
     left: &LeftRows<A>,
+    lists: u32,
     names: &ChosenNames<'_, A>,
 ) -> Result<Since<'n, A>, AllocError>
     requires { log_bytes log.now ≡ log_of source.now }
-    ensures { (ls : List Later) → AreSeen (left_kept left.now) (names_choice names.now) ls since.now
-        → IfOk result (AreSeen (left_kept left.now) (names_choice names.now) (ls ++ later_of name.now source.now at ∷ [])) }
+    ensures { (n : ℕ) → (ls : List Later) → AreSeen n (names_choice names.now) ls since.now
+        → IfOk result (AreSeen (n + touches_in (left_before left.now lists) (log_of source.now) (later_units (log_of source.now) at)) (names_choice names.now)
+        (ls ++ later_of name.now source.now (later_units (log_of source.now) at) ∷ [])) }
 {
-    let looked = look(alloc, left, names, log, at)?;
+    let looked = look(alloc, left, lists, names, log, at)?;
     lines.put(name, source, &looked)?;
     since.with(alloc, name, source, &looked, next_log(log))
+}
+
+/// Looks at what a log has after the first wanted unit, from a position on, but for the wanted units, and returns what was seen.
+pub(crate) fn look_between<'n, A: Allocator + Copy, B: Allocator>(
+    alloc: A,
+    lines: &mut Lines<'_, A>,
+    name: &'n [u8],
+    source: &Source<B>,
+    log: &Log<'_>,
+    at: u32,
+    wanted: &Wanted<'_>,
+    left: &LeftRows<A>,
+    names: &ChosenNames<'_, A>,
+) -> Result<Since<'n, A>, AllocError>
+    requires { log_bytes log.now ≡ log_of source.now }
+    ensures { IfOk result (AreSeen (0 + touches_by (left_before left.now) wanted.now (log_of source.now) 0 (from_first wanted.now (later_units (log_of source.now) at))) (names_choice names.now)
+        (later_of name.now source.now (others_of wanted.now (from_first wanted.now (later_units (log_of source.now) at))) ∷ [])) }
+{
+    let looked = look_among(alloc, left, names, wanted, log, at)?;
+    lines.put(name, source, &looked)?;
+    Since::none(alloc).with(alloc, name, source, &looked, next_log(log))
 }

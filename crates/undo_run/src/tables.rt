@@ -4,7 +4,7 @@ ghost use Rattle.std.specs.Prelude.{◌≡◌, ◌++◌, ◌∷◌, IfOk, OnOk, 
 ghost use Rattle.blog_choice.specs.code.Views.{name_value};
 ghost use Rattle.blog_text.specs.code.Counted.{counts_in};
 ghost use Rattle.blog_trans.specs.code.IndexView.{table_counted};
-ghost use Rattle.undo_run.specs.Parts.{names_of};
+ghost use Rattle.undo_run.specs.Taken.{names_of};
 
 use crate::part::has_some;
 use blog_choice::TableName;

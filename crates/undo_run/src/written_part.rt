@@ -1,47 +1,66 @@
-//! Reading a log, and writing a part of it.
+//! Reading a log, and writing a part of it, or wanted units of that.
 
-ghost use Rattle.std.specs.Prelude.{◌≡◌, ◌||◌, OnErr, false};
+ghost use Rattle.std.specs.Prelude.{◌≡◌, ◌||◌, None, OnErr, Some, false, option_map, true};
 ghost use Rattle.blog_device.specs.Watched.{device_of, has_failed};
+ghost use Rattle.blog_event.specs.Opening.{opening_fault};
+ghost use Rattle.blog_event.specs.code.LogView.{log_bytes};
+ghost use Rattle.blog_later.specs.code.LeavingView.{HasLeft};
 ghost use Rattle.blog_run.specs.Writing.{HasShortWriting};
 ghost use Rattle.blog_source.specs.code.SourceView.{end_of, fault_of, log_of};
-ghost use Rattle.blog_trans.specs.Selection.{selection_of};
+ghost use Rattle.blog_trans.specs.Selection.{all, selection_of};
 ghost use Rattle.blog_trans.specs.code.IndexView.{index_bytes, index_selection};
-ghost use Rattle.undo_run.specs.Parts.{WritesPart, is_failed_read, is_failed_write, selection_in};
-ghost use Rattle.undo_run.specs.code.Steps.{Looks, WritesOpened};
+ghost use Rattle.undo_run.specs.Parts.{part_taken, reading_of, selection_in};
+ghost use Rattle.undo_run.specs.Units.{chosen_taken, chosen_units, damage_among, kept_log};
+ghost use Rattle.undo_run.specs.Writes.{WritesHanded, WritesPart, is_failed_read, is_failed_write};
+ghost use Rattle.undo_run.specs.code.SinceView.{since_seen};
+ghost use Rattle.undo_run.specs.code.Steps.{IsNoUnit, Looks, WritesIndex, chosen_changes};
 
+use crate::chosen::{Chosen, choose, index_of_chosen};
 use crate::fault::PartFault;
-use crate::later::look_later;
+use crate::later::{look_after_units, look_later};
+use crate::missing::first_missing;
 use crate::opening::open_log;
-use crate::part::select_part;
+use crate::part::{damage_before, has_start, inside_of, no_start, select_part};
 use crate::reports::report_of;
 use crate::since::Since;
 use advice::no_schema;
 use blog_device::{RunFault, Watched};
-use blog_event::Fault;
+use blog_event::{Fault, Log};
+use blog_later::Leaving;
+use blog_request::Wanted;
 use blog_run::{Writing, WritingFault, write_groups};
 use blog_source::Source;
+use blog_sum::SumFault;
 use blog_trans::{Index, Selection};
 use jiff::tz::TimeZone;
 use list_run::GivenLog;
 use std::alloc::{AllocError, Allocator};
 use std::io::{Read, Write};
 
-/// Reads a server's log up to the stop of a part, and writes the changes of the part, or what undoes them, as a log or as SQL. Each
-/// new name of a schema must have at most 255 bytes. Returns a report for people, with the name of the log: how many transactions,
-/// and how many rows of which tables. All memory is taken before the first write.
+/// Reads a server's log, and writes the changes of a part, or what undoes them, as a log or as SQL. Each new name of a schema must have
+/// at most 255 bytes. Returns a report for people, with the name of the log: how many transactions, and how many rows of which tables. All
+/// memory is taken before the first write.
 ///
 /// The part is a selection by places: positions in the server's log, with its checksums. Its start is where an event begins, or the end
 /// of the log; one up to 4 is the first event.
 ///
-/// `looks` says whether what came after the part's stop is looked at: the rest of the log, and then the later logs, each of which is read
-/// when its turn comes, to its end. It fails with `ChangedSince` if later changes take rows that the part's changes left, and else with
-/// `UnknownSince` if one of the logs is damaged there or has something that may concern the part's tables, and can't be looked into.
-/// Without `looks` what is at the stop or after it isn't read, and no later log is.
+/// Without `wanted` all of the part is written. With it units are made of the events from the start on, and those are written that
+/// start before the stop, and are of the wanted times, threads and ids: what `wanted` says of positions and tables isn't looked at. Each is
+/// accepted by itself, up to the stop, and the others stay as they are.
+///
+/// `looks` says whether what came after is looked at: the units after the stop, or from the first wanted one on those that aren't wanted, to
+/// the end of the log; and then the later logs, each of which is read when its turn comes, to its end. It fails with `ChangedSince` if these
+/// take rows that changes before them left, which are written, and else with `UnknownSince` if one of the logs is damaged, for a part
+/// after its stop, or if something there may concern the changed tables, and can't be looked into. Without `looks` no later log is read, and
+/// of the log itself what is at the stop or after it only if units are wanted.
 ///
 /// Fails at the first of these that holds: with `Run` if the reader fails or the log is too long, or if memory is refused; with `Sums` if
 /// the log can't be opened; with `NoEventAt` if no event begins at the start, or with `Sums` if the log ends too early or is damaged in
-/// front of it; with `Log` or `Sums` of the first fault in the order of the log; with `NothingSelected` if no rows are changed; with
-/// `LaterLog` of the first later log that isn't opened, by its number; with `ChangedSince` or `UnknownSince`; with `NoSchema` if the changes have no table of a schema that is to have another name; with `TooLong`. The writer wasn't called then.
+/// front of it; with `NoUnitWithGtid` of the first of the wanted global transaction ids that no unit of the part has, or with `Sums` if the
+/// part is damaged then; with `Log` or `Sums` of the first fault in the order of the log; with `NothingSelected` if no rows are changed; with
+/// `LaterLog` of the first later log that isn't opened, by its number; with `ChangedSince` or `UnknownSince`; with `NoSchema` if the changes
+/// have no table of a schema that is to have another name; with `TooLong`. The writer wasn't called then. With `looks` and `wanted` damage of
+/// the log is no fault of its own, but `UnknownSince`.
 /// Fails with `Run(Write)` if a write failed; the writer then has a beginning of what is written.
 ///
 /// Names and ids of tables are hashed by the seed (`Log::with_seed`). What is written doesn't depend on it. The lines of `ChangedSince` have
@@ -51,6 +70,7 @@ pub fn write_part<'n, A: Allocator + Copy, R: Read, L: Read + Drop, W: Write>(
     reader: &mut Watched<R>,
     name: &'n [u8],
     part: &Selection<'_>,
+    wanted: Option<Wanted<'_>>,
     looks: bool,
     later: Vec<GivenLog<'n, L>, A>,
     seed: u64,
@@ -59,17 +79,35 @@ pub fn write_part<'n, A: Allocator + Copy, R: Read, L: Read + Drop, W: Write>(
     writer: &mut Watched<W>,
 ) -> Result<Vec<u8, A>, PartFault<A>>
     requires { HasShortWriting writing.now }
-    ensures writes { WritesPart looks L.remaining later.entry.items writing.now name.now (selection_of part.now) (R.remaining (device_of reader.old)) (R.remaining (device_of reader.new))
+    ensures writes { WritesPart looks L.remaining later.entry.items writing.now name.now (selection_of part.now) wanted.entry (R.remaining (device_of reader.old)) (R.remaining (device_of reader.new))
         (W.contents (device_of writer.old)) (W.contents (device_of writer.new)) result }
     ensures untouched { OnErr result (has_failed writer.new ≡ false → writer.new ≡ writer.old) }
     ensures reader_mark { has_failed reader.new ≡ (has_failed reader.old || is_failed_read result) }
     ensures writer_mark { has_failed writer.new ≡ (has_failed writer.old || is_failed_write result) }
 {
-    let stop = if looks { None } else { part.stop };
-    let source = open_log(alloc, reader, stop)?;
-    write_opened(
-        alloc, &source, name, part, looks, later, seed, zone, writing, writer,
-    )
+    let source = match open_log(alloc, reader, read_to(part, &wanted, looks)) {
+        Ok(source) => source,
+        Err(fault) => return Err(PartFault::from(fault)),
+    };
+    match wanted {
+        None => write_all(
+            alloc, &source, name, part, looks, later, seed, zone, writing, writer,
+        ),
+        Some(wanted) => write_units(
+            alloc, &source, name, part, &wanted, looks, later, seed, zone, writing, writer,
+        ),
+    }
+}
+
+/// Up to where the log of a part is read; to its end if there is no such place.
+fn read_to(part: &Selection<'_>, wanted: &Option<Wanted<'_>>, looks: bool) -> Option<u32>
+    ensures { result ≡ (reading_of looks wanted.now (selection_of part.now)).stop }
+{
+    if looks || wanted.is_some() {
+        None
+    } else {
+        part.stop
+    }
 }
 
 /// Looks at what came after a part of the log of a source, if that is asked for.
@@ -86,7 +124,7 @@ fn look_if<'n, 'l, A: Allocator + Copy, L: Read + Drop>(
 ) -> Result<Option<Since<'n, A>>, PartFault<A>>
     requires bytes { index_bytes index.now ≡ log_of source.now }
     requires selection { index_selection index.now ≡ selection_in (selection_of part.now) (log_of source.now) }
-    ensures { Looks looks L.remaining later.entry.items name.now (selection_of part.now) (log_of source.now) (end_of source.now) (fault_of source.now) result }
+    ensures { Looks looks L.remaining later.entry.items (part_taken name.now (selection_of part.now) (log_of source.now) (end_of source.now) (fault_of source.now)) result }
 {
     if looks {
         match look_later(alloc, source, name, part, index, later, seed, zone) {
@@ -99,7 +137,7 @@ fn look_if<'n, 'l, A: Allocator + Copy, L: Read + Drop>(
 }
 
 /// Writes a part of the log of a source.
-fn write_opened<'n, A: Allocator + Copy, L: Read + Drop, W: Write>(
+fn write_all<'n, A: Allocator + Copy, L: Read + Drop, W: Write>(
     alloc: A,
     source: &Source<A>,
     name: &'n [u8],
@@ -112,23 +150,160 @@ fn write_opened<'n, A: Allocator + Copy, L: Read + Drop, W: Write>(
     writer: &mut Watched<W>,
 ) -> Result<Vec<u8, A>, PartFault<A>>
     requires { HasShortWriting writing.now }
-    ensures writes { WritesOpened looks L.remaining later.entry.items writing.now name.now (selection_of part.now) (log_of source.now) (end_of source.now) (fault_of source.now)
+    ensures writes { WritesHanded looks L.remaining later.entry.items writing.now name.now (selection_of part.now) None (log_of source.now) (end_of source.now) (fault_of source.now)
         (W.contents (device_of writer.old)) (W.contents (device_of writer.new)) result }
     ensures untouched { OnErr result (has_failed writer.new ≡ false → writer.new ≡ writer.old) }
     ensures mark { has_failed writer.new ≡ (has_failed writer.old || is_failed_write result) }
 {
-    let index = select_part(alloc, source, part, looks, seed)?;
+    let index = match select_part(alloc, source, part, looks, seed) {
+        Ok(index) => index,
+        Err(fault) => return Err(fault),
+    };
     let since = match look_if(alloc, source, name, part, &index, looks, later, seed, zone) {
         Ok(since) => since,
         Err(fault) => return Err(fault),
     };
-    let told = report_of(alloc, name, writing.order, &index, &since)?;
-    match write_groups(alloc, writer, &index, writing) {
+    write_index(alloc, name, &index, &since, writing, writer)
+}
+
+/// Why the reading of a source ended, if units are wanted and it ended in front of the stop of their part; nothing if what came later is looked at.
+fn damage_among<A: Allocator>(
+    source: &Source<A>,
+    part: &Selection<'_>,
+    looks: bool,
+) -> Option<SumFault>
+    ensures { result ≡ damage_among looks (selection_of part.now) (end_of source.now) (fault_of source.now) }
+{
+    if looks {
+        None
+    } else {
+        damage_before(source, part, true)
+    }
+}
+
+/// Why nothing is written if no unit has the ids of a number: the log may be damaged.
+fn no_unit<A: Allocator>(number: usize, damage: Option<SumFault>) -> PartFault<A>
+    ensures { IsNoUnit number damage result }
+{
+    match damage {
+        Some(damage) => PartFault::Sums(damage),
+        None => PartFault::NoUnitWithGtid(number),
+    }
+}
+
+/// Looks at what came after the first wanted unit of the log of a source, if that is asked for.
+fn look_among_if<'n, A: Allocator + Copy, L: Read + Drop>(
+    alloc: A,
+    source: &Source<A>,
+    name: &'n [u8],
+    log: &Log<'_>,
+    inside: &Selection<'_>,
+    among: &Wanted<'_>,
+    index: &Index<'_, '_, A>,
+    leaving: Leaving<A>,
+    looks: bool,
+    later: Vec<GivenLog<'n, L>, A>,
+    seed: u64,
+    zone: TimeZone<'_>,
+) -> Result<Option<Since<'n, A>>, PartFault<A>>
+    requires bytes { log_bytes log.now ≡ log_of source.now }
+    requires kept { index_bytes index.now ≡ kept_log (selection_of inside.now) (log_of source.now) (chosen_units among.now (selection_of inside.now) (log_of source.now)) }
+    requires selection { index_selection index.now ≡ all }
+    requires left { looks ≡ true → HasLeft (chosen_changes (selection_of inside.now) (log_of source.now) (chosen_units among.now (selection_of inside.now) (log_of source.now))) leaving }
+    ensures { Looks looks L.remaining later.entry.items (chosen_taken name.now among.now (selection_of inside.now) (log_of source.now) (end_of source.now) (fault_of source.now)) result }
+{
+    if looks {
+        match look_after_units(
+            alloc, source, name, log, inside, among, index, leaving, later, seed, zone,
+        ) {
+            Ok(since) => Ok(Some(since)),
+            Err(fault) => Err(fault),
+        }
+    } else {
+        Ok(None)
+    }
+}
+
+/// Writes the wanted units of a part of the log of a source.
+fn write_units<'n, A: Allocator + Copy, L: Read + Drop, W: Write>(
+    alloc: A,
+    source: &Source<A>,
+    name: &'n [u8],
+    part: &Selection<'_>,
+    wanted: &Wanted<'_>,
+    looks: bool,
+    later: Vec<GivenLog<'n, L>, A>,
+    seed: u64,
+    zone: TimeZone<'_>,
+    writing: &Writing<'_>,
+    writer: &mut Watched<W>,
+) -> Result<Vec<u8, A>, PartFault<A>>
+    requires short { HasShortWriting writing.now }
+    requires opens { opening_fault (log_of source.now) ≡ None }
+    ensures writes { WritesHanded looks L.remaining later.entry.items writing.now name.now (selection_of part.now) (Some wanted.now) (log_of source.now) (end_of source.now) (fault_of source.now)
+        (W.contents (device_of writer.old)) (W.contents (device_of writer.new)) result }
+    ensures untouched { OnErr result (has_failed writer.new ≡ false → writer.new ≡ writer.old) }
+    ensures mark { has_failed writer.new ≡ (has_failed writer.old || is_failed_write result) }
+{
+    if !has_start(source, part) {
+        return Err(no_start(source, part, source.fault()));
+    }
+    let log = match Log::open(source.bytes()) {
+        Ok(log) => log.with_seed(seed),
+        Err(fault) => return Err(PartFault::Run(RunFault::Log(fault))),
+    };
+    let inside = inside_of(source, part);
+    let among = Wanted {
+        start: None,
+        stop: inside.stop,
+        ..*wanted
+    };
+    if let Some(number) = first_missing(&log, &inside, wanted.gtids) {
+        return Err(no_unit(number, damage_before(source, part, true)));
+    }
+    let damage = damage_among(source, part, looks);
+    let Chosen {
+        gathered,
+        places,
+        leaving,
+    } = match choose(alloc, source, &log, &inside, &among, damage, looks) {
+        Ok(chosen) => chosen,
+        Err(fault) => return Err(fault),
+    };
+    let index = match index_of_chosen(alloc, source, &inside, &among, &gathered, &places, seed) {
+        Ok(index) => index,
+        Err(fault) => return Err(fault),
+    };
+    let since = match look_among_if(
+        alloc, source, name, &log, &inside, &among, &index, leaving, looks, later, seed, zone,
+    ) {
+        Ok(since) => since,
+        Err(fault) => return Err(fault),
+    };
+    write_index(alloc, name, &index, &since, writing, writer)
+}
+
+/// Writes the groups of an index, and returns the report of them and of what was seen of what came later.
+fn write_index<'n, A: Allocator + Copy, W: Write>(
+    alloc: A,
+    name: &'n [u8],
+    index: &Index<'_, '_, A>,
+    since: &Option<Since<'n, A>>,
+    writing: &Writing<'_>,
+    writer: &mut Watched<W>,
+) -> Result<Vec<u8, A>, PartFault<A>>
+    requires { HasShortWriting writing.now }
+    ensures writes { WritesIndex writing.now name.now (option_map since_seen since.now) (index_bytes index.now) (index_selection index.now) (W.contents (device_of writer.old)) (W.contents (device_of writer.new)) result }
+    ensures untouched { OnErr result (has_failed writer.new ≡ false → writer.new ≡ writer.old) }
+    ensures mark { has_failed writer.new ≡ (has_failed writer.old || is_failed_write result) }
+{
+    let told = report_of(alloc, name, writing.order, index, since)?;
+    match write_groups(alloc, writer, index, writing) {
         Ok(()) => Ok(told),
         Err(WritingFault::Log(fault)) => Err(PartFault::Run(RunFault::Log(fault))),
         Err(WritingFault::TooLong) => Err(PartFault::TooLong),
         Err(WritingFault::NoSchema(number)) => {
-            Err(PartFault::NoSchema(lacking(alloc, &index, writing, number)?))
+            Err(PartFault::NoSchema(lacking(alloc, index, writing, number)?))
         }
         Err(WritingFault::Write) => Err(PartFault::Run(RunFault::Write)),
     }

@@ -11,6 +11,7 @@ use Rattle.blog_trans.specs.Acceptance.{fault, IsAccepted, IsRefusal}
 use Rattle.blog_trans.specs.declared.groups.Index.{Index}
 use Rattle.blog_trans.specs.code.IndexView.{index_bytes, index_selection}
 use Rattle.blog_trans.specs.Places.{kind_at, placed}
+use Rattle.blog_trans.specs.Selection.{Selection}
 use Rattle.blog_units.specs.declared.part.Part.{Part}
 use Rattle.blog_units.specs.declared.unit.GlobalId as told
 use Rattle.blog_units.specs.declared.unit.Seen.{Seen}
@@ -35,15 +36,14 @@ facts_told unit = record {
   whole = unit.whole;
 }
 
--- these are the groups of the range from a start to a stop, or this is the range's fault
-abbrev pub AreGroups : {A : Type 0} → List ℕ → ℕ → ℕ → Result (Index A) Fault → Type 0
-AreGroups bytes start stop groups =
-    let sel = between start stop in
+-- these are the groups of a range, or this is the range's fault
+abbrev pub AreGroups : {A : Type 0} → List ℕ → Selection → Result (Index A) Fault → Type 0
+AreGroups bytes sel groups =
     MatchResult groups (λ index. IsAccepted bytes sel × (index_bytes index ≡ bytes) × (index_selection index ≡ sel)) (IsRefusal (fault bytes sel))
 
 -- a unit tells what may be undone of its own range
 abbrev pub IsJudged : {A : Type 0} → List ℕ → given.Unit A → Type 0
-IsJudged bytes unit = AreGroups bytes unit.facts.start unit.facts.stop unit.groups
+IsJudged bytes unit = AreGroups bytes (between unit.facts.start unit.facts.stop) unit.groups
 
 -- the first event, from a position on, that begins a unit, which has this part with it
 pub record IsFirst (bytes : List ℕ) (from : ℕ) (found : event.Event × Part) : Type 0 where

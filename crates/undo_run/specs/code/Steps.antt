@@ -1,33 +1,47 @@
--- What comes of opening logs for a part, of selecting the part, of looking at what came later, and of writing it.
-use Rattle.std.specs.Prelude.{◌≡◌, ◌⊎◌, ℕ, ◌<◌, ⊤, Bool, true, false, List, ◌∷◌, [], ◌++◌, length, map, Option, Some, None, Vec, Result, Ok, Err}
+-- What comes of opening logs for a part, of looking at what came later, and of writing what is taken.
+use Rattle.std.specs.Prelude.{◌≡◌, ◌⊎◌, ℕ, ◌+◌, ◌<◌, ⊤, Bool, true, false, List, ◌∷◌, [], ◌++◌, length, map, Option, Some, None, Vec, Result, Ok, Err}
 use Rattle.std.specs.Io.KnownBytes.{Appends, Keeps}
 use Rattle.blog_choice.specs.Choice.{Choice}
 use Rattle.blog_device.specs.Devices.{AppendsBeginning, PassesLimit, ReadsLog, greatest_length}
-use Rattle.list_run.specs.Listed.{AreRead, IsRead, NamedLog}
 use Rattle.blog_device.specs.declared.fault.RunFault.TheVariants as run
-use Rattle.list_run.specs.declared.given.GivenLog.{GivenLog}
 use Rattle.blog_event.specs.Opening.{opening_fault}
+use Rattle.blog_event.specs.declared.fault.Fault.{Fault}
 use Rattle.blog_event.specs.declared.fault.Fault.TheVariants.{OutOfMemory, TooLong as TooLongLog}
+use Rattle.blog_gathered.specs.code.GatheredView.{IsGathered}
+use Rattle.blog_gathered.specs.declared.gathered.Gathered.{Gathered}
+use Rattle.blog_later.specs.Among.{Step, touches_among}
+use Rattle.blog_later.specs.Prints.{Left}
+use Rattle.blog_later.specs.code.Counted.{at_most}
+use Rattle.blog_later.specs.code.LeavingView.{HasLeft}
+use Rattle.blog_request.specs.Ids.{Ids}
+use Rattle.blog_request.specs.declared.wanted.Wanted.{Wanted}
+use Rattle.blog_run.specs.Writing.{CanBeWritten, end_of_text, lacks, text_of}
+use Rattle.blog_run.specs.declared.writing.Writing.{Writing}
 use Rattle.blog_source.specs.Found.{found_of, source_refusal}
 use Rattle.blog_source.specs.Handed.{handed_log}
 use Rattle.blog_source.specs.code.SourceView.{end_of, fault_of, log_of}
 use Rattle.blog_source.specs.declared.reading.Reading.{Reading}
 use Rattle.blog_source.specs.declared.source.Source.{Source}
-use Rattle.blog_later.specs.Prints.{Left}
 use Rattle.blog_sum.specs.declared.fault.SumFault.{SumFault}
-use Rattle.blog_trans.specs.Changes.{Change}
+use Rattle.blog_trans.specs.Changes.{Change, changes, counts_of}
 use Rattle.blog_trans.specs.Groups.{groups}
-use Rattle.blog_trans.specs.Selection.{Selection}
-use Rattle.blog_run.specs.Writing.{CanBeWritten, end_of_text, lacks, text_of}
-use Rattle.blog_run.specs.declared.writing.Writing.{Writing}
-use Rattle.undo_run.specs.After.{AreChanged, AreSafe, Later, MayBeChanged}
-use Rattle.undo_run.specs.Parts.{AreLater, EndsEarly, FailsLater, FailsToOpen, HasFault, HasNoRows, IsSafe, IsSound, LacksStart, changes_of_part, counts_in_part, damage_before, rest_of, selection_in, since_told, tables_of_part, whole_log}
-use Rattle.undo_run.specs.Reports.{report}
+use Rattle.blog_trans.specs.Selection.{Selection, all}
+use Rattle.blog_trans.specs.code.IndexView.{index_bytes, index_selection}
+use Rattle.blog_trans.specs.declared.groups.Index.{Index}
+use Rattle.blog_units.specs.Units.{Facts, range_of_unit}
+use Rattle.list_run.specs.Listed.{AreRead, IsRead, NamedLog}
+use Rattle.list_run.specs.declared.given.GivenLog.{GivenLog}
+use Rattle.undo_run.specs.After.{AreChanged, Later, MayBeChanged, is_damaged, later_step, touches, unknown_units}
+use Rattle.undo_run.specs.Parts.{IsPlaced, is_at_end}
+use Rattle.undo_run.specs.Reports.{Since, report}
+use Rattle.undo_run.specs.Taken.{FailsLater, FailsToOpen, IsSafe, OfLater, Taken, after, since_told, steps_after, tables_taken, whole_log}
+use Rattle.undo_run.specs.Units.{AreSound, IsMissing, RefusesChosen, are_found, chosen_range, chosen_units, ids_asked, kept_log}
 use Rattle.undo_run.specs.code.SinceView.{AreSeen, since_seen}
+use Rattle.undo_run.specs.declared.chosen.Chosen.{Chosen}
 use Rattle.undo_run.specs.declared.fault.OpeningFault.{OpeningFault}
 use Rattle.undo_run.specs.declared.fault.OpeningFault.TheVariants as opening
 use Rattle.undo_run.specs.declared.fault.PartFault.{PartFault}
-use Rattle.undo_run.specs.declared.fault.PartFault.TheVariants.{Run, Sums, NoEventAt, Log, NothingSelected, LaterLog, ChangedSince, UnknownSince, TooLong, NoSchema}
+use Rattle.undo_run.specs.declared.fault.PartFault.TheVariants.{Run, Sums, NoUnitWithGtid, Log, LaterLog, ChangedSince, UnknownSince, TooLong, NoSchema}
 use Rattle.undo_run.specs.declared.since.Since as told
 
 -- ---- opening a log
@@ -57,91 +71,116 @@ abbrev pub opening_cause : {A : Type 0} → OpeningFault → PartFault A
 opening_cause (opening.Run f) = Run f
 opening_cause (opening.Sums f) = Sums f
 
--- ---- selecting a part
-
--- why a part isn't selected
-abbrev pub Refuses : {A : Type 0} → Selection → List ℕ → ℕ → Option SumFault → PartFault A → Type 0
-Refuses part handed end damage (NoEventAt pos) = LacksStart part handed end damage pos
-Refuses part handed end damage (Sums f) = EndsEarly part handed end damage f
-Refuses part handed end damage (Log f) = HasFault part handed end damage f
-Refuses part handed end damage NothingSelected = HasNoRows part handed end damage
-Refuses part handed end damage cause = ⊥
-
 -- ---- looking at what came later
 
 -- this was seen of one more log, which was read; or it isn't opened, or memory was refused
-abbrev pub LooksInto : {A R : Type 0} → (R → Option (List ℕ)) → ℕ → GivenLog R → Left → Choice → List Later → Result (told.Since A) (PartFault A) → Type 0
-LooksInto known n given kept choice ls (Ok since) = (log : NamedLog) × IsRead known given log × AreSeen kept choice (ls ++ whole_log log ∷ []) since
-LooksInto known n given kept choice ls (Err (LaterLog m f)) = (m ≡ n) × FailsToOpen known given f
-LooksInto known n given kept choice ls (Err (Run (run.Log f))) = f ≡ OutOfMemory
-LooksInto known n given kept choice ls (Err cause) = ⊥
+abbrev pub LooksInto : {A R : Type 0} → (R → Option (List ℕ)) → ℕ → GivenLog R → Left → Choice → ℕ → List Later → Result (told.Since A) (PartFault A) → Type 0
+LooksInto known n given kept choice m ls (Ok since) = (log : NamedLog) × IsRead known given log × AreSeen (m + touches kept (whole_log log ∷ [])) choice (ls ++ whole_log log ∷ []) since
+LooksInto known n given kept choice m ls (Err (LaterLog k f)) = (k ≡ n) × FailsToOpen known given f
+LooksInto known n given kept choice m ls (Err (Run (run.Log f))) = f ≡ OutOfMemory
+LooksInto known n given kept choice m ls (Err cause) = ⊥
 
 -- of several
-abbrev pub LooksOn : {A R : Type 0} → (R → Option (List ℕ)) → List (GivenLog R) → Left → Choice → List Later → Result (told.Since A) (PartFault A) → Type 0
-LooksOn known givens kept choice ls (Ok since) = (logs : List NamedLog) × AreRead known givens logs × AreSeen kept choice (ls ++ map whole_log logs) since
-LooksOn known givens kept choice ls (Err (LaterLog n f)) = FailsLater known givens n f
-LooksOn known givens kept choice ls (Err (Run (run.Log f))) = f ≡ OutOfMemory
-LooksOn known givens kept choice ls (Err cause) = ⊥
+abbrev pub LooksOn : {A R : Type 0} → (R → Option (List ℕ)) → List (GivenLog R) → Left → Choice → ℕ → List Later → Result (told.Since A) (PartFault A) → Type 0
+LooksOn known givens kept choice m ls (Ok since) = (logs : List NamedLog) × AreRead known givens logs × AreSeen (m + touches kept (map whole_log logs)) choice (ls ++ map whole_log logs) since
+LooksOn known givens kept choice m ls (Err (LaterLog n f)) = FailsLater known givens n f
+LooksOn known givens kept choice m ls (Err (Run (run.Log f))) = f ≡ OutOfMemory
+LooksOn known givens kept choice m ls (Err cause) = ⊥
 
 -- what was seen touches nothing; or it does, or may
-abbrev pub Judges : {A : Type 0} → List Change → Choice → List Later → Result (told.Since A) (PartFault A) → Type 0
-Judges selected choice ls (Ok since) = AreSafe selected choice ls
-Judges selected choice ls (Err (ChangedSince rows lines)) = AreChanged selected ls rows
-Judges selected choice ls (Err (UnknownSince lines)) = MayBeChanged selected choice ls
-Judges selected choice ls (Err (Run (run.Log f))) = f ≡ OutOfMemory
-Judges selected choice ls (Err cause) = ⊥
+abbrev pub Judges : {A : Type 0} → ℕ → Choice → List Later → Result (told.Since A) (PartFault A) → Type 0
+Judges m choice ls (Ok since) = (m ≡ 0) × (unknown_units choice ls ≡ []) × (is_damaged ls ≡ false)
+Judges m choice ls (Err (ChangedSince rows lines)) = (rows ≡ at_most m) × (0 < m)
+Judges m choice ls (Err (UnknownSince lines)) = (m ≡ 0) × ((0 < length (unknown_units choice ls)) ⊎ (is_damaged ls ≡ true))
+Judges m choice ls (Err (Run (run.Log f))) = f ≡ OutOfMemory
+Judges m choice ls (Err cause) = ⊥
 
--- of the rest of a log, and of later logs that were read
-abbrev pub OfLater : {R : Type 0} → Bool → (R → Option (List ℕ)) → List (GivenLog R) → List ℕ → Selection → List ℕ → ℕ → Option SumFault → (List Later → Type 0) → Type 0
-OfLater looks known givens name part handed end fault P =
-    (logs : List NamedLog) × AreLater looks known givens logs × P (rest_of name part handed end fault ∷ map whole_log logs)
+-- so many changes of steps take a row that was left before, and as many more of later logs do as take one by these fingerprints
+abbrev pub CountsOn : Left → ℕ → List Step → Type 0
+CountsOn kept m ss = (ls : List Later) → m + touches kept ls ≡ touches_among (ss ++ map later_step ls)
 
--- what comes of looking at them
-abbrev pub LooksAt : {A R : Type 0} → (R → Option (List ℕ)) → List (GivenLog R) → List ℕ → Selection → List ℕ → ℕ → Option SumFault → Result (told.Since A) (PartFault A) → Type 0
-LooksAt known givens name part handed end fault (Ok since) = OfLater true known givens name part handed end fault
-    (λ ls. IsSafe part handed ls × (Some (since_seen since) ≡ since_told true part handed ls))
-LooksAt known givens name part handed end fault (Err (ChangedSince rows lines)) = OfLater true known givens name part handed end fault
-    (λ ls. AreChanged (changes_of_part part handed) ls rows)
-LooksAt known givens name part handed end fault (Err (UnknownSince lines)) = OfLater true known givens name part handed end fault
-    (λ ls. MayBeChanged (changes_of_part part handed) (tables_of_part part handed) ls)
-LooksAt known givens name part handed end fault (Err (LaterLog n f)) = FailsLater known givens n f
-LooksAt known givens name part handed end fault (Err (Run (run.Log f))) = f ≡ OutOfMemory
-LooksAt known givens name part handed end fault (Err cause) = ⊥
+-- what comes of looking at what came after what is taken
+abbrev pub LooksAt : {A R : Type 0} → (R → Option (List ℕ)) → List (GivenLog R) → Taken → Result (told.Since A) (PartFault A) → Type 0
+LooksAt known givens t (Ok since) = OfLater true known givens (λ logs. IsSafe t logs × (Some (since_seen since) ≡ since_told true t logs))
+LooksAt known givens t (Err (ChangedSince rows lines)) = OfLater true known givens (λ logs. AreChanged (steps_after t logs) rows)
+LooksAt known givens t (Err (UnknownSince lines)) = OfLater true known givens (λ logs. MayBeChanged (steps_after t logs) (tables_taken t) (after t logs))
+LooksAt known givens t (Err (LaterLog n f)) = FailsLater known givens n f
+LooksAt known givens t (Err (Run (run.Log f))) = f ≡ OutOfMemory
+LooksAt known givens t (Err cause) = ⊥
 
 -- the same where it is asked for
-abbrev pub Looks : {A R : Type 0} → Bool → (R → Option (List ℕ)) → List (GivenLog R) → List ℕ → Selection → List ℕ → ℕ → Option SumFault → Result (Option (told.Since A)) (PartFault A) → Type 0
-Looks {A = A} true known givens name part handed end fault (Ok (Some since)) = LooksAt {A = A} known givens name part handed end fault (Ok since)
-Looks true known givens name part handed end fault (Ok None) = ⊥
-Looks true known givens name part handed end fault (Err cause) = LooksAt known givens name part handed end fault (Err cause)
-Looks false known givens name part handed end fault (Ok since) = since ≡ None
-Looks false known givens name part handed end fault (Err cause) = ⊥
+abbrev pub Looks : {A R : Type 0} → Bool → (R → Option (List ℕ)) → List (GivenLog R) → Taken → Result (Option (told.Since A)) (PartFault A) → Type 0
+Looks {A = A} true known givens t (Ok (Some since)) = LooksAt {A = A} known givens t (Ok since)
+Looks true known givens t (Ok None) = ⊥
+Looks true known givens t (Err cause) = LooksAt known givens t (Err cause)
+Looks false known givens t (Ok since) = since ≡ None
+Looks false known givens t (Err cause) = ⊥
+
+-- ---- choosing units
+
+-- the changes of each of these units
+abbrev pub chosen_changes : Selection → List ℕ → List Facts → List (List Change)
+chosen_changes sel handed us = map (λ u. changes handed (range_of_unit sel u)) us
+
+-- their groups are gathered, if there are any
+abbrev pub IsKept : {A : Type 0} → Selection → List ℕ → List Facts → Option (Gathered A) → Type 0
+IsKept sel handed us None = us ≡ []
+IsKept sel handed us (Some gathered) = (u : Facts) × (vs : List Facts) × (us ≡ u ∷ vs) × IsGathered (chosen_range sel handed u) (map (chosen_range sel handed) us) gathered
+
+-- and the rows that they left, if that is asked
+pub record HasChosen {A : Type 0} (looks : Bool) (sel : Selection) (handed : List ℕ) (us : List Facts) (chosen : Chosen A) : Type 0 where
+  pub kept : IsKept sel handed us chosen.gathered
+  pub left : looks ≡ true → HasLeft (chosen_changes sel handed us) chosen.leaving
+
+-- what comes of adding the groups of one more, which is accepted
+abbrev pub Gathers : {A : Type 0} → Selection → List ℕ → List Facts → Result (Gathered A) (PartFault A) → Type 0
+Gathers sel handed us (Ok gathered) = IsKept sel handed us (Some gathered)
+Gathers sel handed us (Err (Run (run.Log f))) = f ≡ OutOfMemory
+Gathers sel handed us (Err TooLong) = 4294967295 < length (kept_log sel handed us)
+Gathers sel handed us (Err cause) = ⊥
+
+abbrev pub Adds : {A : Type 0} → Bool → Selection → List ℕ → List Facts → Result (Chosen A) (PartFault A) → Type 0
+Adds looks sel handed us (Ok chosen) = HasChosen looks sel handed us chosen
+Adds looks sel handed us (Err (Run (run.Log f))) = f ≡ OutOfMemory
+Adds looks sel handed us (Err TooLong) = 4294967295 < length (kept_log sel handed us)
+Adds looks sel handed us (Err cause) = ⊥
+
+-- why a unit is refused that has a fault, or for which memory was refused
+abbrev pub RefusesFor : {A : Type 0} → List ℕ → ℕ → Option SumFault → Fault → PartFault A → Type 0
+RefusesFor handed end damage inner (Sums f) = (damage ≡ Some f) × (is_at_end handed inner ≡ true)
+RefusesFor handed end damage inner (Log f) = ((damage ≡ None) ⊎ (is_at_end handed inner ≡ false)) × IsPlaced handed end inner f
+RefusesFor handed end damage inner cause = ⊥
+
+-- what comes of choosing units
+abbrev pub Chooses : {A : Type 0} → Bool → Wanted → Selection → List ℕ → ℕ → Option SumFault → Result (Chosen A) (PartFault A) → Type 0
+Chooses looks w sel handed end damage (Ok chosen) = (damage ≡ None) × HasChosen looks sel handed (chosen_units w sel handed) chosen
+Chooses looks w sel handed end damage (Err (Run (run.Log f))) = f ≡ OutOfMemory
+Chooses looks w sel handed end damage (Err cause) = RefusesChosen w sel handed end damage cause
+
+-- what comes of looking for asked ids that no unit has
+abbrev pub FindsMissing : List Ids → Selection → List ℕ → Option ℕ → Type 0
+FindsMissing asked sel handed None = are_found asked sel handed ≡ true
+FindsMissing asked sel handed (Some n) = IsMissing asked sel handed n
+
+-- why nothing is written if no unit has the ids of a number
+abbrev pub IsNoUnit : {A : Type 0} → ℕ → Option SumFault → PartFault A → Type 0
+IsNoUnit n damage (NoUnitWithGtid m) = (damage ≡ None) × (m ≡ n)
+IsNoUnit n damage (Sums f) = damage ≡ Some f
+IsNoUnit n damage cause = ⊥
+
+-- what comes of indexing their groups
+abbrev pub Indexes : {A : Type 0} → Wanted → Selection → List ℕ → ℕ → Result (Index A) (PartFault A) → Type 0
+Indexes w sel handed end (Ok index) = (are_found (ids_asked w) sel handed ≡ true → AreSound w sel handed None) × (index_bytes index ≡ kept_log sel handed (chosen_units w sel handed)) × (index_selection index ≡ all)
+Indexes w sel handed end (Err cause) = RefusesChosen w sel handed end None cause
 
 -- ---- writing it
 
--- the part is sound, and nothing that came later touches it
-abbrev pub IsFree : Bool → Selection → List ℕ → ℕ → Option SumFault → List Later → Type 0
-IsFree looks part handed end fault ls = IsSound part handed end (damage_before looks part end fault) × (looks ≡ true → IsSafe part handed ls)
-
--- the part is written, and reported; or a beginning of it; or nothing
-abbrev pub WritesOpened : {A R : Type 0} → Bool → (R → Option (List ℕ)) → List (GivenLog R) → Writing → List ℕ → Selection → List ℕ → ℕ → Option SumFault → Option (List ℕ) → Option (List ℕ) → Result (Vec ℕ A) (PartFault A) → Type 0
-WritesOpened looks known givens w name part handed end fault had has (Ok told) = OfLater looks known givens name part handed end fault (λ ls. IsFree looks part handed end fault ls
-    × CanBeWritten w.sql w.order w.limit handed (selection_in part handed) × Appends had has (text_of w.sql w.order w.limit handed (selection_in part handed))
-    × (told.items ≡ report w.order name (length (groups handed (selection_in part handed))) (counts_in_part part handed) (since_told looks part handed ls)))
-WritesOpened looks known givens w name part handed end fault had has (Err (Run run.Write)) = OfLater looks known givens name part handed end fault (λ ls. IsFree looks part handed end fault ls
-    × CanBeWritten w.sql w.order w.limit handed (selection_in part handed) × AppendsBeginning had has (text_of w.sql w.order w.limit handed (selection_in part handed)))
-WritesOpened looks known givens w name part handed end fault had has (Err (Run (run.Log f))) = (f ≡ OutOfMemory) × Keeps had has
-WritesOpened looks known givens w name part handed end fault had has (Err (Run run.Read)) = ⊥
-WritesOpened looks known givens w name part handed end fault had has (Err TooLong) = OfLater looks known givens name part handed end fault (λ ls. IsFree looks part handed end fault ls
-    × (4294967295 < end_of_text w.sql w.order w.limit handed (selection_in part handed))) × Keeps had has
-WritesOpened looks known givens w name part handed end fault had has (Err (NoSchema text)) = OfLater looks known givens name part handed end fault (λ ls. IsFree looks part handed end fault ls
-    × ((n : ℕ) × (lacks w.sql (groups handed (selection_in part handed)) ≡ Some n))) × Keeps had has
-WritesOpened looks known givens w name part handed end fault had has (Err (LaterLog n f)) =
-    IsSound part handed end (damage_before looks part end fault) × (looks ≡ true) × FailsLater known givens n f × Keeps had has
-WritesOpened looks known givens w name part handed end fault had has (Err (ChangedSince rows lines)) = OfLater looks known givens name part handed end fault
-    (λ ls. IsSound part handed end (damage_before looks part end fault) × (looks ≡ true) × AreChanged (changes_of_part part handed) ls rows) × Keeps had has
-WritesOpened looks known givens w name part handed end fault had has (Err (UnknownSince lines)) = OfLater looks known givens name part handed end fault
-    (λ ls. IsSound part handed end (damage_before looks part end fault) × (looks ≡ true) × MayBeChanged (changes_of_part part handed) (tables_of_part part handed) ls) × Keeps had has
-WritesOpened looks known givens w name part handed end fault had has (Err (NoEventAt pos)) = LacksStart part handed end (damage_before looks part end fault) pos × Keeps had has
-WritesOpened looks known givens w name part handed end fault had has (Err (Sums f)) = EndsEarly part handed end (damage_before looks part end fault) f × Keeps had has
-WritesOpened looks known givens w name part handed end fault had has (Err (Log f)) = HasFault part handed end (damage_before looks part end fault) f × Keeps had has
-WritesOpened looks known givens w name part handed end fault had has (Err NothingSelected) = HasNoRows part handed end (damage_before looks part end fault) × Keeps had has
+-- groups of a log are written, and this is reported of them; or a beginning; or nothing
+abbrev pub WritesIndex : {A : Type 0} → Writing → List ℕ → Option Since → List ℕ → Selection → Option (List ℕ) → Option (List ℕ) → Result (Vec ℕ A) (PartFault A) → Type 0
+WritesIndex w name since log sel had has (Ok told) = CanBeWritten w.sql w.order w.limit log sel × Appends had has (text_of w.sql w.order w.limit log sel)
+    × (told.items ≡ report w.order name (length (groups log sel)) (counts_of (groups log sel)) since)
+WritesIndex w name since log sel had has (Err (Run run.Write)) = CanBeWritten w.sql w.order w.limit log sel × AppendsBeginning had has (text_of w.sql w.order w.limit log sel)
+WritesIndex w name since log sel had has (Err (Run (run.Log f))) = (f ≡ OutOfMemory) × Keeps had has
+WritesIndex w name since log sel had has (Err TooLong) = (4294967295 < end_of_text w.sql w.order w.limit log sel) × Keeps had has
+WritesIndex w name since log sel had has (Err (NoSchema text)) = ((n : ℕ) × (lacks w.sql (groups log sel) ≡ Some n)) × Keeps had has
+WritesIndex w name since log sel had has (Err cause) = ⊥

@@ -2,7 +2,7 @@ use Rattle.std.proofs.Common.{◌++◌, ap, sym, ◌∙◌}
 use Rattle.blog_row.specs.TableMap.{map_names}
 use Rattle.blog_row.specs.code.LayoutView.{layout_columns}
 use Rattle.blog_row.specs.code.RowsView.{rows_left}
-use Rattle.blog_later.specs.Prints.{print_of, prints_left, table_print}
+use Rattle.blog_later.specs.Prints.{print_in, prints_left, table_print}
 use Rattle.blog_later.specs.code.EventChanges.{images_changes}
 use Rattle.blog_later.proofs.EventChanges.{seen-changed}
 use Rattle.blog_later.proofs.leaving.put_rows.Goals as goal
@@ -16,6 +16,6 @@ loop-row-init g c =
     record {
       next = tt;
       finite = tt;
-      rows = ap (λ cs. c.args.rows.now.items ++ prints_left print_of cs) same;
+      rows = ap (λ cs. c.args.rows.now.items ++ prints_left (print_in c.args.list) cs) same;
       tables = ap (λ cs. c.args.tables.now.items ++ prints_left (λ r. table_print r.table) cs) same;
     }

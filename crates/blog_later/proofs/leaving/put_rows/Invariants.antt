@@ -4,7 +4,7 @@ use Rattle.blog_row.specs.code.RowsView.{rows_left}
 use Rattle.blog_row.specs.TableMap.{map_names}
 use Rattle.blog_trans.specs.code.GroupEventsView.{event_seen}
 use Rattle.blog_trans.specs.declared.group_events.GroupEvent.TheVariants as given
-use Rattle.blog_later.specs.Prints.{print_of, prints_left, table_print}
+use Rattle.blog_later.specs.Prints.{print_in, prints_left, table_print}
 use Rattle.blog_later.specs.code.EventChanges.{event_changes, images_changes}
 use Rattle.blog_later.proofs.leaving.put_rows.Given as goal
 
@@ -13,8 +13,8 @@ abbrev pub invariant-loop-row : goal.invariant-loop-row
 invariant-loop-row g l = record {
   next : (goal.iterator-loop-row g).can_next l.row-iterator;
   finite : (goal.iterator-loop-row g).is_finite l.row-iterator;
-  rows : l.rows.items ++ prints_left print_of (images_changes (map_names l.group.table).table (layout_columns l.group.rows.layout) (rows_left l.row-iterator))
-      ≡ l.fn.rows.items ++ prints_left print_of (event_changes (event_seen (given.Rows l.group)));
+  rows : l.rows.items ++ prints_left (print_in l.list) (images_changes (map_names l.group.table).table (layout_columns l.group.rows.layout) (rows_left l.row-iterator))
+      ≡ l.fn.rows.items ++ prints_left (print_in l.list) (event_changes (event_seen (given.Rows l.group)));
   tables : l.tables.items ++ prints_left (λ r. table_print r.table) (images_changes (map_names l.group.table).table (layout_columns l.group.rows.layout) (rows_left l.row-iterator))
       ≡ l.fn.tables.items ++ prints_left (λ r. table_print r.table) (event_changes (event_seen (given.Rows l.group)));
 }

@@ -2,8 +2,8 @@ use Rattle.std.proofs.Common.{◌≡◌}
 use Rattle.blog_choice.specs.code.ChosenView.{names_choice}
 use Rattle.blog_event.specs.code.LogView.{log_bytes}
 use Rattle.blog_units.specs.code.UnitsView.{units_left, units_log}
-use Rattle.blog_later.specs.Later.{later_units}
-use Rattle.blog_later.specs.code.LookedView.{left_kept}
+use Rattle.blog_later.specs.Later.{later_units, touches_in}
+use Rattle.blog_later.specs.code.LookedView.{left_before}
 use Rattle.blog_later.proofs.Seen.{IsLooking}
 use Rattle.blog_later.proofs.looking.look.Given as goal
 
@@ -13,5 +13,5 @@ invariant-loop-unit g l = record {
   next : (goal.iterator-loop-unit g).can_next l.unit-iterator;
   finite : (goal.iterator-loop-unit g).is_finite l.unit-iterator;
   log : units_log l.unit-iterator ≡ l.log;
-  looking : IsLooking (left_kept l.left) (names_choice l.names) (log_bytes l.log) (later_units (log_bytes l.log) l.at) l.looked (units_left l.unit-iterator);
+  looking : IsLooking (touches_in (left_before l.left l.lists) (log_bytes l.log)) (names_choice l.names) (log_bytes l.log) (later_units (log_bytes l.log) l.at) l.looked (units_left l.unit-iterator);
 }

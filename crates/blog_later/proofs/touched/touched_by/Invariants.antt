@@ -4,7 +4,7 @@ use Rattle.blog_trans.specs.Changes.{changes}
 use Rattle.blog_trans.specs.code.GroupEventsView.{events_left}
 use Rattle.blog_trans.specs.code.IndexView.{index_bytes, index_selection}
 use Rattle.blog_later.specs.Prints.{takes_left}
-use Rattle.blog_later.specs.code.LookedView.{left_kept}
+use Rattle.blog_later.specs.code.LookedView.{left_before}
 use Rattle.blog_later.specs.code.EventChanges.{events_changes}
 use Rattle.blog_later.specs.code.Counted.{at_most}
 use Rattle.blog_later.proofs.touched.touched_by.Given as goal
@@ -15,6 +15,6 @@ invariant-loop-event g l = record {
   next : (goal.iterator-loop-event g).can_next l.event-iterator;
   finite : (goal.iterator-loop-event g).is_finite l.event-iterator;
   counted : (n : ℕ) × (l.touched ≡ at_most n)
-      × (n + length (filter (takes_left (left_kept l.left)) (events_changes (events_left l.event-iterator)))
-      ≡ length (filter (takes_left (left_kept l.left)) (changes (index_bytes l.index) (index_selection l.index))));
+      × (n + length (filter (takes_left (left_before l.left l.lists)) (events_changes (events_left l.event-iterator)))
+      ≡ length (filter (takes_left (left_before l.left l.lists)) (changes (index_bytes l.index) (index_selection l.index))));
 }

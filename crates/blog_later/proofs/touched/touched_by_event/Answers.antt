@@ -10,7 +10,7 @@ use Rattle.blog_row.specs.code.RowsView.{row_seen, rows_left}
 use Rattle.blog_trans.specs.Changes.{Change}
 use Rattle.blog_later.specs.Prints.{takes_left}
 use Rattle.blog_later.specs.code.Counted.{at_most}
-use Rattle.blog_later.specs.code.LookedView.{left_kept}
+use Rattle.blog_later.specs.code.LookedView.{left_before}
 use Rattle.blog_later.specs.code.EventChanges.{image_changes, images_changes}
 use Rattle.blog_later.proofs.Counting.{counted-more, counted-none, just-one}
 use Rattle.blog_later.proofs.EventChanges.{seen-changed}
@@ -22,7 +22,7 @@ loop-row-init g c =
     let group = c.args.group.now in
     let rows = ap (λ rows. images_changes (map_names group.table).table (layout_columns group.rows.layout) (rows_left rows)) c.into_iter-row-iterator.ensures.into_iter_gives
     ∙ ap (images_changes (map_names group.table).table (layout_columns group.rows.layout)) c.rows-row-items.ensures.rows in
-    record { next = tt; finite = tt; counted = counted-none (takes_left (left_kept c.args.left.now)) _ _ (rows ∙ sym (seen-changed group c.requires)) }
+    record { next = tt; finite = tt; counted = counted-none (takes_left (left_before c.args.left.now c.args.lists)) _ _ (rows ∙ sym (seen-changed group c.requires)) }
 
 pub loop-row-preserved-then-is_touched : goal.loop-row-preserved-then-is_touched
 loop-row-preserved-then-is_touched g c =
@@ -35,14 +35,14 @@ loop-row-preserved-then-is_touched g c =
     record {
       next = tt;
       finite = tt;
-      counted = rw c.saturating_add-touched.ensures (counted-more (takes_left (left_kept c.args.left.now)) _ 1 _ _ (image_changes table layout row.before row.after) (images_changes table layout (rows_left c.next.new.self))
+      counted = rw c.saturating_add-touched.ensures (counted-more (takes_left (left_before c.args.left.now c.args.lists)) _ 1 _ _ (image_changes table layout row.before row.after) (images_changes table layout (rows_left c.next.new.self))
           (ap (images_changes table layout) c.in-Some.ensures.steps) (just-one c.is_touched.result _ touched c.if-is_touched.true) c.loop-row.invariant.counted);
     }
 
 pub returns-then-not-has_table : goal.returns-then-not-has_table
 returns-then-not-has_table g c =
     let group = c.args.group.now in
-    let left = left_kept c.args.left.now in
+    let left = left_before c.args.left.now c.args.lists in
     let print = c.finish.ensures ∙ ap finish c.table_hasher-hasher.ensures in
     let out = ap (λ (p : ℕ). list_any (nat_eq p) c.args.left.now.tables.items) (sym print) ∙ sym c.has_table.ensures ∙ c.if-not-has_table.true in
     sym (ap (λ (cs : List Change). at_most (length (filter (takes_left left) cs))) (seen-changed group c.requires)

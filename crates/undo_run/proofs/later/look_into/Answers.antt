@@ -1,15 +1,19 @@
-use Rattle.std.proofs.Common.{◌++◌, ◌∷◌, [], List, ℕ, subst}
+use Rattle.std.proofs.Common.{◌+◌, ◌++◌, ◌∷◌, [], List, ℕ, subst}
 use Rattle.blog_choice.specs.code.ChosenView.{names_choice}
 use Rattle.blog_device.specs.Watched.{device_of}
-use Rattle.blog_later.specs.code.LookedView.{left_kept}
+use Rattle.blog_later.specs.Later.{later_units, touches_in}
+use Rattle.blog_later.specs.code.LookedView.{left_before}
+use Rattle.blog_source.specs.code.SourceView.{log_of}
 use Rattle.undo_run.specs.code.SinceView.{AreSeen, later_of}
 use Rattle.undo_run.proofs.InTurn.{one-looked}
 use Rattle.undo_run.proofs.later.look_into.Goals as goal
 
 pub returns : goal.returns
-returns g c ls seen =
-    let kept = left_kept c.args.left.now in
+returns g c m ls seen =
+    let kept = left_before c.args.left.now c.args.lists in
     let choice = names_choice c.args.names.now in
     let since = c.in_ok-look_on.field-0 in
-    one-looked g.row.A.Denot g.L.Read.remaining c.args.n c.args.given kept choice ls (g.L.Read.remaining (device_of c.open_log.new.reader)) c.in-Ok.source since c.in-Ok.ensures.opens
-    (subst (λ (name : List ℕ). AreSeen kept choice (ls ++ later_of name c.in-Ok.source 0 ∷ []) since) c.as_bytes-name.ensures.value (c.in_ok-look_on.ensures ls seen))
+    let source = c.in-Ok.source in
+    one-looked g.row.A.Denot g.L.Read.remaining c.args.n c.args.given kept choice m ls (g.L.Read.remaining (device_of c.open_log.new.reader)) source since c.in-Ok.ensures.opens
+    (subst (λ (name : List ℕ). AreSeen (m + touches_in kept (log_of source) (later_units (log_of source) 0)) choice (ls ++ later_of name source (later_units (log_of source) 0) ∷ []) since) c.as_bytes-name.ensures.value
+    (c.in_ok-look_on.ensures m ls seen))

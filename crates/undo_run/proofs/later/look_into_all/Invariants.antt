@@ -1,7 +1,7 @@
-use Rattle.std.proofs.Common.{◌≡◌, ◌++◌, List, length}
+use Rattle.std.proofs.Common.{◌≡◌, ◌++◌, List, ℕ, length}
 use Rattle.std.specs.Vec.Iter.{into_iter_items, into_iter_len}
 use Rattle.blog_choice.specs.code.ChosenView.{names_choice}
-use Rattle.blog_later.specs.code.LookedView.{left_kept}
+use Rattle.blog_later.specs.code.LookedView.{left_before}
 use Rattle.undo_run.specs.After.{Later}
 use Rattle.undo_run.specs.code.SinceView.{AreSeen}
 use Rattle.undo_run.proofs.InTurn.{AreGoing}
@@ -13,5 +13,5 @@ invariant-logs g l = record {
   number : l.n ≡ length l.yielded;
   rest : l.yielded ++ into_iter_items l.given-iterator ≡ l.fn.later.items;
   left : length (into_iter_items l.given-iterator) ≡ into_iter_len l.given-iterator;
-  going : (ls : List Later) → AreSeen (left_kept l.left) (names_choice l.names) ls l.fn.since → AreGoing g.L.Read.remaining l.yielded (left_kept l.left) (names_choice l.names) ls l.since;
+  going : (m : ℕ) (ls : List Later) → AreSeen m (names_choice l.names) ls l.fn.since → AreGoing g.L.Read.remaining l.yielded (left_before l.left l.lists) (names_choice l.names) m ls l.since;
 }

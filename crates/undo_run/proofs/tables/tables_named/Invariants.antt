@@ -1,7 +1,7 @@
 use Rattle.std.proofs.Common.{◌≡◌, ◌++◌, drop, map}
 use Rattle.blog_choice.specs.code.Views.{name_value}
 use Rattle.blog_text.specs.code.Counted.{counts_in}
-use Rattle.undo_run.specs.Parts.{names_of}
+use Rattle.undo_run.specs.Taken.{names_of}
 use Rattle.undo_run.proofs.tables.tables_named.Given as goal
 
 -- the names of the tables are left from number n on

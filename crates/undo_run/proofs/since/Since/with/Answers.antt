@@ -8,7 +8,7 @@ use Rattle.undo_run.proofs.since.Since.with.Goals.{then-self, else-self}
 use Rattle.undo_run.proofs.since.Since.with.Goals as goal
 
 pub returns : goal.returns
-returns g c kept choice at ls looked seen =
+returns g c n m choice us ls looked seen =
     let name = c.args.name.now in
     let source = c.args.source.now in
     let few = c.len.type_inv in
@@ -17,7 +17,7 @@ returns g c kept choice at ls looked seen =
       | then-self w ↦ w.result-is ∙ w.if-self.true ∙ sym (ap (λ (b : Bool). b || is_some (fault_of source)) w.if-self.true)
       | else-self w ↦ w.result-is ∙ w.is_some.ensures ∙ ap is_some w.fault.ensures ∙ sym (ap (λ (b : Bool). b || is_some (fault_of source)) w.if-self.false)
     ] in
-    with-more kept choice ls (later_of name source at) c.args.looked.now c.args.self.now _ c.len.result c.len-2.result looked seen
+    with-more n m choice ls (later_of name source us) c.args.looked.now c.args.self.now _ c.len.result c.len-2.result looked seen
     (c.len.ensures ∙ c.args.looked.now.unknown.ok.0) (omega (arith, few)) (c.len-2.ensures ∙ c.args.looked.now.apart.ok.0) (omega (arith, short))
     c.saturating_add.ensures c.saturating_add-2.ensures c.saturating_add-3.ensures c.saturating_add-4.ensures
     (λ ps first. c.first_place.ensures ps first ∙ ap (λ (ats : List ℕ). slice_get (ps ++ map (place_at name (log_of source) (end_of source)) ats) 0) c.deref.ensures.value)

@@ -1,0 +1,84 @@
+//! Which transactions the arguments of `undo` and `redo` choose.
+
+ghost use Rattle.std.specs.Prelude.{◌≡◌, IfErr, IfOk};
+ghost use Rattle.clap.specs.Words.{found_of};
+ghost use Rattle.jiff.specs.Words.{plain_zone};
+ghost use Rattle.binlog_arguments.specs.Request.{HasUnits, IsUnitChoice, RefusesUnits, chooses_units};
+
+use crate::arguments::ArgumentsFault;
+use crate::list_arguments::{read_gtids, read_paths, read_threads, read_time};
+use crate::options::{GTID, START_TIME, STOP_TIME};
+use blog_choice::TableChoice;
+use blog_list::Side;
+use blog_request::{GlobalIds, Wanted};
+use clap::{ArgMatches, Command};
+use jiff::tz::TimeZone;
+use std::alloc::Allocator;
+
+/// Which transactions of a part of a log are chosen: those that meet each condition that is given.
+#[derive(Drop)]
+pub struct UnitChoice<'a, A: Allocator> {
+    /// Those of this time or later, in seconds since 1970 in UTC.
+    pub from_time: Option<u32>,
+    /// Those before this time.
+    pub to_time: Option<u32>,
+    /// Those of these threads; of any if there are none.
+    pub threads: Vec<u32, A>,
+    /// Those with one of these global transaction ids; with any or none if there are none.
+    pub gtids: Vec<GlobalIds<'a>, A>,
+    /// These ids as they were given, in order.
+    pub gtid_texts: Vec<&'a str, A>,
+}
+
+impl<A: Allocator> UnitChoice<'_, A> {
+    /// Returns which units are wanted. Returns None if all of them are: no time, thread or id is given.
+    pub fn wanted(&self) -> Option<Wanted<'_>>
+        ensures { HasUnits self.now result }
+    {
+        if !self.chooses_some() {
+            return None;
+        }
+        Some(Wanted {
+            start: None,
+            stop: None,
+            from_time: self.from_time,
+            to_time: self.to_time,
+            threads: self.threads.as_slice(),
+            gtids: self.gtids.as_slice(),
+            choice: TableChoice {
+                database: None,
+                tables: &[],
+                excluded: &[],
+            },
+        })
+    }
+
+    /// Whether a time, a thread or an id is given.
+    fn chooses_some(&self) -> bool
+        ensures { result ≡ chooses_units self.now }
+    {
+        self.from_time.is_some()
+            || self.to_time.is_some()
+            || !self.threads.is_empty()
+            || !self.gtids.is_empty()
+    }
+}
+
+/// Reads which transactions the arguments choose, with times in a zone.
+pub(crate) fn read_unit_choice<'a, A: Allocator + Copy>(
+    alloc: A,
+    command: &mut Command<'a>,
+    found: &ArgMatches<'a>,
+    zone: TimeZone<'_>,
+) -> Result<UnitChoice<'a, A>, ArgumentsFault<A>>
+    ensures asked { IfOk result (IsUnitChoice (found_of found.now) (plain_zone zone.entry)) }
+    ensures refused { IfErr result (RefusesUnits (found_of found.now)) }
+{
+    Ok(UnitChoice {
+        from_time: read_time(alloc, command, found, START_TIME, zone, Side::Start)?,
+        to_time: read_time(alloc, command, found, STOP_TIME, zone, Side::Stop)?,
+        threads: read_threads(alloc, command, found)?,
+        gtids: read_gtids(alloc, command, found)?,
+        gtid_texts: read_paths(alloc, found, GTID)?,
+    })
+}

@@ -1,0 +1,319 @@
+//! Wanted units of a part, by their global transaction ids.
+
+use crate::runs::{Came, UNDO, between, changes_of, units_with};
+use blog_choice::TableChoice;
+use blog_event::Fault;
+use blog_request::{GlobalIds, Wanted};
+use blog_row::Order;
+use blog_run::Writing;
+use blog_sum::SumFault;
+use blog_trans::Selection;
+use sample_logs::builder::{BEGIN, DROP_TABLE, Part, T, Table, XID, build, delete, insert};
+use std::process::Abort;
+use std::test::Fail;
+
+/// Gtid events: a byte of flags, the server's id, and the number.
+const FIRST: Part<'static> = Part::Other {
+    kind: 33,
+    flags: 0,
+    body: &[
+        0, 0, 0, 0, 0, 0, 0, 0, 0, 0, 0, 0, 0, 0, 0, 0, 0, 1, 0, 0, 0, 0, 0, 0, 0,
+    ],
+};
+
+const SECOND: Part<'static> = Part::Other {
+    kind: 33,
+    flags: 0,
+    body: &[
+        0, 0, 0, 0, 0, 0, 0, 0, 0, 0, 0, 0, 0, 0, 0, 0, 0, 2, 0, 0, 0, 0, 0, 0, 0,
+    ],
+};
+
+const THIRD: Part<'static> = Part::Other {
+    kind: 33,
+    flags: 0,
+    body: &[
+        0, 0, 0, 0, 0, 0, 0, 0, 0, 0, 0, 0, 0, 0, 0, 0, 0, 3, 0, 0, 0, 0, 0, 0, 0,
+    ],
+};
+
+const ONE: &[u8] = b"00000000-0000-0000-0000-000000000000:1";
+
+const TWO: &[u8] = b"00000000-0000-0000-0000-000000000000:2";
+
+const THREE: &[u8] = b"00000000-0000-0000-0000-000000000000:3";
+
+const NINE: &[u8] = b"00000000-0000-0000-0000-000000000000:9";
+
+/// Changes that are made once more, as a log.
+const REDO: Writing<'static> = Writing {
+    order: Order::Forward,
+    ..UNDO
+};
+
+/// What comes of a run over the units of a log that have these ids, what is written, and the lines.
+fn run_log<R: AllocGlobal>(
+    rt: &R,
+    log: &[u8],
+    part: &Selection<'_>,
+    ids: &[&[u8]],
+    looks: bool,
+) -> Result<(Came, Vec<u8>, Vec<u8>), Fail> {
+    let mut gtids = Vec::new(rt.alloc());
+    for text in ids {
+        match GlobalIds::read(text) {
+            Some(id) => gtids.push(id)?,
+            None => return Err("no id".into()),
+        }
+    }
+    let wanted = Wanted {
+        start: None,
+        stop: None,
+        from_time: None,
+        to_time: None,
+        threads: &[],
+        gtids: &gtids,
+        choice: TableChoice {
+            database: None,
+            tables: &[],
+            excluded: &[],
+        },
+    };
+    units_with(
+        rt,
+        log,
+        part,
+        wanted,
+        looks,
+        &[],
+        if looks { &UNDO } else { &REDO },
+    )
+}
+
+/// The units with these ids of a log of these events are undone, or refused so, with these lines.
+fn check<R: AllocGlobal + Abort>(
+    rt: &R,
+    parts: &[Part<'_>],
+    ids: &[&[u8]],
+    wanted: Came,
+    lines: &str,
+) -> Result<(), Fail> {
+    let log = build(rt, parts)?;
+    let (came, text, told) = run_log(rt, &log, &between(4, None), ids, true)?;
+    assert_eq!(rt; came, wanted);
+    assert_eq!(rt; str::from_utf8(&told), Ok(lines));
+    assert_eq!(rt; text.is_empty(), came != Came::Done);
+    Ok(())
+}
+
+#[test]
+fn wanted_units_are_undone_and_others_left(rt: HostRuntime) -> Result<(), Fail> {
+    let log = build(
+        &rt,
+        &[
+            FIRST,
+            BEGIN,
+            Part::Map(T),
+            insert(1, &[5]),
+            XID,
+            SECOND,
+            BEGIN,
+            Part::Map(T),
+            insert(1, &[6]),
+            XID,
+            THIRD,
+            BEGIN,
+            Part::Map(T),
+            insert(1, &[7, 8]),
+            XID,
+        ],
+    )?;
+    let alone = build(
+        &rt,
+        &[
+            BEGIN,
+            Part::Map(T),
+            insert(1, &[5]),
+            XID,
+            BEGIN,
+            Part::Map(T),
+            insert(1, &[7, 8]),
+            XID,
+        ],
+    )?;
+    let all = between(4, None);
+    let (came, undone, told) = run_log(&rt, &log, &all, &[THREE, ONE], true)?;
+    assert_eq!(rt; came, Came::Done);
+    let (done, wanted) = changes_of(&rt, &alone, &all, &UNDO)?;
+    assert_eq!(rt; done, Ok(()));
+    assert!(rt; undone == wanted);
+    let report =
+        "undoes 2 transactions of binlog.000042: `d`.`t` deletes 3\nlooked at 1 later transaction, up to 674 of binlog.000042: none changes these rows\nchild rows of foreign keys that cascade follow the updated and deleted rows, and are not counted\n";
+    assert_eq!(rt; str::from_utf8(&told), Ok(report));
+    let (came, redone, _) = run_log(&rt, &log, &all, &[THREE, ONE], false)?;
+    assert_eq!(rt; came, Came::Done);
+    let (done, wanted) = changes_of(&rt, &alone, &all, &REDO)?;
+    assert_eq!(rt; done, Ok(()));
+    assert!(rt; redone == wanted);
+    Ok(())
+}
+
+#[test]
+fn units_between_wanted_ones_are_looked_at(rt: HostRuntime) -> Result<(), Fail> {
+    let row = "binlog.000042 423 1970-01-01 00:00:00 `d`.`t`: delete\n";
+    let taken = [
+        FIRST,
+        BEGIN,
+        Part::Map(T),
+        insert(1, &[5]),
+        XID,
+        SECOND,
+        BEGIN,
+        Part::Map(T),
+        delete(1, &[5]),
+        XID,
+        THIRD,
+        BEGIN,
+        Part::Map(T),
+        insert(1, &[7]),
+        XID,
+    ];
+    check(&rt, &taken, &[ONE, THREE], Came::ChangedSince(1), row)?;
+    // what the third left wasn't there yet, and what is before the third isn't looked at
+    let earlier = [
+        FIRST,
+        BEGIN,
+        Part::Map(T),
+        insert(1, &[5]),
+        XID,
+        SECOND,
+        BEGIN,
+        Part::Map(T),
+        delete(1, &[7]),
+        XID,
+        THIRD,
+        BEGIN,
+        Part::Map(T),
+        insert(1, &[7]),
+        XID,
+    ];
+    let report =
+        "undoes 2 transactions of binlog.000042: `d`.`t` deletes 2\nlooked at 1 later transaction, up to 669 of binlog.000042: none changes these rows\nchild rows of foreign keys that cascade follow the updated and deleted rows, and are not counted\n";
+    check(&rt, &earlier, &[ONE, THREE], Came::Done, report)?;
+    let report =
+        "undoes 1 transaction of binlog.000042: `d`.`t` deletes 1\nlooked at 0 later transactions, up to 669 of binlog.000042: none changes these rows\nchild rows of foreign keys that cascade follow the updated and deleted rows, and are not counted\n";
+    check(&rt, &earlier, &[THREE], Came::Done, report)
+}
+
+#[test]
+fn statements_between_wanted_units_may_concern_them(rt: HostRuntime) -> Result<(), Fail> {
+    let log = [
+        FIRST,
+        BEGIN,
+        Part::Map(T),
+        insert(1, &[5]),
+        XID,
+        SECOND,
+        DROP_TABLE,
+        THIRD,
+        BEGIN,
+        Part::Map(T),
+        insert(1, &[7]),
+        XID,
+    ];
+    let line = "binlog.000042 303: may change these tables, and can't be looked into\n";
+    check(&rt, &log, &[ONE, THREE], Came::UnknownSince, line)?;
+    let report =
+        "undoes 1 transaction of binlog.000042: `d`.`t` deletes 1\nlooked at 0 later transactions, up to 576 of binlog.000042: none changes these rows\nchild rows of foreign keys that cascade follow the updated and deleted rows, and are not counted\n";
+    check(&rt, &log, &[THREE], Came::Done, report)?;
+    // a wanted one is refused
+    let fault = Came::Log(Fault::Statement { pos: 347 });
+    check(&rt, &log, &[ONE, TWO], fault, "")
+}
+
+#[test]
+fn units_that_do_not_go_together_are_refused(rt: HostRuntime) -> Result<(), Fail> {
+    let short = Table { types: &[2], ..T };
+    let log = [
+        FIRST,
+        BEGIN,
+        Part::Map(T),
+        insert(1, &[5]),
+        XID,
+        SECOND,
+        BEGIN,
+        Part::Map(short),
+        insert(1, &[]).over(1, &[0xFF], &[0xFE, 5, 0]),
+        XID,
+    ];
+    let clash = Came::Log(Fault::MapClash { pos: 303 });
+    check(&rt, &log, &[ONE, TWO], clash, "")?;
+    check(&rt, &log, &[ONE, NINE], Came::NoUnitWithGtid(1), "")
+}
+
+#[test]
+fn units_that_the_stop_or_damage_cuts_are_refused(rt: HostRuntime) -> Result<(), Fail> {
+    let parts = [
+        FIRST,
+        BEGIN,
+        Part::Map(T),
+        insert(1, &[5]),
+        XID,
+        SECOND,
+        BEGIN,
+        Part::Map(T),
+        insert(1, &[6]),
+        XID,
+    ];
+    let log = build(&rt, &parts)?;
+    // the stop is inside the second
+    let part = between(4, Some(423));
+    let (came, _, _) = run_log(&rt, &log, &part, &[TWO], true)?;
+    assert_eq!(rt; came, Came::Log(Fault::Unended { pos: 423 }));
+    let (came, _, told) = run_log(&rt, &log, &part, &[ONE], true)?;
+    assert_eq!(rt; came, Came::Done);
+    assert!(rt;
+        told.starts_with(b"undoes 1 transaction of binlog.000042: `d`.`t` deletes 1\nlooked at 1 ")
+    );
+    // the last event is cut
+    let Some(cut) = log.get(..log.len() - 1) else {
+        return Err("a short log".into());
+    };
+    let all = between(4, None);
+    let damage = SumFault::Log(Fault::CutEvent { pos: 459 });
+    let (came, _, told) = run_log(&rt, cut, &all, &[ONE], true)?;
+    assert_eq!(rt; came, Came::UnknownSince);
+    let lines =
+        "binlog.000042 303: may change these tables, and can't be looked into\nbinlog.000042 459: the log is damaged, or ends inside an event\n";
+    assert_eq!(rt; str::from_utf8(&told), Ok(lines));
+    let (came, _, _) = run_log(&rt, cut, &all, &[ONE], false)?;
+    assert_eq!(rt; came, Came::Sums(damage));
+    let (came, _, _) = run_log(&rt, cut, &all, &[TWO], true)?;
+    assert_eq!(rt; came, Came::Log(Fault::Unended { pos: 459 }));
+    let (came, _, _) = run_log(&rt, cut, &all, &[TWO], false)?;
+    assert_eq!(rt; came, Came::Sums(damage));
+    // what is damaged after the stop is no fault
+    let (came, _, _) = run_log(&rt, cut, &between(4, Some(303)), &[ONE], false)?;
+    assert_eq!(rt; came, Came::Done);
+    // the start is inside an event
+    let (came, _, _) = run_log(&rt, &log, &between(150, None), &[ONE], true)?;
+    assert_eq!(rt; came, Came::NoEventAt(150));
+    let (came, _, _) = run_log(&rt, cut, &between(999, None), &[ONE], true)?;
+    assert_eq!(rt; came, Came::Sums(damage));
+    // positions choose too: the first is before the start
+    let (came, _, _) = run_log(&rt, &log, &between(303, None), &[ONE], true)?;
+    assert_eq!(rt; came, Came::NoUnitWithGtid(0));
+    // what is damaged may have it
+    let (came, _, _) = run_log(&rt, cut, &all, &[NINE], true)?;
+    assert_eq!(rt; came, Came::Sums(damage));
+    let (came, _, _) = run_log(&rt, cut, &between(4, Some(303)), &[NINE], true)?;
+    assert_eq!(rt; came, Came::NoUnitWithGtid(0));
+    // a transaction without rows of the table
+    let other = Selection {
+        table: Some(b"u"),
+        ..between(4, None)
+    };
+    let (came, _, _) = run_log(&rt, &log, &other, &[ONE], true)?;
+    assert_eq!(rt; came, Came::NothingSelected);
+    Ok(())
+}

@@ -1,0 +1,215 @@
+-- Chosen units, whose groups are gathered one after the other.
+use Rattle.std.proofs.Common.{◌≡◌, ◌⊎◌, ◌<◌, ℕ, Bool, true, false, ◌&&◌, List, [], ◌∷◌, ◌++◌, length, map, Option, Some, None, Result, Ok, Err, refl, sym, ap, subst, ◌∙◌, inl, inr, append_assoc, append-nil}
+use Rattle.std.specs.Prelude.{filter, ⊤}
+use Rattle.std.specs.List.{AllByRecursion}
+use Rattle.std.proofs.lemmas.Bool.{cond-false, cond-true, false≢true}
+use Rattle.std.proofs.lemmas.List.{map-append}
+use Rattle.std.proofs.lemmas.List.Elements.{filter-append}
+use Rattle.blog_device.specs.declared.fault.RunFault.TheVariants as run
+use Rattle.blog_event.specs.declared.fault.Fault.{Fault}
+use Rattle.blog_gathered.specs.Gathered.{IsSoundRange, Range, gathered_text}
+use Rattle.blog_gathered.specs.code.GatheredView.{Adds as AddsRange, IsGathered, bytes_gathered}
+use Rattle.blog_gathered.specs.declared.fault.GatherFault.TheVariants as gather
+use Rattle.blog_gathered.specs.declared.gathered.Gathered.{Gathered}
+use Rattle.blog_later.specs.Among.{wanted_of}
+use Rattle.blog_later.specs.code.LeavingView.{HasLeft}
+use Rattle.blog_request.specs.Wanted.{is_before, is_in_range}
+use Rattle.blog_request.specs.declared.wanted.Wanted.{Wanted}
+use Rattle.blog_sum.specs.declared.fault.SumFault.{SumFault}
+use Rattle.blog_trans.specs.Acceptance.{IsAccepted, IsRefusal, fault}
+use Rattle.blog_trans.specs.Changes.{Change, changes}
+use Rattle.blog_trans.specs.Selection.{Selection, all}
+use Rattle.blog_units.specs.Units.{Facts, range_of_unit}
+use Rattle.undo_run.specs.Units.{AreAccepted, IsFirstRefused, IsUnitAccepted, RefusesChosen, chosen_range, chosen_units, kept_log, units_of_part}
+use Rattle.undo_run.specs.code.Steps.{Adds, Chooses, Gathers, HasChosen, IsKept, RefusesFor, chosen_changes}
+use Rattle.undo_run.specs.declared.chosen.Chosen.{Chosen}
+use Rattle.undo_run.specs.declared.fault.PartFault.{PartFault}
+use Rattle.undo_run.specs.declared.fault.PartFault.TheVariants.{Run, Sums, NoEventAt, NoUnitWithGtid, Log, NothingSelected, LaterLog, ChangedSince, UnknownSince, TooLong, NoSchema}
+
+-- ---- one more
+
+-- the groups of some units are gathered, which begin with this one, as soon as one more is
+abbrev pub IsReady : {A : Type 0} → Selection → List ℕ → List Facts → Facts → Gathered A → Type 0
+IsReady sel handed us u gathered = (v : Facts) × (ws : List Facts) × (us ++ u ∷ [] ≡ v ∷ ws) × IsGathered (chosen_range sel handed v) (map (chosen_range sel handed) us) gathered
+
+pub ready-more : {A : Type 0} (sel : Selection) (handed : List ℕ) (us : List Facts) (u : Facts) (gathered : Gathered A) → IsKept sel handed us (Some gathered) → IsReady sel handed us u gathered
+ready-more sel handed us u gathered (v, ws, is, are) = (v, ws ++ u ∷ [], ap (λ (vs : List Facts). vs ++ u ∷ []) is, are)
+
+pub ready-first : {A : Type 0} (sel : Selection) (handed : List ℕ) (us : List Facts) (u : Facts) (r : Range) (gathered : Gathered A) → us ≡ [] → r ≡ chosen_range sel handed u → IsGathered r [] gathered → IsReady sel handed us u gathered
+ready-first sel handed us u r gathered none is are = (
+  u,
+  [],
+  ap (λ (vs : List Facts). vs ++ u ∷ []) none,
+  subst (λ (vs : List Facts). IsGathered (chosen_range sel handed u) (map (chosen_range sel handed) vs) gathered) (sym none) (subst (λ (f : Range). IsGathered f [] gathered) is are),
+)
+
+ranges-more : (sel : Selection) (handed : List ℕ) (us : List Facts) (u : Facts) (r : Range) → r ≡ chosen_range sel handed u → map (chosen_range sel handed) us ++ r ∷ [] ≡ map (chosen_range sel handed) (us ++ u ∷ [])
+ranges-more sel handed us u r is = ap (λ (x : Range). map (chosen_range sel handed) us ++ x ∷ []) is ∙ sym (map-append (chosen_range sel handed) us (u ∷ []))
+
+kept-text : (sel : Selection) (handed : List ℕ) (us : List Facts) (v : Facts) (ws : List Facts) → us ≡ v ∷ ws → kept_log sel handed us ≡ gathered_text (chosen_range sel handed v) (map (chosen_range sel handed) us)
+kept-text sel handed us v ws is = ap (kept_log sel handed) is ∙ ap (λ (vs : List Facts). gathered_text (chosen_range sel handed v) (map (chosen_range sel handed) vs)) (sym is)
+
+pub gathers-more : {A : Type 0} (sel : Selection) (handed : List ℕ) (us : List Facts) (u : Facts) (r : Range) (old new : Gathered A) (done : ⊤) → r ≡ chosen_range sel handed u → IsReady sel handed us u old
+    → ((first : Range) (rs : List Range) → IsGathered first rs old → AddsRange first rs r new (Ok done)) → IsKept sel handed (us ++ u ∷ []) (Some new)
+gathers-more sel handed us u r old new done is (v, ws, begins, are) adds =
+    (v, ws, begins, subst (λ (rs : List Range). IsGathered (chosen_range sel handed v) rs new) (ranges-more sel handed us u r is) (adds (chosen_range sel handed v) (map (chosen_range sel handed) us) are))
+
+pub gathers-too-long : {A : Type 0} (sel : Selection) (handed : List ℕ) (us : List Facts) (u : Facts) (r : Range) (old new : Gathered A) → r ≡ chosen_range sel handed u → IsReady sel handed us u old
+    → ((first : Range) (rs : List Range) → IsGathered first rs old → AddsRange first rs r new (Err gather.TooLong)) → 4294967295 < length (kept_log sel handed (us ++ u ∷ []))
+gathers-too-long sel handed us u r old new is (v, ws, begins, are) adds =
+    let (same, long) = adds (chosen_range sel handed v) (map (chosen_range sel handed) us) are in
+    subst (λ (text : List ℕ). 4294967295 < length text)
+    (ap (gathered_text (chosen_range sel handed v)) (ranges-more sel handed us u r is) ∙ sym (kept-text sel handed (us ++ u ∷ []) v ws begins)) long
+
+-- the rows that one more left are kept too
+pub list-more : (sel : Selection) (handed : List ℕ) (us : List Facts) (u : Facts) → chosen_changes sel handed (us ++ u ∷ []) ≡ chosen_changes sel handed us ++ changes handed (range_of_unit sel u) ∷ []
+list-more sel handed us u = map-append (λ (v : Facts). changes handed (range_of_unit sel v)) us (u ∷ [])
+
+pub not-gathered : {B : Type 0} (looks : Bool) (sel : Selection) (handed : List ℕ) (us : List Facts) (cause : PartFault B) → Gathers {A = B} sel handed us (Err cause) → Adds {A = B} looks sel handed us (Err cause)
+not-gathered looks sel handed us (Run (run.Log f)) is = is
+not-gathered looks sel handed us TooLong long = long
+not-gathered looks sel handed us (Run run.Read) none = absurd none
+not-gathered looks sel handed us (Run run.Write) none = absurd none
+not-gathered looks sel handed us (Sums f) none = absurd none
+not-gathered looks sel handed us (NoEventAt pos) none = absurd none
+not-gathered looks sel handed us (NoUnitWithGtid gtid) none = absurd none
+not-gathered looks sel handed us (Log f) none = absurd none
+not-gathered looks sel handed us (LaterLog n f) none = absurd none
+not-gathered looks sel handed us (ChangedSince rows lines) none = absurd none
+not-gathered looks sel handed us (UnknownSince lines) none = absurd none
+not-gathered looks sel handed us (NoSchema text) none = absurd none
+not-gathered looks sel handed us NothingSelected none = absurd none
+
+-- ---- what is kept
+
+pub kept-bytes : {A : Type 0} (sel : Selection) (handed : List ℕ) (us : List Facts) (gathered : Gathered A) → IsKept sel handed us (Some gathered) → bytes_gathered gathered ≡ kept_log sel handed us
+kept-bytes sel handed us gathered (v, ws, is, are) = are.text ∙ sym (kept-text sel handed us v ws is)
+
+ranges-accepted : (sel : Selection) (handed : List ℕ) (us : List Facts) → AllByRecursion IsSoundRange (map (chosen_range sel handed) us) → AreAccepted sel handed us
+ranges-accepted sel handed [] are = tt
+ranges-accepted sel handed (u ∷ us) ((bytes, accepted), are) = (accepted, ranges-accepted sel handed us are)
+
+pub kept-accepted : {A : Type 0} (sel : Selection) (handed : List ℕ) (us : List Facts) (gathered : Option (Gathered A)) → IsKept sel handed us gathered → AreAccepted sel handed us
+kept-accepted sel handed us None none = subst (AreAccepted sel handed) (sym none) tt
+kept-accepted sel handed us (Some gathered) (v, ws, is, are) = ranges-accepted sel handed us are.sound
+
+accepted-more : (sel : Selection) (handed : List ℕ) (us : List Facts) (u : Facts) → AreAccepted sel handed us → IsUnitAccepted sel handed u → AreAccepted sel handed (us ++ u ∷ [])
+accepted-more sel handed [] u are is = (is, tt)
+accepted-more sel handed (v ∷ us) u (first, are) is = (first, accepted-more sel handed us u are is)
+
+-- ---- on the way through the units
+
+first-of : (x y : Bool) → (x && y) ≡ true → x ≡ true
+first-of true y e = refl
+first-of false y e = e
+
+second-of : (x y : Bool) → (x && y) ≡ true → y ≡ true
+second-of true y e = e
+second-of false y e = absurd (false≢true e)
+
+-- one that is wanted begins before the stop
+pub in-range-before : (w : Wanted) (u : Facts) → is_in_range w u ≡ true → is_before u.start w.stop ≡ true
+in-range-before w u is = second-of _ _ (first-of _ _ (first-of _ _ (first-of _ _ (first-of _ _ is))))
+
+pub record AreChosen {A : Type 0} (looks : Bool) (w : Wanted) (sel : Selection) (handed : List ℕ) (chosen : Chosen A) (left : List Facts) : Type 0 where
+  pub done : List Facts
+  pub whole : done ++ left ≡ units_of_part sel handed
+  pub has : HasChosen looks sel handed (wanted_of w done) chosen
+
+whole-more : (every done rest left : List Facts) (u : Facts) → done ++ left ≡ every → left ≡ u ∷ rest → (done ++ u ∷ []) ++ rest ≡ every
+whole-more every done rest left u whole first = append_assoc done (u ∷ []) rest ∙ ap (λ (xs : List Facts). done ++ xs) (sym first) ∙ whole
+
+wanted-in : (w : Wanted) (us : List Facts) (u : Facts) → is_in_range w u ≡ true → wanted_of w (us ++ u ∷ []) ≡ wanted_of w us ++ u ∷ []
+wanted-in w us u is = filter-append (is_in_range w) us (u ∷ []) ∙ ap (λ (vs : List Facts). wanted_of w us ++ vs) (cond-true (is_in_range w u) (u ∷ []) [] is)
+
+wanted-out : (w : Wanted) (us : List Facts) (u : Facts) → is_in_range w u ≡ false → wanted_of w (us ++ u ∷ []) ≡ wanted_of w us
+wanted-out w us u is = filter-append (is_in_range w) us (u ∷ []) ∙ ap (λ (vs : List Facts). wanted_of w us ++ vs) (cond-false (is_in_range w u) (u ∷ []) [] is) ∙ append-nil (wanted_of w us)
+
+pub chosen-none : {A : Type 0} (looks : Bool) (w : Wanted) (sel : Selection) (handed : List ℕ) (chosen : Chosen A) (left : List Facts) → left ≡ units_of_part sel handed → HasChosen looks sel handed [] chosen
+    → AreChosen looks w sel handed chosen left
+chosen-none looks w sel handed chosen left same has = record { done = []; whole = same; has = has }
+
+pub chosen-more : {A : Type 0} (looks : Bool) (w : Wanted) (sel : Selection) (handed : List ℕ) (old new : Chosen A) (left rest : List Facts) (u : Facts) → (s : AreChosen looks w sel handed old left) → left ≡ u ∷ rest → is_in_range w u ≡ true
+    → HasChosen looks sel handed (wanted_of w s.done ++ u ∷ []) new → AreChosen looks w sel handed new rest
+chosen-more looks w sel handed old new left rest u s first is has = record {
+  done = s.done ++ u ∷ [];
+  whole = whole-more (units_of_part sel handed) s.done rest left u s.whole first;
+  has = subst (λ (us : List Facts). HasChosen looks sel handed us new) (sym (wanted-in w s.done u is)) has;
+}
+
+pub chosen-other : {A : Type 0} (looks : Bool) (w : Wanted) (sel : Selection) (handed : List ℕ) (chosen : Chosen A) (left rest : List Facts) (u : Facts) → AreChosen looks w sel handed chosen left → left ≡ u ∷ rest → is_in_range w u ≡ false
+    → AreChosen looks w sel handed chosen rest
+chosen-other looks w sel handed chosen left rest u s first is = record {
+  done = s.done ++ u ∷ [];
+  whole = whole-more (units_of_part sel handed) s.done rest left u s.whole first;
+  has = subst (λ (us : List Facts). HasChosen looks sel handed us chosen) (sym (wanted-out w s.done u is)) s.has;
+}
+
+-- all are gone through
+pub all-chosen : {A : Type 0} (looks : Bool) (w : Wanted) (sel : Selection) (handed : List ℕ) (chosen : Chosen A) (left : List Facts) → AreChosen looks w sel handed chosen left → left ≡ []
+    → HasChosen looks sel handed (chosen_units w sel handed) chosen
+all-chosen looks w sel handed chosen left s none =
+    let every : s.done ≡ units_of_part sel handed = sym (append-nil s.done) ∙ ap (λ (xs : List Facts). s.done ++ xs) (sym none) ∙ s.whole in
+    subst (λ (us : List Facts). HasChosen looks sel handed (wanted_of w us) chosen) every s.has
+
+pub damaged-after : {A : Type 0} (B : Type 0) (looks : Bool) (w : Wanted) (sel : Selection) (handed : List ℕ) (end : ℕ) (chosen : Chosen A) (left : List Facts) (damage : Option SumFault) (f : SumFault) → AreChosen looks w sel handed chosen left → left ≡ []
+    → damage ≡ Some f → Chooses {A = B} looks w sel handed end damage (Err (Sums f))
+damaged-after B looks w sel handed end chosen left damage f s none is =
+    let has = all-chosen looks w sel handed chosen left s none in (is, inl (kept-accepted sel handed (chosen_units w sel handed) chosen.gathered has.kept))
+
+-- ---- one that is refused
+
+chosen-split : (w : Wanted) (sel : Selection) (handed : List ℕ) (done left rest : List Facts) (u : Facts) → done ++ left ≡ units_of_part sel handed → left ≡ u ∷ rest → is_in_range w u ≡ true
+    → chosen_units w sel handed ≡ wanted_of w done ++ u ∷ wanted_of w rest
+chosen-split w sel handed done left rest u whole first is =
+    ap (wanted_of w) (sym whole ∙ ap (λ (xs : List Facts). done ++ xs) first) ∙ filter-append (is_in_range w) done (u ∷ rest)
+    ∙ ap (λ (vs : List Facts). wanted_of w done ++ vs) (cond-true (is_in_range w u) (u ∷ wanted_of w rest) (wanted_of w rest) is)
+
+pub first-refused : {A : Type 0} (looks : Bool) (w : Wanted) (sel : Selection) (handed : List ℕ) (chosen : Chosen A) (left rest : List Facts) (u : Facts) (inner : Fault) → AreChosen looks w sel handed chosen left → left ≡ u ∷ rest → is_in_range w u ≡ true
+    → IsRefusal (fault handed (range_of_unit sel u)) inner → IsFirstRefused w sel handed inner
+first-refused looks w sel handed chosen left rest u inner s first is refused = record {
+  before = wanted_of w s.done;
+  unit = u;
+  rest = wanted_of w rest;
+  chosen = chosen-split w sel handed s.done left rest u s.whole first is;
+  accepted = kept-accepted sel handed (wanted_of w s.done) chosen.gathered s.has.kept;
+  refused = refused;
+}
+
+pub refused-for : {A : Type 0} (looks : Bool) (w : Wanted) (sel : Selection) (handed : List ℕ) (end : ℕ) (damage : Option SumFault) (inner : Fault) (cause : PartFault A) → IsFirstRefused w sel handed inner
+    → RefusesFor handed end damage inner cause → Chooses looks w sel handed end damage (Err cause)
+refused-for looks w sel handed end damage inner (Sums f) first (is, ends) = (is, inr (inner, first, ends))
+refused-for looks w sel handed end damage inner (Log f) first (own, placed) = inl (inner, first, own, placed)
+refused-for looks w sel handed end damage inner (Run f) first none = absurd none
+refused-for looks w sel handed end damage inner (NoEventAt pos) first none = absurd none
+refused-for looks w sel handed end damage inner (NoUnitWithGtid gtid) first none = absurd none
+refused-for looks w sel handed end damage inner (LaterLog n f) first none = absurd none
+refused-for looks w sel handed end damage inner (ChangedSince rows lines) first none = absurd none
+refused-for looks w sel handed end damage inner (UnknownSince lines) first none = absurd none
+refused-for looks w sel handed end damage inner (NoSchema text) first none = absurd none
+refused-for looks w sel handed end damage inner NothingSelected first none = absurd none
+refused-for looks w sel handed end damage inner TooLong first none = absurd none
+
+-- the groups of one more can't be added
+pub not-added : {A B : Type 0} (looks : Bool) (w : Wanted) (sel : Selection) (handed : List ℕ) (end : ℕ) (damage : Option SumFault) (chosen : Chosen A) (left rest : List Facts) (u : Facts) (cause : PartFault B)
+    → (s : AreChosen looks w sel handed chosen left) → left ≡ u ∷ rest → is_in_range w u ≡ true → IsUnitAccepted sel handed u → Adds looks sel handed (wanted_of w s.done ++ u ∷ []) (Err cause)
+    → Chooses looks w sel handed end damage (Err cause)
+not-added looks w sel handed end damage chosen left rest u (Run (run.Log f)) s first is accepted fails = fails
+not-added looks w sel handed end damage chosen left rest u TooLong s first is accepted long = (
+  wanted_of w s.done ++ u ∷ [],
+  wanted_of w rest,
+  chosen-split w sel handed s.done left rest u s.whole first is ∙ sym (append_assoc (wanted_of w s.done) (u ∷ []) (wanted_of w rest)),
+  accepted-more sel handed (wanted_of w s.done) u (kept-accepted sel handed (wanted_of w s.done) chosen.gathered s.has.kept) accepted,
+  long,
+)
+not-added looks w sel handed end damage chosen left rest u (Run run.Read) s first is accepted none = absurd none
+not-added looks w sel handed end damage chosen left rest u (Run run.Write) s first is accepted none = absurd none
+not-added looks w sel handed end damage chosen left rest u (Sums f) s first is accepted none = absurd none
+not-added looks w sel handed end damage chosen left rest u (NoEventAt pos) s first is accepted none = absurd none
+not-added looks w sel handed end damage chosen left rest u (NoUnitWithGtid gtid) s first is accepted none = absurd none
+not-added looks w sel handed end damage chosen left rest u (Log f) s first is accepted none = absurd none
+not-added looks w sel handed end damage chosen left rest u (LaterLog n f) s first is accepted none = absurd none
+not-added looks w sel handed end damage chosen left rest u (ChangedSince rows lines) s first is accepted none = absurd none
+not-added looks w sel handed end damage chosen left rest u (UnknownSince lines) s first is accepted none = absurd none
+not-added looks w sel handed end damage chosen left rest u (NoSchema text) s first is accepted none = absurd none
+not-added looks w sel handed end damage chosen left rest u NothingSelected s first is accepted none = absurd none

@@ -1,0 +1,203 @@
+//! Chosen units of a log, whose groups are gathered in one log.
+
+ghost use Rattle.std.specs.Prelude.{◌≡◌, ◌++◌, ◌∷◌, List, []};
+ghost use Rattle.blog_event.specs.Fault.{name_of};
+ghost use Rattle.blog_event.specs.code.LogView.{log_bytes};
+ghost use Rattle.blog_gathered.specs.code.GatheredView.{range_of};
+ghost use Rattle.blog_source.specs.code.SourceView.{end_of, log_of};
+ghost use Rattle.blog_trans.specs.Selection.{Selection as ASelection, selection_of};
+ghost use Rattle.blog_units.specs.Units.{Facts};
+ghost use Rattle.undo_run.specs.Units.{chosen_range, chosen_units};
+ghost use Rattle.undo_run.specs.code.Steps.{Adds, Chooses, Gathers, HasChosen, Indexes, IsKept, RefusesFor};
+
+use crate::fault::PartFault;
+use crate::part::{has_rows, is_at_end};
+use blog_device::RunFault;
+use blog_event::{Fault, Log};
+use blog_gathered::{GatherFault, Gathered};
+use blog_later::Leaving;
+use blog_request::Wanted;
+use blog_source::Source;
+use blog_sum::SumFault;
+use blog_trans::{Index, Selection};
+use blog_units::Units;
+use std::alloc::{AllocError, Allocator};
+
+/// Where a chosen unit starts in its log, and where its groups end in the log in which they are gathered.
+#[derive(Clone, Copy)]
+pub(crate) struct Place {
+    start: u32,
+    end: usize,
+}
+
+/// Chosen units of a log.
+#[derive(Drop)]
+pub(crate) struct Chosen<A: Allocator> {
+    /// A log in which their groups are, if there are any.
+    pub(crate) gathered: Option<Gathered<A>>,
+    /// Where each of them is, in order.
+    pub(crate) places: Vec<Place, A>,
+    /// The rows that they left, a list for each, if these are asked for.
+    pub(crate) leaving: Leaving<A>,
+}
+
+impl<A: Allocator + Copy> Chosen<A> {
+    /// None.
+    fn none(alloc: A) -> Chosen<A>
+        ensures { (looks : _) → (sel : ASelection) → (handed : _) → HasChosen looks sel handed [] result }
+    {
+        Chosen {
+            gathered: None,
+            places: Vec::new(alloc),
+            leaving: Leaving::none(alloc),
+        }
+    }
+
+    /// Those with one more, which starts at a position and has the groups of an index.
+    fn with(
+        self,
+        alloc: A,
+        start: u32,
+        index: &Index<'_, '_, A>,
+        looks: bool,
+    ) -> Result<Chosen<A>, PartFault<A>>
+        ensures { (sel : ASelection) → (handed : _) → (us : List Facts) → (u : Facts) → range_of index.now ≡ chosen_range sel handed u → HasChosen looks sel handed us self
+            → Adds looks sel handed (us ++ u ∷ []) result }
+    {
+        let Chosen {
+            gathered,
+            places,
+            leaving,
+        } = self;
+        let gathered = match gather(alloc, gathered, index) {
+            Ok(gathered) => gathered,
+            Err(fault) => return Err(fault),
+        };
+        let mut places = places;
+        put_place(&mut places, start, gathered.len())?;
+        let mut leaving = leaving;
+        if looks {
+            leaving.add(index)?;
+        }
+        Ok(Chosen {
+            gathered: Some(gathered),
+            places,
+            leaving,
+        })
+    }
+}
+
+/// Appends where a unit starts, and where its groups end.
+fn put_place<A: Allocator>(
+    places: &mut Vec<Place, A>,
+    start: u32,
+    end: usize,
+) -> Result<(), AllocError> {
+    places.push(Place { start, end })?;
+    Ok(())
+}
+
+/// Gathers the groups of an index after others, if there are any.
+fn gather<A: Allocator + Copy>(
+    alloc: A,
+    gathered: Option<Gathered<A>>,
+    index: &Index<'_, '_, A>,
+) -> Result<Gathered<A>, PartFault<A>>
+    ensures { (sel : ASelection) → (handed : _) → (us : List Facts) → (u : Facts) → range_of index.now ≡ chosen_range sel handed u → IsKept sel handed us gathered
+        → Gathers sel handed (us ++ u ∷ []) result }
+{
+    let mut all = match gathered {
+        Some(gathered) => gathered,
+        None => Gathered::new(alloc, index)?,
+    };
+    match all.add(index) {
+        Ok(()) => Ok(all),
+        Err(GatherFault::OutOfMemory) => Err(PartFault::Run(RunFault::Log(Fault::OutOfMemory))),
+        Err(GatherFault::TooLong) => Err(PartFault::TooLong),
+    }
+}
+
+/// Why a unit isn't written that is refused: the log may be damaged where it ends.
+fn refusal<A: Allocator, B: Allocator>(
+    source: &Source<A>,
+    fault: &Fault,
+    damage: Option<SumFault>,
+) -> PartFault<B>
+    ensures { RefusesFor (log_of source.now) (end_of source.now) damage fault.now result }
+{
+    match damage {
+        Some(damage) if is_at_end(source, fault) => PartFault::Sums(damage),
+        _ => PartFault::Log(source.at_place(fault)),
+    }
+}
+
+/// Chooses the wanted units of the log of a source, in the range of a selection, and the changes of its tables. `damage` is why the
+/// reading of the log ended too early. `looks` says whether the rows that they left are asked for.
+pub(crate) fn choose<A: Allocator + Copy>(
+    alloc: A,
+    source: &Source<A>,
+    log: &Log<'_>,
+    inside: &Selection<'_>,
+    among: &Wanted<'_>,
+    damage: Option<SumFault>,
+    looks: bool,
+) -> Result<Chosen<A>, PartFault<A>>
+    requires bytes { log_bytes log.now ≡ log_of source.now }
+    requires stop { among.now.stop ≡ inside.now.stop }
+    ensures { Chooses looks among.now (selection_of inside.now) (log_of source.now) (end_of source.now) damage result }
+{
+    let mut chosen = Chosen::none(alloc);
+    for unit in Units::from_position(log, inside.start) {
+        if among.has_in_range(&unit) {
+            let index = match unit.groups_of(alloc, inside) {
+                Ok(index) => index,
+                Err(fault) => return Err(refusal(source, &fault, damage)),
+            };
+            match chosen.with(alloc, unit.start, &index, looks) {
+                Ok(more) => chosen = more,
+                Err(fault) => return Err(fault),
+            }
+        }
+    }
+    match damage {
+        Some(damage) => Err(PartFault::Sums(damage)),
+        None => Ok(chosen),
+    }
+}
+
+/// A fault of the log in which the groups of units are gathered: it is told where the unit starts in whose groups it is.
+fn told_at<A: Allocator>(source: &Source<A>, places: &[Place], fault: &Fault) -> Fault
+    ensures { name_of result ≡ name_of fault.now }
+{
+    if let Some(pos) = fault.at() {
+        for place in places {
+            if (pos as usize) < place.end {
+                return fault.moved_to(source.place(place.start));
+            }
+        }
+    }
+    *fault
+}
+
+/// Returns the index of the groups of chosen units, if these have rows.
+pub(crate) fn index_of_chosen<'g, A: Allocator + Copy>(
+    alloc: A,
+    source: &Source<A>,
+    inside: &Selection<'_>,
+    among: &Wanted<'_>,
+    gathered: &'g Option<Gathered<A>>,
+    places: &[Place],
+    seed: u64,
+) -> Result<Index<'g, 'static, A>, PartFault<A>>
+    requires { IsKept (selection_of inside.now) (log_of source.now) (chosen_units among.now (selection_of inside.now) (log_of source.now)) gathered.now }
+    ensures { Indexes among.now (selection_of inside.now) (log_of source.now) (end_of source.now) result }
+{
+    let Some(gathered) = gathered else {
+        return Err(PartFault::NothingSelected);
+    };
+    match gathered.index(alloc, seed) {
+        Ok(index) if has_rows(&index) => Ok(index),
+        Ok(_) => Err(PartFault::NothingSelected),
+        Err(fault) => Err(PartFault::Log(told_at(source, places, &fault))),
+    }
+}
