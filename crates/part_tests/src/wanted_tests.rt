@@ -90,7 +90,37 @@ fn run_log<R: AllocGlobal>(
     )
 }
 
-/// The units with these ids of a log of these events are undone, or refused so, with these lines.
+/// This comes of a run over the units that have these ids.
+fn comes<R: AllocGlobal + Abort>(
+    rt: &R,
+    log: &[u8],
+    part: &Selection<'_>,
+    ids: &[&[u8]],
+    looks: bool,
+    wanted: Came,
+) -> Result<(), Fail> {
+    let (came, _, _) = run_log(rt, log, part, ids, looks)?;
+    assert_eq!(rt; came, wanted);
+    Ok(())
+}
+
+/// The units with these ids of a part of a log are undone, or refused so, with these lines.
+fn check_log<R: AllocGlobal + Abort>(
+    rt: &R,
+    log: &[u8],
+    part: &Selection<'_>,
+    ids: &[&[u8]],
+    wanted: Came,
+    lines: &str,
+) -> Result<(), Fail> {
+    let (came, text, told) = run_log(rt, log, part, ids, true)?;
+    assert_eq!(rt; came, wanted);
+    assert_eq!(rt; str::from_utf8(&told), Ok(lines));
+    assert_eq!(rt; text.is_empty(), came != Came::Done);
+    Ok(())
+}
+
+/// The same of all of a log of these events.
 fn check<R: AllocGlobal + Abort>(
     rt: &R,
     parts: &[Part<'_>],
@@ -99,11 +129,7 @@ fn check<R: AllocGlobal + Abort>(
     lines: &str,
 ) -> Result<(), Fail> {
     let log = build(rt, parts)?;
-    let (came, text, told) = run_log(rt, &log, &between(4, None), ids, true)?;
-    assert_eq!(rt; came, wanted);
-    assert_eq!(rt; str::from_utf8(&told), Ok(lines));
-    assert_eq!(rt; text.is_empty(), came != Came::Done);
-    Ok(())
+    check_log(rt, &log, &between(4, None), ids, wanted, lines)
 }
 
 #[test]
@@ -268,52 +294,81 @@ fn units_that_the_stop_or_damage_cuts_are_refused(rt: HostRuntime) -> Result<(),
     let log = build(&rt, &parts)?;
     // the stop is inside the second
     let part = between(4, Some(423));
-    let (came, _, _) = run_log(&rt, &log, &part, &[TWO], true)?;
-    assert_eq!(rt; came, Came::Log(Fault::Unended { pos: 423 }));
+    comes(
+        &rt,
+        &log,
+        &part,
+        &[TWO],
+        true,
+        Came::Log(Fault::Unended { pos: 423 }),
+    )?;
     let (came, _, told) = run_log(&rt, &log, &part, &[ONE], true)?;
     assert_eq!(rt; came, Came::Done);
     assert!(rt;
         told.starts_with(b"undoes 1 transaction of binlog.000042: `d`.`t` deletes 1\nlooked at 1 ")
     );
     // the last event is cut
-    let Some(cut) = log.get(..log.len() - 1) else {
+    let Some(cut) = log.get(..log.len().saturating_sub(1)) else {
         return Err("a short log".into());
     };
     let all = between(4, None);
     let damage = SumFault::Log(Fault::CutEvent { pos: 459 });
-    let (came, _, told) = run_log(&rt, cut, &all, &[ONE], true)?;
-    assert_eq!(rt; came, Came::UnknownSince);
     let lines =
         "binlog.000042 303: may change these tables, and can't be looked into\nbinlog.000042 459: the log is damaged, or ends inside an event\n";
-    assert_eq!(rt; str::from_utf8(&told), Ok(lines));
-    let (came, _, _) = run_log(&rt, cut, &all, &[ONE], false)?;
-    assert_eq!(rt; came, Came::Sums(damage));
-    let (came, _, _) = run_log(&rt, cut, &all, &[TWO], true)?;
-    assert_eq!(rt; came, Came::Log(Fault::Unended { pos: 459 }));
-    let (came, _, _) = run_log(&rt, cut, &all, &[TWO], false)?;
-    assert_eq!(rt; came, Came::Sums(damage));
+    check_log(&rt, cut, &all, &[ONE], Came::UnknownSince, lines)?;
+    comes(&rt, cut, &all, &[ONE], false, Came::Sums(damage))?;
+    comes(
+        &rt,
+        cut,
+        &all,
+        &[TWO],
+        true,
+        Came::Log(Fault::Unended { pos: 459 }),
+    )?;
+    comes(&rt, cut, &all, &[TWO], false, Came::Sums(damage))?;
     // what is damaged after the stop is no fault
-    let (came, _, _) = run_log(&rt, cut, &between(4, Some(303)), &[ONE], false)?;
-    assert_eq!(rt; came, Came::Done);
+    comes(&rt, cut, &between(4, Some(303)), &[ONE], false, Came::Done)?;
     // the start is inside an event
-    let (came, _, _) = run_log(&rt, &log, &between(150, None), &[ONE], true)?;
-    assert_eq!(rt; came, Came::NoEventAt(150));
-    let (came, _, _) = run_log(&rt, cut, &between(999, None), &[ONE], true)?;
-    assert_eq!(rt; came, Came::Sums(damage));
+    comes(
+        &rt,
+        &log,
+        &between(150, None),
+        &[ONE],
+        true,
+        Came::NoEventAt(150),
+    )?;
+    comes(
+        &rt,
+        cut,
+        &between(999, None),
+        &[ONE],
+        true,
+        Came::Sums(damage),
+    )?;
     // positions choose too: the first is before the start
-    let (came, _, _) = run_log(&rt, &log, &between(303, None), &[ONE], true)?;
-    assert_eq!(rt; came, Came::NoUnitWithGtid(0));
+    comes(
+        &rt,
+        &log,
+        &between(303, None),
+        &[ONE],
+        true,
+        Came::NoUnitWithGtid(0),
+    )?;
     // what is damaged may have it
-    let (came, _, _) = run_log(&rt, cut, &all, &[NINE], true)?;
-    assert_eq!(rt; came, Came::Sums(damage));
-    let (came, _, _) = run_log(&rt, cut, &between(4, Some(303)), &[NINE], true)?;
-    assert_eq!(rt; came, Came::NoUnitWithGtid(0));
+    comes(&rt, cut, &all, &[NINE], true, Came::Sums(damage))?;
+    comes(
+        &rt,
+        cut,
+        &between(4, Some(303)),
+        &[NINE],
+        true,
+        Came::NoUnitWithGtid(0),
+    )?;
     // a transaction without rows of the table
     let other = Selection {
         table: Some(b"u"),
         ..between(4, None)
     };
-    let (came, _, _) = run_log(&rt, &log, &other, &[ONE], true)?;
-    assert_eq!(rt; came, Came::NothingSelected);
+    comes(&rt, &log, &other, &[ONE], true, Came::NothingSelected)?;
     Ok(())
 }
