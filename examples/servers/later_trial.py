@@ -36,6 +36,13 @@ def mistake(schema):
     return ["BEGIN", f"DELETE FROM {orders} WHERE id BETWEEN 21 AND 60", f"DELETE FROM {notes} WHERE text = 'note 3' LIMIT 15", "COMMIT"]
 
 
+def mistake_in_two(schema):
+    """The same in two transactions, which delete 20 orders each."""
+    _, orders, _, notes = names_in(schema, *TABLES)
+    yield [f"DELETE FROM {orders} WHERE id BETWEEN 21 AND 40"]
+    yield ["BEGIN", f"DELETE FROM {orders} WHERE id BETWEEN 41 AND 60", f"DELETE FROM {notes} WHERE text = 'note 3' LIMIT 15", "COMMIT"]
+
+
 def right_changes(schema):
     """What others do since, in rows of the same tables that the mistake leaves alone."""
     customers, orders, lines, notes = names_in(schema, *TABLES)
@@ -88,12 +95,35 @@ class Mistake:
             self.part = "-j", str(first["start"]), "--stop-position", str(first["stop"])
 
 
+class MistakeInTwo:
+    """A server on which a mistake was made in two transactions, with right changes between and after these."""
+
+    def __init__(self, server, programs, changes):
+        server.query(joined(setup(SHOP)))
+        server.next_log()
+        first, second = mistake_in_two(SHOP)
+        for statements in (first, changes[:4], second, changes[4:]):
+            server.query(joined(statements))
+        self.log, self.later, self.choices = server.next_log(), [], []
+        if server.kind is not MARIADB:
+            lines = [json.loads(line) for line in programs.command("list", self.log, "--json").splitlines()]
+            units = [line for line in lines if any(table["deletes"] == 20 for table in line.get("tables", ()))]
+            ways = [("--thread", "thread")] + [("--gtid", "gtid")] * server.has_gtids
+            self.choices = [[word for unit in units for word in (option, str(unit[key]))] for option, key in ways]
+            self.part = self.choices[0]
+
+
 def try_later(server, programs, report, kept):
     changes = list(right_changes(SHOP))
     with report.trial("5: a mistake is undone after right changes: the tables are as without it"):
         hold_as_without(server, programs, kept, "later", Mistake(server, programs, mistake(SHOP), changes))
     with report.trial("5: the same with right changes in two later logs, too"):
         hold_as_without(server, programs, kept, "logs", Mistake(server, programs, mistake(SHOP), changes[:3], changes[3:6], changes[6:]))
+    with report.trial("5: a mistake in two transactions is undone, with right changes between them"):
+        made = MistakeInTwo(server, programs, changes)
+        texts = {programs.command("undo", made.log, *choice, "--keep-times") for choice in made.choices}
+        hold(len(texts) <= 1, "the SQL differs by how the transactions are chosen")
+        hold_as_without(server, programs, kept, "two", made)
     with report.trial("5: --anyway: later changes of these rows are overwritten"):
         hold_overwritten(server, programs, kept)
     if server.kind is not MARIADB:
