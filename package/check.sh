@@ -106,7 +106,7 @@ run_example() {
         flashback*) start=842 stop=1143 ;;
         *) start=811 stop=1215 ;;
     esac
-    command=$(printf '%s\n' "$1" | sed "s/-j 4021/-j $start/; s/--stop-position 9144/--stop-position $stop/")
+    command=$(printf '%s\n' "$1" | sed "s/-j 4021/-j $start/; s/--at 4021/--at $start/; s/--stop-position 9144/--stop-position $stop/")
     status=0
     (cd "$work/here" && sh -c "$command") > "$work/output" 2>&1 || status=$?
     case $1 in

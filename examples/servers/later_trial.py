@@ -108,7 +108,7 @@ class MistakeInTwo:
         if server.kind is not MARIADB:
             lines = [json.loads(line) for line in programs.command("list", self.log, "--json").splitlines()]
             units = [line for line in lines if any(table["deletes"] == 20 for table in line.get("tables", ()))]
-            ways = [("--thread", "thread")] + [("--gtid", "gtid")] * server.has_gtids
+            ways = [("--at", "start"), ("--thread", "thread")] + [("--gtid", "gtid")] * server.has_gtids
             self.choices = [[word for unit in units for word in (option, str(unit[key]))] for option, key in ways]
             self.part = self.choices[0]
 

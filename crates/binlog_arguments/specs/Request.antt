@@ -207,8 +207,9 @@ abbrev pub later_paths : Found → Order → List (List ℕ)
 later_paths found Forward = []
 later_paths found Backward = all_values found (codes "later")
 
--- the times, threads and global transaction ids of chosen transactions are the values of their options, times in a zone
+-- the positions, times, threads and global transaction ids of chosen transactions are the values of their options, times in a zone
 pub record IsUnitChoice {A : Type 0} (found : Found) (zone : TimeZone) (choice : UnitChoice A) : Type 0 where
+  pub at : AreNumbers (all_values found (codes "at")) choice.at.items
   pub times : AreTimes found choice.from_time choice.to_time zone
   pub threads : AreNumbers (all_values found (codes "thread")) choice.threads.items
   pub gtids : AreIds (all_values found (codes "gtid")) choice.gtids.items
@@ -216,7 +217,7 @@ pub record IsUnitChoice {A : Type 0} (found : Found) (zone : TimeZone) (choice :
 
 -- one of them is given
 abbrev pub chooses_units : {A : Type 0} → UnitChoice A → Bool
-chooses_units choice = ((is_some choice.from_time || is_some choice.to_time) || not (is_nil choice.threads.items)) || not (is_nil choice.gtids.items)
+chooses_units choice = (((not (is_nil choice.at.items) || is_some choice.from_time) || is_some choice.to_time) || not (is_nil choice.threads.items)) || not (is_nil choice.gtids.items)
 
 -- the chosen ones: those of these times, threads and ids, wherever they start and whichever tables they change
 pub record HasChosen {A : Type 0} (choice : UnitChoice A) (wanted : Wanted) : Type 0 where
@@ -336,9 +337,9 @@ RefusesSplit matches fault = IsBehind (codes "split") matches (λ found. Refuses
 abbrev pub RefusesSql : {A : Type 0} → Found → ArgumentsFault A → Type 0
 RefusesSql found fault = RefusesSize (first_value found (codes "size")) fault ⊎ RefusesSchemas (all_values found (codes "rewrite-db")) fault
 
--- why no transactions are chosen: a thread or a global transaction id is wrong, or a time may be, or memory was refused
+-- why no transactions are chosen: a position, a thread or a global transaction id is wrong, or a time may be, or memory was refused
 abbrev pub RefusesUnits : {A : Type 0} → Found → ArgumentsFault A → Type 0
-RefusesUnits found fault = RefusesTime (first_value found (codes "start-datetime")) fault ⊎ RefusesTime (first_value found (codes "stop-datetime")) fault
+RefusesUnits found fault = RefusesNumbers (all_values found (codes "at")) fault ⊎ RefusesTime (first_value found (codes "start-datetime")) fault ⊎ RefusesTime (first_value found (codes "stop-datetime")) fault
     ⊎ RefusesNumbers (all_values found (codes "thread")) fault ⊎ RefusesIds (all_values found (codes "gtid")) fault
 
 -- why no part of a log is asked for: a position, the number of bytes or a pair of schemas is wrong, the name of a zone may be, no transactions

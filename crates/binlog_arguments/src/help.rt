@@ -208,7 +208,7 @@ pub const UNDO_ABOUT: &str = "\
 Prints SQL that undoes changes of LOG: it deletes what was inserted, inserts what was deleted, and updates
 rows back, the last change first. Any mysql or mariadb client runs it, in one transaction: all of it, or
 after any error nothing. What is undone are the changes of the transactions from one position to another,
-which binlog list shows. --thread, --gtid, --start-datetime and --stop-datetime choose some of these
+which binlog list shows. --at, --thread, --gtid, --start-datetime and --stop-datetime choose some of these
 transactions. The others stay, those between the chosen ones too.
 LOG is a server's log as it is, with checksums or without.
 What can't be undone is refused, with its position, and then nothing is written.
@@ -221,7 +221,7 @@ It counts rows as the undo changes them: 120 rows that were deleted are 120 inse
 
 /// How `undo` is called.
 pub const UNDO_USAGE: &str = "\
-binlog undo [--later LOG].. [--anyway] [-j POS] [--stop-position POS]
+binlog undo [--later LOG].. [--anyway] [-j POS] [--stop-position POS] [--at POS]..
                    [--thread N].. [--gtid GTID].. [--start-datetime TIME] [--stop-datetime TIME]
                    [-d NAME] [-T [NAME.]NAME]
                    [--each-transaction] [--keep-times] [--rewrite-db FROM:TO].. [--size BYTES]
@@ -230,9 +230,11 @@ binlog undo [--later LOG].. [--anyway] [-j POS] [--stop-position POS]
 /// What there is to know of `undo`, with examples.
 pub const UNDO_AFTER_HELP: &str = "\
 Positions are bytes from the start of LOG, decimal, 0 to 4294967295: where an event begins. Give the start
-and the stop of transactions that binlog list prints. Names are compared byte by byte.
+and the stop of transactions that binlog list prints; --at takes the start of one, or where its BEGIN is.
+Names are compared byte by byte.
 Without -d and -T all tables are taken back, with them other tables stay as they are.
-Values of --thread and of --gtid are alternatives, and a transaction has to meet all options that are given.
+Values of --at, of --thread and of --gtid are alternatives, and a transaction has to meet all options that are
+given.
 GTID and TIME are as binlog list has them. Times, given and printed, are those of this machine's time zone,
 unless --utc or --time-zone is given. Lines that say where rows were changed since have the times of the events.
 The last line that the client prints has to say COMMIT. ROLLBACK, or no such line, means that nothing
@@ -251,6 +253,8 @@ Examples:
       undo it on a server
   binlog undo -j 4021 --stop-position 9144 binlog.000042 --later binlog.000043 --later binlog.000044 | mysql
       look at what the next two logs have, too
+  binlog undo --at 4021 binlog.000042 --dry-run
+      the transaction that starts at this position; --at can be given several times
   binlog undo --thread 13 binlog.000042 --dry-run
       all transactions of one connection of a client, and none of the others between them
   binlog undo --gtid 283c105d-e730-11f1-97ff-02fc00000001:6 binlog.000042 | mysql
@@ -281,7 +285,7 @@ pub const REDO_ABOUT: &str = "\
 Prints SQL that makes changes of LOG once more, in their order: after an undo that was a mistake, or on a
 table that was brought back from a backup. Any mysql or mariadb client runs it, in one transaction: all of
 it, or after any error nothing. The changes are those of the transactions from one position to another,
-which binlog list shows. --thread, --gtid, --start-datetime and --stop-datetime choose some of these
+which binlog list shows. --at, --thread, --gtid, --start-datetime and --stop-datetime choose some of these
 transactions: only their changes are made. LOG is a server's log as it is, with checksums or without. What is
 after the stop position doesn't count.
 What can't be made once more is refused, with its position, and then nothing is written.
@@ -289,7 +293,7 @@ A report says what is made: on standard output with -r and with --dry-run, else 
 
 /// How `redo` is called.
 pub const REDO_USAGE: &str = "\
-binlog redo [-j POS] [--stop-position POS]
+binlog redo [-j POS] [--stop-position POS] [--at POS]..
                    [--thread N].. [--gtid GTID].. [--start-datetime TIME] [--stop-datetime TIME]
                    [-d NAME] [-T [NAME.]NAME]
                    [--each-transaction] [--keep-times] [--rewrite-db FROM:TO].. [--size BYTES]
@@ -298,9 +302,11 @@ binlog redo [-j POS] [--stop-position POS]
 /// What there is to know of `redo`, with examples.
 pub const REDO_AFTER_HELP: &str = "\
 Positions are bytes from the start of LOG, decimal, 0 to 4294967295: where an event begins. Give the start
-and the stop of transactions that binlog list prints. Names are compared byte by byte.
+and the stop of transactions that binlog list prints; --at takes the start of one, or where its BEGIN is.
+Names are compared byte by byte.
 Without -d and -T the changes of all tables are made, with them only those of the chosen ones.
-Values of --thread and of --gtid are alternatives, and a transaction has to meet all options that are given.
+Values of --at, of --thread and of --gtid are alternatives, and a transaction has to meet all options that are
+given.
 GTID and TIME are as binlog list has them. Times are those of this machine's time zone, unless --utc or
 --time-zone is given.
 The last line that the client prints has to say COMMIT. ROLLBACK, or no such line, means that nothing
@@ -316,6 +322,8 @@ Examples:
       write to a file that isn't there yet; -r is the same as --result-file, -j as --start-position
   binlog redo -j 4021 --stop-position 9144 binlog.000042 -r redo.sql --force
       replace a file that is there
+  binlog redo --at 4021 binlog.000042 --dry-run
+      the transaction that starts at this position; --at can be given several times
   binlog redo --thread 13 binlog.000042 --dry-run
       only the transactions of one connection of a client
   binlog redo --gtid 283c105d-e730-11f1-97ff-02fc00000001:6 binlog.000042 --dry-run

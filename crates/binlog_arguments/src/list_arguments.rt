@@ -107,7 +107,7 @@ pub(crate) fn read_list<'a, R: Files + Env + AllocGlobal, A: Allocator + Copy>(
         stop: read_number(alloc, command, found, STOP, "POS", POSITION)?,
         from_time: read_time(alloc, command, found, START_TIME, clock, Side::Start)?,
         to_time: read_time(alloc, command, found, STOP_TIME, clock, Side::Stop)?,
-        threads: read_threads(alloc, command, found)?,
+        threads: read_numbers(alloc, command, found, THREAD, "N", THREAD_ID)?,
         gtids: read_gtids(alloc, command, found)?,
         database: found.get_str(DATABASE).map(str::as_bytes),
         tables: read_tables(alloc, found, TABLE)?,
@@ -158,41 +158,47 @@ fn read_tables<'a, A: Allocator>(
 }
 
 /// What a thread is, as it is reported of a value that is none.
-const THREAD_ID: &str = "a thread id: decimal digits, 0 to 4294967295";
+pub(crate) const THREAD_ID: &str = "a thread id: decimal digits, 0 to 4294967295";
 
-/// The threads that are asked for, in order.
-pub(crate) fn read_threads<'a, A: Allocator + Copy>(
+/// The numbers that an option has, in order. `value` is what its value is called in the help, and `has_to_be` says what one has to be.
+pub(crate) fn read_numbers<'a, A: Allocator + Copy>(
     alloc: A,
     command: &mut Command<'a>,
     found: &ArgMatches<'a>,
+    name: &str,
+    value: &str,
+    has_to_be: &str,
 ) -> Result<Vec<u32, A>, ArgumentsFault<A>>
-    ensures found { IfOk result (λ threads. AreNumbers (all_values (found_of found.now) (codes "thread")) threads.items) }
-    ensures wrong { IfErr result (RefusesNumbers (all_values (found_of found.now) (codes "thread"))) }
+    ensures found { IfOk result (λ numbers. AreNumbers (all_values (found_of found.now) name.now) numbers.items) }
+    ensures wrong { IfErr result (RefusesNumbers (all_values (found_of found.now) name.now)) }
 {
-    let mut threads = Vec::new(alloc);
-    if let Some(values) = found.get_strs(THREAD) {
+    let mut numbers = Vec::new(alloc);
+    if let Some(values) = found.get_strs(name) {
         for text in values {
             let Some(number) = position_of(text) else {
-                return Err(wrong_thread(alloc, command, text)?);
+                return Err(wrong_number(alloc, command, name, value, text, has_to_be)?);
             };
-            if threads.push(number).is_err() {
+            if numbers.push(number).is_err() {
                 return Err(ArgumentsFault::OutOfMemory);
             }
         }
     }
-    Ok(threads)
+    Ok(numbers)
 }
 
-/// Why a text is no thread id.
-fn wrong_thread<A: Allocator + Copy>(
+/// Why a text is none of the numbers of an option.
+fn wrong_number<A: Allocator + Copy>(
     alloc: A,
     command: &mut Command<'_>,
+    name: &str,
+    value: &str,
     text: &str,
+    has_to_be: &str,
 ) -> Result<ArgumentsFault<A>, AllocError>
     ensures { IfOk result (λ fault. IsWrong fault) }
 {
-    let option = format!(in alloc; "{THREAD} <N>")?;
-    let told = wrong_value(alloc, command, option.as_str(), text, THREAD_ID)?;
+    let option = format!(in alloc; "{name} <{value}>")?;
+    let told = wrong_value(alloc, command, option.as_str(), text, has_to_be)?;
     Ok(ArgumentsFault::Wrong(told))
 }
 

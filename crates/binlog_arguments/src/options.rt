@@ -37,6 +37,8 @@ pub const DATABASE: &str = "database";
 pub const TABLE: &str = "table";
 /// The name of `--exclude-table`.
 pub const EXCLUDED_TABLE: &str = "exclude-table";
+/// The name of `--at`.
+pub const AT: &str = "at";
 /// The name of `--thread`.
 pub const THREAD: &str = "thread";
 /// The name of `--gtid`.
@@ -183,7 +185,8 @@ fn redo_arguments<'a>(alloc: Global) -> Result<Command<'a>, AllocError> {
 
 /// Adds the options of `undo` and `redo` that they share, and their argument LOG.
 fn part_arguments<'a>(alloc: Global, command: Command<'a>) -> Result<Command<'a>, AllocError> {
-    let command = unit_arguments(alloc, selection_options(alloc, command)?)?;
+    let command = at_argument(alloc, selection_options(alloc, command)?)?;
+    let command = unit_arguments(alloc, command)?;
     let command = sql_options(alloc, zone_arguments(alloc, command)?)?;
     let as_log = flag(alloc, AS_LOG).help("Write a binary log, and no SQL");
     let command = command.arg(as_log)?;
@@ -295,6 +298,14 @@ fn range_arguments<'a>(alloc: Global, command: Command<'a>) -> Result<Command<'a
     let command = command.arg(start.short('j'))?;
     let stop = option(alloc, STOP, "POS").help("Only those that start before POS");
     command.arg(stop)
+}
+
+/// Adds the option that chooses transactions by where they start.
+fn at_argument<'a>(alloc: Global, command: Command<'a>) -> Result<Command<'a>, AllocError> {
+    let at = option(alloc, AT, "POS").help(
+        "Only the transaction that starts at POS, or has its BEGIN there; can be given several times",
+    );
+    command.arg(at.action(ArgAction::Append))
 }
 
 /// Adds the options that choose transactions by thread, GTID and time.

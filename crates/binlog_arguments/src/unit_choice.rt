@@ -6,18 +6,21 @@ ghost use Rattle.jiff.specs.Words.{plain_zone};
 ghost use Rattle.binlog_arguments.specs.Request.{HasUnits, IsUnitChoice, RefusesUnits, chooses_units};
 
 use crate::arguments::ArgumentsFault;
-use crate::list_arguments::{read_gtids, read_paths, read_threads, read_time};
-use crate::options::{GTID, START_TIME, STOP_TIME};
+use crate::list_arguments::{THREAD_ID, read_gtids, read_numbers, read_paths, read_time};
+use crate::options::{AT, GTID, START_TIME, STOP_TIME, THREAD};
 use blog_choice::TableChoice;
 use blog_list::Side;
 use blog_request::{GlobalIds, Wanted};
 use clap::{ArgMatches, Command};
+use console::POSITION;
 use jiff::tz::TimeZone;
 use std::alloc::Allocator;
 
 /// Which transactions of a part of a log are chosen: those that meet each condition that is given.
 #[derive(Drop)]
 pub struct UnitChoice<'a, A: Allocator> {
+    /// Those that start at one of these positions, or have their `BEGIN` there; any if there are none.
+    pub at: Vec<u32, A>,
     /// Those of this time or later, in seconds since 1970 in UTC.
     pub from_time: Option<u32>,
     /// Those before this time.
@@ -31,7 +34,8 @@ pub struct UnitChoice<'a, A: Allocator> {
 }
 
 impl<A: Allocator> UnitChoice<'_, A> {
-    /// Returns which units are wanted. Returns None if all of them are: no time, thread or id is given.
+    /// Returns which units are wanted, wherever they start: of those at the asked positions, if there are some. Returns None if all of
+    /// them are: no position, time, thread or id is given.
     pub fn wanted(&self) -> Option<Wanted<'_>>
         ensures { HasUnits self.now result }
     {
@@ -53,11 +57,12 @@ impl<A: Allocator> UnitChoice<'_, A> {
         })
     }
 
-    /// Whether a time, a thread or an id is given.
+    /// Whether a position, a time, a thread or an id is given.
     fn chooses_some(&self) -> bool
         ensures { result ≡ chooses_units self.now }
     {
-        self.from_time.is_some()
+        !self.at.is_empty()
+            || self.from_time.is_some()
             || self.to_time.is_some()
             || !self.threads.is_empty()
             || !self.gtids.is_empty()
@@ -75,9 +80,10 @@ pub(crate) fn read_unit_choice<'a, A: Allocator + Copy>(
     ensures refused { IfErr result (RefusesUnits (found_of found.now)) }
 {
     Ok(UnitChoice {
+        at: read_numbers(alloc, command, found, AT, "POS", POSITION)?,
         from_time: read_time(alloc, command, found, START_TIME, zone, Side::Start)?,
         to_time: read_time(alloc, command, found, STOP_TIME, zone, Side::Stop)?,
-        threads: read_threads(alloc, command, found)?,
+        threads: read_numbers(alloc, command, found, THREAD, "N", THREAD_ID)?,
         gtids: read_gtids(alloc, command, found)?,
         gtid_texts: read_paths(alloc, found, GTID)?,
     })

@@ -28,6 +28,8 @@ use Rattle.undo_run.specs.Parts.{IsPlaced}
 use Rattle.undo_run.specs.Writes.{ReportsPart, WritesPart}
 use Rattle.undo_run.specs.declared.fault.PartFault.{PartFault}
 use Rattle.undo_run.specs.declared.fault.PartFault.TheVariants.{LaterLog, NoUnitWithGtid}
+use Rattle.undo_run.specs.declared.request.UnitRequest.{UnitRequest}
+use Rattle.binlog_arguments.specs.declared.unit_choice.UnitChoice.{UnitChoice}
 use Rattle.binlog_arguments.specs.Zones.{IsZoneOf}
 use Rattle.binlog_arguments.specs.declared.list_arguments.ListTask.{ListTask}
 use Rattle.binlog_command.specs.declared.commands.Failure.{Failure}
@@ -167,19 +169,24 @@ abbrev pub OfPart : {A : Type 0} → PartTask A → (Result (Vec ℕ A) (PartFau
 OfPart task P (Ok done) = (told : Vec ℕ _) × P (Ok told)
 OfPart task P (Err failure) = OfTold task P (Err failure)
 
+-- which units are asked for; None where all of them are
+abbrev pub HasRequest : {A : Type 0} → UnitChoice A → Option UnitRequest → Type 0
+HasRequest choice None = HasUnits choice None
+HasRequest choice (Some asked) = HasUnits choice (Some asked.wanted) × (asked.at.now ≡ choice.at.items)
+
 -- a task's part is written, or the chosen transactions of that, as it is written at this time
 abbrev pub WritesTask : {A R : Type 0} → (R → Option (List ℕ)) → List (GivenLog R) → PartTask A → ℕ → Option (List ℕ) → Option (List ℕ) → Option (List ℕ) → Option (List ℕ) → Result Unit (Failure A) → Type 0
-WritesTask known givens task now old new had has result = (how : Writing) × HasPartWriting task now how × ((wanted : Option Wanted) × HasUnits task.units wanted
-    × OfPart task (WritesPart task.looks known givens how task.sql.log.now (selection_of task.part) wanted old new had has) result)
+WritesTask known givens task now old new had has result = (how : Writing) × HasPartWriting task now how × ((asked : Option UnitRequest) × HasRequest task.units asked
+    × OfPart task (WritesPart task.looks known givens how task.sql.log.now (selection_of task.part) asked old new had has) result)
 
 -- this is reported of it, of the log that was read
-abbrev pub IsToldOf : {A R : Type 0} → (R → Option (List ℕ)) → List (GivenLog R) → Writing → PartTask A → Option Wanted → Option (List ℕ) → Option (List ℕ) → List ℕ → Type 0
-IsToldOf known givens how task wanted old new told = ReportsPart task.looks known givens how task.sql.log.now (selection_of task.part) wanted old new told
+abbrev pub IsToldOf : {A R : Type 0} → (R → Option (List ℕ)) → List (GivenLog R) → Writing → PartTask A → Option UnitRequest → Option (List ℕ) → Option (List ℕ) → List ℕ → Type 0
+IsToldOf known givens how task asked old new told = ReportsPart task.looks known givens how task.sql.log.now (selection_of task.part) asked old new told
 
 -- and it is written
 abbrev pub TellsPart : {A R : Type 0} → (R → Option (List ℕ)) → List (GivenLog R) → PartTask A → ℕ → Option (List ℕ) → Option (List ℕ) → Option (List ℕ) → Option (List ℕ) → Type 0
-TellsPart known givens task now old new had has = (how : Writing) × HasPartWriting task now how × ((wanted : Option Wanted) × HasUnits task.units wanted
-    × ((told : List ℕ) × IsToldOf known givens how task wanted old new told × Appends had has told))
+TellsPart known givens task now old new had has = (how : Writing) × HasPartWriting task now how × ((asked : Option UnitRequest) × HasRequest task.units asked
+    × ((told : List ℕ) × IsToldOf known givens how task asked old new told × Appends had has told))
 
 -- ---- lists
 

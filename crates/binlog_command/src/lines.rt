@@ -105,6 +105,10 @@ fn print_part_fault<W: fmt::Write, A: Allocator>(
             let fault = Fault::NoEventAt { pos: *pos };
             write!(f, "{fault}: {}", advice::of_log(&fault))
         }
+        PartFault::NoUnitAt(pos) => write!(
+            f,
+            "NoUnitAt at {pos}: no transaction in this range starts here, or has its BEGIN here: give a start that binlog list prints"
+        ),
         PartFault::NoUnitWithGtid(_) => f.write_str(NO_UNIT_WITH_GTID),
         PartFault::Log(fault) => write!(f, "{fault}: {}", advice::of_log(fault)),
         PartFault::NothingSelected => f.write_str(NOTHING_SELECTED),

@@ -6,15 +6,14 @@ ghost use Rattle.blog_device.specs.Watched.{device_of, has_failed};
 ghost use Rattle.blog_run.specs.Writing.{HasShortWriting};
 ghost use Rattle.blog_sql.specs.Changed.{HaveShortNames};
 ghost use Rattle.blog_trans.specs.Selection.{selection_of};
-ghost use Rattle.binlog_command.specs.Runs.{IsFailureOf, IsToldOf, OfTold, TellsPart, WritesTask};
+ghost use Rattle.binlog_command.specs.Runs.{HasRequest, IsFailureOf, IsToldOf, OfTold, TellsPart, WritesTask};
 ghost use Rattle.binlog_command.specs.Status.{status_of};
 ghost use Rattle.undo_run.specs.Writes.{WritesPart};
 
 use crate::commands::{Failure, Process};
 use crate::log_file::open_logs;
-use binlog_arguments::PartTask;
+use binlog_arguments::{PartTask, UnitChoice};
 use blog_device::{Watched, put};
-use blog_request::Wanted as Units;
 use blog_run::Writing;
 use list_run::GivenLog;
 use result_file::{ResultFile, Wanted};
@@ -22,7 +21,7 @@ use std::alloc::{AllocError, Allocator};
 use std::io;
 use std::io::{Read, Write};
 use std::rt::Files;
-use undo_run::{PartFault, write_part};
+use undo_run::{PartFault, UnitRequest, write_part};
 
 /// A device that takes everything, and keeps nothing.
 #[derive(Drop)]
@@ -108,7 +107,7 @@ pub(crate) fn run_part<
         (O.contents (device_of output.old)) (O.contents (device_of output.new))) }
 {
     let writing = task.writing(process.began);
-    let units = task.units.wanted();
+    let units = request(&task.units);
     if task.dry_run {
         let mut nowhere = Watched::new(Nowhere {});
         let told = part_to(
@@ -145,14 +144,27 @@ pub(crate) fn run_part<
     }
 }
 
-/// Writes the part of a task's log to a device, or the wanted units of it, and returns the report.
+/// Which units are asked for; all of them if no option chooses some.
+fn request<'u, A: Allocator>(units: &'u UnitChoice<'_, A>) -> Option<UnitRequest<'u>>
+    ensures { HasRequest units.now result }
+{
+    match units.wanted() {
+        Some(wanted) => Some(UnitRequest {
+            wanted,
+            at: units.at.as_slice(),
+        }),
+        None => None,
+    }
+}
+
+/// Writes the part of a task's log to a device, or the units of it that are asked for, and returns the report.
 fn part_to<'a, A: Allocator + Copy, D: Read, L: Read + Drop, W: Write>(
     alloc: A,
     process: Process,
     reader: &mut Watched<D>,
     later: Vec<GivenLog<'a, L>, A>,
     task: &PartTask<'a, A>,
-    units: Option<Units<'_>>,
+    units: Option<UnitRequest<'_>>,
     writing: &Writing<'_>,
     writer: &mut Watched<W>,
 ) -> Result<Vec<u8, A>, Failure<'a, A>>
@@ -198,7 +210,7 @@ fn failure_of<'a, A: Allocator>(task: &PartTask<'a, A>, fault: PartFault<A>) -> 
     }
 }
 
-/// Writes the part of a task's log, or the wanted units of it, to the result file, which has its name once it is whole, and returns the report.
+/// Writes the part of a task's log, or the units of it that are asked for, to the result file, which has its name once it is whole, and returns the report.
 fn part_to_file<'a, R: Files, A: Allocator + Copy, D: Read, L: Read + Drop>(
     rt: &R,
     alloc: A,
@@ -206,7 +218,7 @@ fn part_to_file<'a, R: Files, A: Allocator + Copy, D: Read, L: Read + Drop>(
     reader: &mut Watched<D>,
     later: Vec<GivenLog<'a, L>, A>,
     task: &PartTask<'a, A>,
-    units: Option<Units<'_>>,
+    units: Option<UnitRequest<'_>>,
     writing: &Writing<'_>,
     wanted: &Wanted<'a>,
 ) -> Result<Vec<u8, A>, Failure<'a, A>>

@@ -1,7 +1,5 @@
 -- Changes of others among selected ones, in steps: what units change, one after the other.
-use Rattle.std.specs.Prelude.{◌≡◌, ℕ, ◌+◌, true, false, not, if◌then◌else◌, List, [], ◌∷◌, ◌++◌, map, filter, length}
-use Rattle.blog_request.specs.Wanted.{is_in_range}
-use Rattle.blog_request.specs.declared.wanted.Wanted.{Wanted}
+use Rattle.std.specs.Prelude.{◌≡◌, ℕ, ◌+◌, Bool, true, false, not, if◌then◌else◌, List, [], ◌∷◌, ◌++◌, map, filter, length}
 use Rattle.blog_trans.specs.Changes.{Change}
 use Rattle.blog_undo.specs.Mixed.{Marked, is_untouched}
 use Rattle.blog_units.specs.Units.{Facts}
@@ -40,21 +38,20 @@ touches_among ss = touches_from (selected_in ss) 0 ss
 abbrev pub PrintsAmongSuffice : List Step → Type 0
 PrintsAmongSuffice ss = touches_among ss ≡ 0 → is_untouched (marked_in ss) ≡ true
 
--- ---- of the units of a log
+-- ---- of the units of a log, of which some are chosen: those that pass a test
 
--- those that aren't in the range of what is wanted
-abbrev pub others_of : Wanted → List Facts → List Facts
-others_of w us = filter (λ u. not (is_in_range w u)) us
+abbrev pub others_of : (Facts → Bool) → List Facts → List Facts
+others_of p us = filter (λ u. not (p u)) us
 
-abbrev pub wanted_of : Wanted → List Facts → List Facts
-wanted_of w us = filter (is_in_range w) us
+abbrev pub chosen_of : (Facts → Bool) → List Facts → List Facts
+chosen_of p us = filter p us
 
--- from the first on that is
-abbrev pub from_first : Wanted → List Facts → List Facts
-from_first w [] = []
-from_first w (u ∷ us) = if is_in_range w u then u ∷ us else from_first w us
+-- from the first chosen one on
+abbrev pub from_first : (Facts → Bool) → List Facts → List Facts
+from_first p [] = []
+from_first p (u ∷ us) = if p u then u ∷ us else from_first p us
 
--- How many changes of the others take a row by these fingerprints, which are those of the first lists; each wanted unit adds a list.
-abbrev pub touches_by : (ℕ → Left) → Wanted → List ℕ → ℕ → List Facts → ℕ
-touches_by lefts w bytes k [] = 0
-touches_by lefts w bytes k (u ∷ us) = if is_in_range w u then touches_by lefts w bytes (k + 1) us else touches_in (lefts k) bytes (u ∷ []) + touches_by lefts w bytes k us
+-- How many changes of the others take a row by these fingerprints, which are those of the first lists; each chosen unit adds a list.
+abbrev pub touches_by : (ℕ → Left) → (Facts → Bool) → List ℕ → ℕ → List Facts → ℕ
+touches_by lefts p bytes k [] = 0
+touches_by lefts p bytes k (u ∷ us) = if p u then touches_by lefts p bytes (k + 1) us else touches_in (lefts k) bytes (u ∷ []) + touches_by lefts p bytes k us

@@ -28,8 +28,10 @@ fn written_by(rt: &HostRuntime, arguments: &[&str]) -> Result<Vec<u8>, Fail> {
 #[test]
 fn transactions_are_chosen(rt: HostRuntime) -> Result<(), Fail> {
     for command in [&["undo"] as &[&str], &["undo", "--anyway"], &["redo"]] {
-        let choices: [&[&str]; 5] = [
+        let choices: [&[&str]; 7] = [
             &["-j", "811", "--stop-position", "1215"],
+            &["--at", "811"],
+            &["--at", "890", "--gtid", BOTH, "--at", "811"],
             &["--gtid", SIXTH],
             &["--gtid", BOTH, "-j", "811"],
             &[
@@ -121,6 +123,18 @@ fn choices_without_rows_are_refused(rt: HostRuntime) -> Result<(), Fail> {
         }
     }
     let line =
+        "binlog: NoUnitAt at 812: no transaction in this range starts here, or has its BEGIN here: give a start that binlog list prints\n";
+    for command in [&["undo"] as &[&str], &["undo", "--anyway"], &["redo"]] {
+        for choice in [
+            &["--at", "812"] as &[&str],
+            &["--at", "811", "--at", "812", "--gtid", NONE],
+        ] {
+            let mut arguments = command.to_vec(rt.alloc())?;
+            arguments.extend_from_slice(choice)?;
+            check(&rt, &arguments, 1, line)?;
+        }
+    }
+    let line =
         "binlog: Unended at 965: the range ends inside a transaction: stop the range where a transaction stops\n";
     let cut = ["undo", "--gtid", SIXTH, "--stop-position", "900"];
     check(&rt, &cut, 1, line)?;
@@ -132,7 +146,11 @@ fn choices_without_rows_are_refused(rt: HostRuntime) -> Result<(), Fail> {
 
 #[test]
 fn wrong_choices_are_refused(rt: HostRuntime) -> Result<(), Fail> {
-    let cases: [(&[&str], &str); 3] = [
+    let cases: [(&[&str], &str); 4] = [
+        (
+            &["undo", "--at", "1", "--at", "4294967296", "a"],
+            "error: invalid value '4294967296' for '--at <POS>': not a position: ",
+        ),
         (
             &["undo", "--thread", "+7", "a"],
             "error: invalid value '+7' for '--thread <N>': not a thread id: decimal digits, 0 to 4294967295",

@@ -2,7 +2,7 @@
 
 ghost use Rattle.blog_run.specs.Writing.{HasShortWriting};
 
-use crate::runs::{Came, UNDO, between, changes_of, part_of};
+use crate::runs::{Came, UNDO, between, changes_of, part_of, undone};
 use blog_event::event_at;
 use blog_row::Order;
 use blog_run::{Writing, WritingFault};
@@ -112,19 +112,19 @@ fn parts_start_where_an_event_does(rt: HostRuntime) -> Result<(), Fail> {
     let places = places(&rt, &CLOSED)?;
     let end = CLOSED.len() as u32;
     for start in 0..end.wrapping_add(20) {
-        let (came, _, _) = part_of(&rt, &CLOSED, &between(start, None), &UNDO)?;
+        let came = undone(&rt, &CLOSED, &between(start, None))?;
         let is_place = start <= 4 || places.contains(&start);
         assert_eq!(rt; came != Came::NoEventAt(start), is_place);
         // the part is empty, wherever it starts
         for stop in [0, 4, start] {
             let part = between(start, Some(stop.min(start)));
-            let (came, _, _) = part_of(&rt, &CLOSED, &part, &UNDO)?;
+            let came = undone(&rt, &CLOSED, &part)?;
             assert_eq!(rt; came, Came::NothingSelected);
         }
     }
-    let (came, _, _) = part_of(&rt, &CLOSED, &between(end, None), &UNDO)?;
+    let came = undone(&rt, &CLOSED, &between(end, None))?;
     assert_eq!(rt; came, Came::NothingSelected);
-    let (came, _, _) = part_of(&rt, &CLOSED, &between(u32::MAX, None), &UNDO)?;
+    let came = undone(&rt, &CLOSED, &between(u32::MAX, None))?;
     assert_eq!(rt; came, Came::NoEventAt(u32::MAX));
     Ok(())
 }

@@ -1,6 +1,6 @@
 //! Parts that aren't written, and why; and devices and memory that fail.
 
-use crate::runs::{Came, UNDO, between, given, no_logs, part_of, part_with};
+use crate::runs::{Came, UNDO, between, given, no_logs, part_of, part_with, undone};
 use blog_device::{RunFault, Watched};
 use blog_event::{Fault, event_at};
 use blog_run::Writing;
@@ -77,7 +77,7 @@ fn cut_logs_are_refused(rt: HostRuntime) -> Result<(), Fail> {
     for len in 198..CLOSED.len() {
         let log = CLOSED.get(..len).ok_or("a longer log")?;
         let (begins, _) = event_with(&CLOSED, len as u32).ok_or("no event")?;
-        let (came, _, _) = part_of(&rt, log, &between(START, Some(STOP)), &UNDO)?;
+        let came = undone(&rt, log, &between(START, Some(STOP)))?;
         let wanted = if begins >= STOP {
             Came::Done
         } else if begins as usize == len {
@@ -102,7 +102,7 @@ fn cut_logs_are_refused(rt: HostRuntime) -> Result<(), Fail> {
 #[test]
 fn the_first_fault_is_told(rt: HostRuntime) -> Result<(), Fail> {
     let statement = Came::Log(Fault::Statement { pos: 567 });
-    let (came, _, _) = part_of(&rt, &IN_USE, &between(198, None), &UNDO)?;
+    let came = undone(&rt, &IN_USE, &between(198, None))?;
     assert_eq!(rt; came, statement);
     let later = Came::Log(Fault::Statement { pos: 1447 });
     for (at, wanted, wanted_later) in [
@@ -115,14 +115,14 @@ fn the_first_fault_is_told(rt: HostRuntime) -> Result<(), Fail> {
         *log.get_mut(at).ok_or("an edit past the end")? ^= 1;
         let (begins, _) = event_with(&IN_USE, at as u32).ok_or("no event")?;
         let damage = Came::Sums(SumFault::WrongSum { pos: begins });
-        let (came, _, _) = part_of(&rt, &log, &between(198, None), &UNDO)?;
+        let came = undone(&rt, &log, &between(198, None))?;
         assert_eq!(rt; came, wanted.unwrap_or(damage));
         // nothing is known behind the damage
-        let (came, _, _) = part_of(&rt, &log, &between(995, None), &UNDO)?;
+        let came = undone(&rt, &log, &between(995, None))?;
         assert_eq!(rt; came, wanted_later.unwrap_or(damage));
     }
     // the change of the definition is behind the stop
-    let (came, _, _) = part_of(&rt, &IN_USE, &between(198, Some(490)), &UNDO)?;
+    let came = undone(&rt, &IN_USE, &between(198, Some(490)))?;
     assert_eq!(rt; came, Came::Done);
     Ok(())
 }
@@ -143,11 +143,11 @@ fn a_part_without_rows_is_refused(rt: HostRuntime) -> Result<(), Fail> {
             database,
             table,
         };
-        let (came, _, _) = part_of(&rt, &CLOSED, &part, &UNDO)?;
+        let came = undone(&rt, &CLOSED, &part)?;
         assert_eq!(rt; came, Came::NothingSelected);
     }
     // between the format description and the first unit
-    let (came, _, _) = part_of(&rt, &CLOSED, &between(4, Some(198)), &UNDO)?;
+    let came = undone(&rt, &CLOSED, &between(4, Some(198)))?;
     assert_eq!(rt; came, Came::NothingSelected);
     Ok(())
 }

@@ -4,7 +4,6 @@ ghost use Rattle.blog_run.specs.Writing.{HasShortWriting};
 
 use blog_device::Watched;
 use blog_event::Fault;
-use blog_request::Wanted;
 use blog_row::Order;
 use blog_run::{Writing, WritingFault, write_changes};
 use blog_trans::Selection;
@@ -13,7 +12,7 @@ use list_run::GivenLog;
 use std::alloc::{AllocError, Allocator};
 use std::test::Fail;
 use testkit::devices::{ALL, Failure, SlowReader, SlowWriter};
-use undo_run::{OpeningFault, PartFault, write_part};
+use undo_run::{OpeningFault, PartFault, UnitRequest, write_part};
 
 /// Changes that undo others, as a log.
 pub(crate) const UNDO: Writing<'static> = Writing {
@@ -38,6 +37,7 @@ pub(crate) enum Came {
     Done,
     Sums(blog_sum::SumFault),
     NoEventAt(u32),
+    NoUnitAt(u32),
     NoUnitWithGtid(usize),
     Log(Fault),
     NothingSelected,
@@ -57,6 +57,7 @@ fn came_of<A: Allocator>(fault: &PartFault<A>) -> Came {
         PartFault::LaterLog(n, fault) => Came::LaterLog(*n, *fault),
         PartFault::ChangedSince(rows, _) => Came::ChangedSince(*rows),
         PartFault::UnknownSince(_) => Came::UnknownSince,
+        PartFault::NoUnitAt(pos) => Came::NoUnitAt(*pos),
         PartFault::NoUnitWithGtid(n) => Came::NoUnitWithGtid(*n),
         PartFault::Run(_) | PartFault::TooLong | PartFault::NoSchema(_) => Came::Other,
     }
@@ -82,6 +83,16 @@ pub(crate) fn part_of<R: AllocGlobal>(
     requires { HasShortWriting writing.now }
 {
     part_by(rt, log, part, false, writing)
+}
+
+/// What comes of undoing a part of a log.
+pub(crate) fn undone<R: AllocGlobal>(
+    rt: &R,
+    log: &[u8],
+    part: &Selection<'_>,
+) -> Result<Came, Fail> {
+    let (came, _, _) = part_of(rt, log, part, &UNDO)?;
+    Ok(came)
 }
 
 /// No later logs.
@@ -129,12 +140,12 @@ pub(crate) fn part_with<R: AllocGlobal>(
     part_in_zone(rt, TimeZone::UTC, log, part, looks, later, writing)
 }
 
-/// The same of wanted units of the part.
+/// The same of units of the part that are asked for.
 pub(crate) fn units_with<R: AllocGlobal>(
     rt: &R,
     log: &[u8],
     part: &Selection<'_>,
-    wanted: Wanted<'_>,
+    asked: UnitRequest<'_>,
     looks: bool,
     later: &[(&str, &[u8])],
     writing: &Writing<'_>,
@@ -146,7 +157,7 @@ pub(crate) fn units_with<R: AllocGlobal>(
         TimeZone::UTC,
         log,
         part,
-        Some(wanted),
+        Some(asked),
         looks,
         later,
         writing,
@@ -168,13 +179,13 @@ pub(crate) fn part_in_zone<R: AllocGlobal>(
     run(rt, zone, log, part, None, looks, later, writing)
 }
 
-/// What comes of writing a part of a log, or wanted units of it, what was written, and the report, or the lines that a refusal comes with.
+/// What comes of writing a part of a log, or units of it, what was written, and the report, or the lines that a refusal comes with.
 fn run<R: AllocGlobal>(
     rt: &R,
     zone: TimeZone<'_>,
     log: &[u8],
     part: &Selection<'_>,
-    wanted: Option<Wanted<'_>>,
+    asked: Option<UnitRequest<'_>>,
     looks: bool,
     later: &[(&str, &[u8])],
     writing: &Writing<'_>,
@@ -189,7 +200,7 @@ fn run<R: AllocGlobal>(
         &mut reader,
         name,
         part,
-        wanted,
+        asked,
         looks,
         given(rt.alloc(), later)?,
         0,

@@ -1,4 +1,4 @@
-//! Wanted units of a part, by their global transaction ids.
+//! Units of a part, by their global transaction ids and positions.
 
 use crate::runs::{Came, UNDO, between, changes_of, units_with};
 use blog_choice::TableChoice;
@@ -11,6 +11,7 @@ use blog_trans::Selection;
 use sample_logs::builder::{BEGIN, DROP_TABLE, Part, T, Table, XID, build, delete, insert};
 use std::process::Abort;
 use std::test::Fail;
+use undo_run::UnitRequest;
 
 /// Gtid events: a byte of flags, the server's id, and the number.
 const FIRST: Part<'static> = Part::Other {
@@ -59,6 +60,18 @@ fn run_log<R: AllocGlobal>(
     ids: &[&[u8]],
     looks: bool,
 ) -> Result<(Came, Vec<u8>, Vec<u8>), Fail> {
+    run_at(rt, log, part, &[], ids, looks)
+}
+
+/// The same of those of them that are at these positions.
+fn run_at<R: AllocGlobal>(
+    rt: &R,
+    log: &[u8],
+    part: &Selection<'_>,
+    at: &[u32],
+    ids: &[&[u8]],
+    looks: bool,
+) -> Result<(Came, Vec<u8>, Vec<u8>), Fail> {
     let mut gtids = Vec::new(rt.alloc());
     for text in ids {
         match GlobalIds::read(text) {
@@ -83,24 +96,25 @@ fn run_log<R: AllocGlobal>(
         rt,
         log,
         part,
-        wanted,
+        UnitRequest { wanted, at },
         looks,
         &[],
         if looks { &UNDO } else { &REDO },
     )
 }
 
-/// This comes of a run over the units that have these ids.
+/// This comes of a run over the units at these positions that have these ids.
 fn comes<R: AllocGlobal + Abort>(
     rt: &R,
     log: &[u8],
     part: &Selection<'_>,
+    at: &[u32],
     ids: &[&[u8]],
     looks: bool,
     wanted: Came,
 ) -> Result<(), Fail> {
-    let (came, _, _) = run_log(rt, log, part, ids, looks)?;
-    assert_eq!(rt; came, wanted);
+    let (came, _, _) = run_at(rt, log, part, at, ids, looks)?;
+    assert_eq!(rt; came, wanted, "{at:?} {looks}");
     Ok(())
 }
 
@@ -298,6 +312,7 @@ fn units_that_the_stop_or_damage_cuts_are_refused(rt: HostRuntime) -> Result<(),
         &rt,
         &log,
         &part,
+        &[],
         &[TWO],
         true,
         Came::Log(Fault::Unended { pos: 423 }),
@@ -316,23 +331,33 @@ fn units_that_the_stop_or_damage_cuts_are_refused(rt: HostRuntime) -> Result<(),
     let lines =
         "binlog.000042 303: may change these tables, and can't be looked into\nbinlog.000042 459: the log is damaged, or ends inside an event\n";
     check_log(&rt, cut, &all, &[ONE], Came::UnknownSince, lines)?;
-    comes(&rt, cut, &all, &[ONE], false, Came::Sums(damage))?;
+    comes(&rt, cut, &all, &[], &[ONE], false, Came::Sums(damage))?;
     comes(
         &rt,
         cut,
         &all,
+        &[],
         &[TWO],
         true,
         Came::Log(Fault::Unended { pos: 459 }),
     )?;
-    comes(&rt, cut, &all, &[TWO], false, Came::Sums(damage))?;
+    comes(&rt, cut, &all, &[], &[TWO], false, Came::Sums(damage))?;
     // what is damaged after the stop is no fault
-    comes(&rt, cut, &between(4, Some(303)), &[ONE], false, Came::Done)?;
+    comes(
+        &rt,
+        cut,
+        &between(4, Some(303)),
+        &[],
+        &[ONE],
+        false,
+        Came::Done,
+    )?;
     // the start is inside an event
     comes(
         &rt,
         &log,
         &between(150, None),
+        &[],
         &[ONE],
         true,
         Came::NoEventAt(150),
@@ -341,6 +366,7 @@ fn units_that_the_stop_or_damage_cuts_are_refused(rt: HostRuntime) -> Result<(),
         &rt,
         cut,
         &between(999, None),
+        &[],
         &[ONE],
         true,
         Came::Sums(damage),
@@ -350,16 +376,18 @@ fn units_that_the_stop_or_damage_cuts_are_refused(rt: HostRuntime) -> Result<(),
         &rt,
         &log,
         &between(303, None),
+        &[],
         &[ONE],
         true,
         Came::NoUnitWithGtid(0),
     )?;
     // what is damaged may have it
-    comes(&rt, cut, &all, &[NINE], true, Came::Sums(damage))?;
+    comes(&rt, cut, &all, &[], &[NINE], true, Came::Sums(damage))?;
     comes(
         &rt,
         cut,
         &between(4, Some(303)),
+        &[],
         &[NINE],
         true,
         Came::NoUnitWithGtid(0),
@@ -369,6 +397,137 @@ fn units_that_the_stop_or_damage_cuts_are_refused(rt: HostRuntime) -> Result<(),
         table: Some(b"u"),
         ..between(4, None)
     };
-    comes(&rt, &log, &other, &[ONE], true, Came::NothingSelected)?;
+    comes(&rt, &log, &other, &[], &[ONE], true, Came::NothingSelected)?;
+    Ok(())
+}
+
+/// Three transactions, each with a Gtid event: at 120, 303 and 486.
+fn three<R: AllocGlobal>(rt: &R) -> Result<Vec<u8>, Fail> {
+    Ok(build(
+        rt,
+        &[
+            FIRST,
+            BEGIN,
+            Part::Map(T),
+            insert(1, &[5]),
+            XID,
+            SECOND,
+            BEGIN,
+            Part::Map(T),
+            insert(1, &[6]),
+            XID,
+            THIRD,
+            BEGIN,
+            Part::Map(T),
+            insert(1, &[7, 8]),
+            XID,
+        ],
+    )?)
+}
+
+/// The units at these positions are those with these ids.
+fn check_places<R: AllocGlobal + Abort>(
+    rt: &R,
+    log: &[u8],
+    ids: &[&[u8]],
+    at: &[u32],
+    looks: bool,
+) -> Result<(), Fail> {
+    let all = between(4, None);
+    let (done, wanted, lines) = run_log(rt, log, &all, ids, looks)?;
+    let (came, text, told) = run_at(rt, log, &all, at, &[], looks)?;
+    assert!(rt; done == Came::Done && came == done);
+    assert!(rt; text == wanted && told == lines);
+    Ok(())
+}
+
+#[test]
+fn units_are_chosen_by_where_they_start(rt: HostRuntime) -> Result<(), Fail> {
+    let log = three(&rt)?;
+    let all = between(4, None);
+    for looks in [false, true] {
+        for (ids, starts, begins) in [
+            (&[ONE] as &[&[u8]], &[120u32] as &[u32], &[164u32] as &[u32]),
+            (&[THREE, ONE], &[486, 120], &[120, 530]),
+            (&[TWO], &[303], &[347, 303]),
+            (&[ONE, TWO, THREE], &[120, 303, 486], &[530, 347, 164, 486]),
+        ] {
+            check_places(&rt, &log, ids, starts, looks)?;
+            check_places(&rt, &log, ids, begins, looks)?;
+        }
+    }
+    // both have to hold
+    comes(&rt, &log, &all, &[120], &[ONE], true, Came::Done)?;
+    comes(&rt, &log, &all, &[120], &[TWO], true, Came::NothingSelected)?;
+    Ok(())
+}
+
+#[test]
+fn positions_without_a_unit_are_refused(rt: HostRuntime) -> Result<(), Fail> {
+    let log = three(&rt)?;
+    let all = between(4, None);
+    for n in 0..log.len() + 40 {
+        let pos = n as u32;
+        let is_there = [120, 164, 303, 347, 486, 530].contains(&pos);
+        let wanted = if is_there {
+            Came::Done
+        } else {
+            Came::NoUnitAt(pos)
+        };
+        comes(&rt, &log, &all, &[pos], &[], true, wanted)?;
+    }
+    // the first that is none, before an id that no unit has
+    comes(
+        &rt,
+        &log,
+        &all,
+        &[303, 304, 5],
+        &[NINE],
+        false,
+        Came::NoUnitAt(304),
+    )?;
+    comes(
+        &rt,
+        &log,
+        &all,
+        &[303],
+        &[NINE],
+        false,
+        Came::NoUnitWithGtid(0),
+    )?;
+    // one that isn't in the part
+    comes(
+        &rt,
+        &log,
+        &between(303, None),
+        &[120],
+        &[],
+        true,
+        Came::NoUnitAt(120),
+    )?;
+    comes(
+        &rt,
+        &log,
+        &between(4, Some(303)),
+        &[303],
+        &[],
+        true,
+        Came::NoUnitAt(303),
+    )?;
+    // what is damaged may have it
+    let Some(cut) = log.get(..log.len().saturating_sub(1)) else {
+        return Err("a short log".into());
+    };
+    let damage = SumFault::Log(Fault::CutEvent { pos: 647 });
+    comes(&rt, cut, &all, &[5], &[], true, Came::Sums(damage))?;
+    comes(
+        &rt,
+        cut,
+        &between(4, Some(486)),
+        &[5],
+        &[],
+        true,
+        Came::NoUnitAt(5),
+    )?;
     Ok(())
 }

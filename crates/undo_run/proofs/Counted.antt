@@ -7,11 +7,9 @@ use Rattle.std.proofs.lemmas.List.{map-append, take_all}
 use Rattle.std.proofs.lemmas.List.Concat.{flat_map-append}
 use Rattle.blog_later.proofs.Counting.{count-append}
 use Rattle.blog_later.proofs.Untouched.{as-many-taken}
-use Rattle.blog_later.specs.Among.{Step, Selected, Other, from_first, selected_in, touches_by, touches_from, wanted_of}
+use Rattle.blog_later.specs.Among.{Step, Selected, Other, from_first, selected_in, touches_by, touches_from, chosen_of}
 use Rattle.blog_later.specs.Later.{changes_in, touches_in, unit_changes}
 use Rattle.blog_later.specs.Prints.{AreKept, Left, left_by, left_of, prints_left, print_of, table_print, takes_left}
-use Rattle.blog_request.specs.Wanted.{is_in_range}
-use Rattle.blog_request.specs.declared.wanted.Wanted.{Wanted}
 use Rattle.blog_trans.specs.Changes.{Change, changes}
 use Rattle.blog_trans.specs.Selection.{Selection}
 use Rattle.blog_units.specs.Units.{Facts, range_of_unit}
@@ -73,65 +71,65 @@ part-counts kept cs l same =
 
 -- ---- units, of which some are chosen
 
-pub wanted-on : (w : Wanted) (us : List Facts) → wanted_of w (from_first w us) ≡ wanted_of w us
-wanted-on w [] = refl
-wanted-on w (u ∷ us) = by_case (is_in_range w u) refl (wanted-on w us)
+pub chosen-on : (p : Facts → Bool) (us : List Facts) → chosen_of p (from_first p us) ≡ chosen_of p us
+chosen-on p [] = refl
+chosen-on p (u ∷ us) = by_case (p u) refl (chosen-on p us)
   where
-    by_case : (b : Bool) → is_in_range w u ≡ b → wanted_of w (from_first w us) ≡ wanted_of w us → wanted_of w (from_first w (u ∷ us)) ≡ wanted_of w (u ∷ us)
-    by_case true e later = ap (wanted_of w) (cond-true (is_in_range w u) (u ∷ us) (from_first w us) e)
-    by_case false e later = ap (wanted_of w) (cond-false (is_in_range w u) (u ∷ us) (from_first w us) e) ∙ later ∙ sym (cond-false (is_in_range w u) (u ∷ wanted_of w us) (wanted_of w us) e)
+    by_case : (b : Bool) → p u ≡ b → chosen_of p (from_first p us) ≡ chosen_of p us → chosen_of p (from_first p (u ∷ us)) ≡ chosen_of p (u ∷ us)
+    by_case true e later = ap (chosen_of p) (cond-true (p u) (u ∷ us) (from_first p us) e)
+    by_case false e later = ap (chosen_of p) (cond-false (p u) (u ∷ us) (from_first p us) e) ∙ later ∙ sym (cond-false (p u) (u ∷ chosen_of p us) (chosen_of p us) e)
 
-selected-steps : (w : Wanted) (sel : Selection) (handed : List ℕ) (us : List Facts) → selected_in (map (step_of w sel handed) us) ≡ chosen_changes sel handed (wanted_of w us)
-selected-steps w sel handed [] = refl
-selected-steps w sel handed (u ∷ us) = by_case (is_in_range w u) refl (selected-steps w sel handed us)
+selected-steps : (p : Facts → Bool) (sel : Selection) (handed : List ℕ) (us : List Facts) → selected_in (map (step_of p sel handed) us) ≡ chosen_changes sel handed (chosen_of p us)
+selected-steps p sel handed [] = refl
+selected-steps p sel handed (u ∷ us) = by_case (p u) refl (selected-steps p sel handed us)
   where
     own : List Change
     own = changes handed (range_of_unit sel u)
 
-    by_case : (b : Bool) → is_in_range w u ≡ b → selected_in (map (step_of w sel handed) us) ≡ chosen_changes sel handed (wanted_of w us)
-        → selected_in (map (step_of w sel handed) (u ∷ us)) ≡ chosen_changes sel handed (wanted_of w (u ∷ us))
+    by_case : (b : Bool) → p u ≡ b → selected_in (map (step_of p sel handed) us) ≡ chosen_changes sel handed (chosen_of p us)
+        → selected_in (map (step_of p sel handed) (u ∷ us)) ≡ chosen_changes sel handed (chosen_of p (u ∷ us))
     by_case true e later =
-        ap (λ (s : Step). selected_in (s ∷ map (step_of w sel handed) us)) (cond-true (is_in_range w u) (Selected own) (Other (unit_changes handed u)) e)
+        ap (λ (s : Step). selected_in (s ∷ map (step_of p sel handed) us)) (cond-true (p u) (Selected own) (Other (unit_changes handed u)) e)
         ∙ ap (λ (css : List (List Change)). own ∷ css) later
-        ∙ sym (ap (chosen_changes sel handed) (cond-true (is_in_range w u) (u ∷ wanted_of w us) (wanted_of w us) e))
+        ∙ sym (ap (chosen_changes sel handed) (cond-true (p u) (u ∷ chosen_of p us) (chosen_of p us) e))
     by_case false e later =
-        ap (λ (s : Step). selected_in (s ∷ map (step_of w sel handed) us)) (cond-false (is_in_range w u) (Selected own) (Other (unit_changes handed u)) e)
+        ap (λ (s : Step). selected_in (s ∷ map (step_of p sel handed) us)) (cond-false (p u) (Selected own) (Other (unit_changes handed u)) e)
         ∙ later
-        ∙ sym (ap (chosen_changes sel handed) (cond-false (is_in_range w u) (u ∷ wanted_of w us) (wanted_of w us) e))
+        ∙ sym (ap (chosen_changes sel handed) (cond-false (p u) (u ∷ chosen_of p us) (chosen_of p us) e))
 
 -- the changes of the chosen ones are the selected ones of all from the first chosen one on
-pub selected-chosen : (w : Wanted) (sel : Selection) (handed : List ℕ) → selected_in (map (step_of w sel handed) (units_on w sel handed)) ≡ chosen_changes sel handed (chosen_units w sel handed)
-selected-chosen w sel handed = selected-steps w sel handed (units_on w sel handed) ∙ ap (chosen_changes sel handed) (wanted-on w (units_of_part sel handed))
+pub selected-chosen : (p : Facts → Bool) (sel : Selection) (handed : List ℕ) → selected_in (map (step_of p sel handed) (units_on p sel handed)) ≡ chosen_changes sel handed (chosen_units p sel handed)
+selected-chosen p sel handed = selected-steps p sel handed (units_on p sel handed) ∙ ap (chosen_changes sel handed) (chosen-on p (units_of_part sel handed))
 
-touches-steps : (lefts : ℕ → Left) (css : List (List Change)) (w : Wanted) (sel : Selection) (handed : List ℕ) → ((j : ℕ) → AreKept (left_by j css) (lefts j)) → (k : ℕ) (us : List Facts)
-    → touches_from css k (map (step_of w sel handed) us) ≡ touches_by lefts w handed k us
-touches-steps lefts css w sel handed same k [] = refl
-touches-steps lefts css w sel handed same k (u ∷ us) = by_case (is_in_range w u) refl (touches-steps lefts css w sel handed same (k + 1) us) (touches-steps lefts css w sel handed same k us)
+touches-steps : (lefts : ℕ → Left) (css : List (List Change)) (p : Facts → Bool) (sel : Selection) (handed : List ℕ) → ((j : ℕ) → AreKept (left_by j css) (lefts j)) → (k : ℕ) (us : List Facts)
+    → touches_from css k (map (step_of p sel handed) us) ≡ touches_by lefts p handed k us
+touches-steps lefts css p sel handed same k [] = refl
+touches-steps lefts css p sel handed same k (u ∷ us) = by_case (p u) refl (touches-steps lefts css p sel handed same (k + 1) us) (touches-steps lefts css p sel handed same k us)
   where
     steps : List Step
-    steps = map (step_of w sel handed) us
+    steps = map (step_of p sel handed) us
 
-    both : (b : Bool) → is_in_range w u ≡ b → step_of w sel handed u ≡ (if b then Selected (changes handed (range_of_unit sel u)) else Other (unit_changes handed u))
+    both : (b : Bool) → p u ≡ b → step_of p sel handed u ≡ (if b then Selected (changes handed (range_of_unit sel u)) else Other (unit_changes handed u))
     both b e = ap (λ (c : Bool). if c then Selected (changes handed (range_of_unit sel u)) else Other (unit_changes handed u)) e
 
-    by_case : (b : Bool) → is_in_range w u ≡ b → touches_from css (k + 1) steps ≡ touches_by lefts w handed (k + 1) us → touches_from css k steps ≡ touches_by lefts w handed k us
-        → touches_from css k (map (step_of w sel handed) (u ∷ us)) ≡ touches_by lefts w handed k (u ∷ us)
+    by_case : (b : Bool) → p u ≡ b → touches_from css (k + 1) steps ≡ touches_by lefts p handed (k + 1) us → touches_from css k steps ≡ touches_by lefts p handed k us
+        → touches_from css k (map (step_of p sel handed) (u ∷ us)) ≡ touches_by lefts p handed k (u ∷ us)
     by_case true e next later =
         ap (λ (s : Step). touches_from css k (s ∷ steps)) (both true e) ∙ next
-        ∙ sym (cond-true (is_in_range w u) (touches_by lefts w handed (k + 1) us) (touches_in (lefts k) handed (u ∷ []) + touches_by lefts w handed k us) e)
+        ∙ sym (cond-true (p u) (touches_by lefts p handed (k + 1) us) (touches_in (lefts k) handed (u ∷ []) + touches_by lefts p handed k us) e)
     by_case false e next later =
         let one : length (filter (takes_left (left_by k css)) (unit_changes handed u)) ≡ touches_in (lefts k) handed (u ∷ []) =
         sym (as-many-taken (lefts k) (left_by k css) (same k) (unit_changes handed u)) ∙ ap (λ (cs : List Change). length (filter (takes_left (lefts k)) cs)) (sym (append-nil (unit_changes handed u))) in
         ap (λ (s : Step). touches_from css k (s ∷ steps)) (both false e)
         ∙ ap₂ (λ (a b : ℕ). a + b) one later
-        ∙ sym (cond-false (is_in_range w u) (touches_by lefts w handed (k + 1) us) (touches_in (lefts k) handed (u ∷ []) + touches_by lefts w handed k us) e)
+        ∙ sym (cond-false (p u) (touches_by lefts p handed (k + 1) us) (touches_in (lefts k) handed (u ∷ []) + touches_by lefts p handed k us) e)
 
-pub units-count : (lefts : ℕ → Left) (lists : ℕ) (w : Wanted) (sel : Selection) (handed : List ℕ) → ((j : ℕ) → AreKept (left_by j (chosen_changes sel handed (chosen_units w sel handed))) (lefts j))
-    → length (chosen_changes sel handed (chosen_units w sel handed)) ≤ lists → CountsOn (lefts lists) (0 + touches_by lefts w handed 0 (units_on w sel handed)) (map (step_of w sel handed) (units_on w sel handed))
-units-count lefts lists w sel handed same enough =
-    let ss = map (step_of w sel handed) (units_on w sel handed) in
-    let chosen = selected-chosen w sel handed in
+pub units-count : (lefts : ℕ → Left) (lists : ℕ) (p : Facts → Bool) (sel : Selection) (handed : List ℕ) → ((j : ℕ) → AreKept (left_by j (chosen_changes sel handed (chosen_units p sel handed))) (lefts j))
+    → length (chosen_changes sel handed (chosen_units p sel handed)) ≤ lists → CountsOn (lefts lists) (0 + touches_by lefts p handed 0 (units_on p sel handed)) (map (step_of p sel handed) (units_on p sel handed))
+units-count lefts lists p sel handed same enough =
+    let ss = map (step_of p sel handed) (units_on p sel handed) in
+    let chosen = selected-chosen p sel handed in
     let kept : (j : ℕ) → AreKept (left_by j (selected_in ss)) (lefts j) = λ j. subst (λ (css : List (List Change)). AreKept (left_by j css) (lefts j)) (sym chosen) (same j) in
     let few = ap length chosen in
-    let counted = touches-steps lefts (selected_in ss) w sel handed kept 0 (units_on w sel handed) in
-    counts-on (lefts lists) lists (0 + touches_by lefts w handed 0 (units_on w sel handed)) ss (kept lists) (omega (arith, few, enough)) (omega (arith, counted))
+    let counted = touches-steps lefts (selected_in ss) p sel handed kept 0 (units_on p sel handed) in
+    counts-on (lefts lists) lists (0 + touches_by lefts p handed 0 (units_on p sel handed)) ss (kept lists) (omega (arith, few, enough)) (omega (arith, counted))

@@ -26,7 +26,7 @@ use Rattle.undo_run.specs.code.Steps.{IsSource, LooksInto, LooksOn, OpensLog}
 use Rattle.undo_run.specs.declared.fault.OpeningFault.{OpeningFault}
 use Rattle.undo_run.specs.declared.fault.OpeningFault.TheVariants as opening
 use Rattle.undo_run.specs.declared.fault.PartFault.{PartFault}
-use Rattle.undo_run.specs.declared.fault.PartFault.TheVariants.{Run, Sums, NoEventAt, NoUnitWithGtid, Log, NothingSelected, LaterLog, ChangedSince, UnknownSince, TooLong, NoSchema}
+use Rattle.undo_run.specs.declared.fault.PartFault.TheVariants.{Run, Sums, NoEventAt, NoUnitAt, NoUnitWithGtid, Log, NothingSelected, LaterLog, ChangedSince, UnknownSince, TooLong, NoSchema}
 use Rattle.undo_run.specs.declared.since.Since as told
 
 -- those so far were read, and this was seen of them, after others
@@ -72,6 +72,7 @@ stops known givens rest all given n kept choice m k ls ks (Run run.Read) split n
 stops known givens rest all given n kept choice m k ls ks (Run run.Write) split number is = absurd is
 stops known givens rest all given n kept choice m k ls ks (Sums f) split number is = absurd is
 stops known givens rest all given n kept choice m k ls ks (NoEventAt pos) split number is = absurd is
+stops known givens rest all given n kept choice m k ls ks (NoUnitAt place) split number is = absurd is
 stops known givens rest all given n kept choice m k ls ks (NoUnitWithGtid gtid) split number is = absurd is
 stops known givens rest all given n kept choice m k ls ks (Log f) split number is = absurd is
 stops known givens rest all given n kept choice m k ls ks NothingSelected split number is = absurd is

@@ -16,7 +16,7 @@ use Rattle.undo_run.specs.Taken.{IsSafe, Taken, after, since_told, steps_after, 
 use Rattle.undo_run.specs.code.SinceView.{AreSeen, since_seen}
 use Rattle.undo_run.specs.code.Steps.{CountsOn, Judges, LooksAt, LooksOn}
 use Rattle.undo_run.specs.declared.fault.PartFault.{PartFault}
-use Rattle.undo_run.specs.declared.fault.PartFault.TheVariants.{Run, Sums, NoEventAt, NoUnitWithGtid, Log, NothingSelected, LaterLog, ChangedSince, UnknownSince, TooLong, NoSchema}
+use Rattle.undo_run.specs.declared.fault.PartFault.TheVariants.{Run, Sums, NoEventAt, NoUnitAt, NoUnitWithGtid, Log, NothingSelected, LaterLog, ChangedSince, UnknownSince, TooLong, NoSchema}
 use Rattle.undo_run.specs.declared.since.Since as told
 
 -- a later log isn't opened, or memory was refused
@@ -28,6 +28,7 @@ not-looked known givens t kept choice m ls (Run run.Read) none = absurd none
 not-looked known givens t kept choice m ls (Run run.Write) none = absurd none
 not-looked known givens t kept choice m ls (Sums f) none = absurd none
 not-looked known givens t kept choice m ls (NoEventAt pos) none = absurd none
+not-looked known givens t kept choice m ls (NoUnitAt place) none = absurd none
 not-looked known givens t kept choice m ls (NoUnitWithGtid gtid) none = absurd none
 not-looked known givens t kept choice m ls (Log f) none = absurd none
 not-looked known givens t kept choice m ls NothingSelected none = absurd none
@@ -79,6 +80,7 @@ all-judged known givens t kept choice m all (Err (Run run.Write)) named counts (
 all-judged known givens t kept choice m all (Err (LaterLog n f)) named counts (logs, read, seen) judges is = absurd (judges (m + touches kept (map whole_log logs)) (after t logs) seen)
 all-judged known givens t kept choice m all (Err (Sums f)) named counts (logs, read, seen) judges is = absurd (judges (m + touches kept (map whole_log logs)) (after t logs) seen)
 all-judged known givens t kept choice m all (Err (NoEventAt pos)) named counts (logs, read, seen) judges is = absurd (judges (m + touches kept (map whole_log logs)) (after t logs) seen)
+all-judged known givens t kept choice m all (Err (NoUnitAt place)) named counts (logs, read, seen) judges is = absurd (judges (m + touches kept (map whole_log logs)) (after t logs) seen)
 all-judged known givens t kept choice m all (Err (NoUnitWithGtid gtid)) named counts (logs, read, seen) judges is = absurd (judges (m + touches kept (map whole_log logs)) (after t logs) seen)
 all-judged known givens t kept choice m all (Err (Log f)) named counts (logs, read, seen) judges is = absurd (judges (m + touches kept (map whole_log logs)) (after t logs) seen)
 all-judged known givens t kept choice m all (Err NothingSelected) named counts (logs, read, seen) judges is = absurd (judges (m + touches kept (map whole_log logs)) (after t logs) seen)

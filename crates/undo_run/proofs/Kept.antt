@@ -1,5 +1,5 @@
 -- Chosen units, whose groups are gathered one after the other.
-use Rattle.std.proofs.Common.{◌≡◌, ◌⊎◌, ◌<◌, ℕ, Bool, true, false, ◌&&◌, List, [], ◌∷◌, ◌++◌, length, map, Option, Some, None, Result, Ok, Err, refl, sym, ap, subst, ◌∙◌, inl, inr, append_assoc, append-nil}
+use Rattle.std.proofs.Common.{◌≡◌, ◌⊎◌, ◌<◌, ℕ, Bool, true, false, ◌&&◌, List, [], ◌∷◌, ◌++◌, length, map, Option, Some, None, Result, Ok, Err, refl, sym, ap, ap₂, subst, ◌∙◌, inl, inr, append_assoc, append-nil}
 use Rattle.std.specs.Prelude.{filter, ⊤}
 use Rattle.std.specs.List.{AllByRecursion}
 use Rattle.std.proofs.lemmas.Bool.{cond-false, cond-true, false≢true}
@@ -11,20 +11,20 @@ use Rattle.blog_gathered.specs.Gathered.{IsSoundRange, Range, gathered_text}
 use Rattle.blog_gathered.specs.code.GatheredView.{Adds as AddsRange, IsGathered, bytes_gathered}
 use Rattle.blog_gathered.specs.declared.fault.GatherFault.TheVariants as gather
 use Rattle.blog_gathered.specs.declared.gathered.Gathered.{Gathered}
-use Rattle.blog_later.specs.Among.{wanted_of}
+use Rattle.blog_later.specs.Among.{chosen_of}
 use Rattle.blog_later.specs.code.LeavingView.{HasLeft}
-use Rattle.blog_request.specs.Wanted.{is_before, is_in_range}
+use Rattle.blog_request.specs.Wanted.{is_before}
 use Rattle.blog_request.specs.declared.wanted.Wanted.{Wanted}
 use Rattle.blog_sum.specs.declared.fault.SumFault.{SumFault}
 use Rattle.blog_trans.specs.Acceptance.{IsAccepted, IsRefusal, fault}
 use Rattle.blog_trans.specs.Changes.{Change, changes}
 use Rattle.blog_trans.specs.Selection.{Selection, all}
 use Rattle.blog_units.specs.Units.{Facts, range_of_unit}
-use Rattle.undo_run.specs.Units.{AreAccepted, IsFirstRefused, IsUnitAccepted, RefusesChosen, chosen_range, chosen_units, kept_log, units_of_part}
+use Rattle.undo_run.specs.Units.{AreAccepted, IsFirstRefused, IsUnitAccepted, RefusesChosen, chosen_range, chosen_units, is_chosen, kept_log, units_of_part}
 use Rattle.undo_run.specs.code.Steps.{Adds, Chooses, Gathers, HasChosen, IsKept, RefusesFor, chosen_changes}
 use Rattle.undo_run.specs.declared.chosen.Chosen.{Chosen}
 use Rattle.undo_run.specs.declared.fault.PartFault.{PartFault}
-use Rattle.undo_run.specs.declared.fault.PartFault.TheVariants.{Run, Sums, NoEventAt, NoUnitWithGtid, Log, NothingSelected, LaterLog, ChangedSince, UnknownSince, TooLong, NoSchema}
+use Rattle.undo_run.specs.declared.fault.PartFault.TheVariants.{Run, Sums, NoEventAt, NoUnitAt, NoUnitWithGtid, Log, NothingSelected, LaterLog, ChangedSince, UnknownSince, TooLong, NoSchema}
 
 -- ---- one more
 
@@ -72,6 +72,7 @@ not-gathered looks sel handed us (Run run.Read) none = absurd none
 not-gathered looks sel handed us (Run run.Write) none = absurd none
 not-gathered looks sel handed us (Sums f) none = absurd none
 not-gathered looks sel handed us (NoEventAt pos) none = absurd none
+not-gathered looks sel handed us (NoUnitAt place) none = absurd none
 not-gathered looks sel handed us (NoUnitWithGtid gtid) none = absurd none
 not-gathered looks sel handed us (Log f) none = absurd none
 not-gathered looks sel handed us (LaterLog n f) none = absurd none
@@ -107,109 +108,118 @@ second-of : (x y : Bool) → (x && y) ≡ true → y ≡ true
 second-of true y e = e
 second-of false y e = absurd (false≢true e)
 
--- one that is wanted begins before the stop
-pub in-range-before : (w : Wanted) (u : Facts) → is_in_range w u ≡ true → is_before u.start w.stop ≡ true
-in-range-before w u is = second-of _ _ (first-of _ _ (first-of _ _ (first-of _ _ (first-of _ _ is))))
+-- one that is chosen begins before the stop
+pub chosen-before : (w : Wanted) (at handed : List ℕ) (u : Facts) → is_chosen w at handed u ≡ true → is_before u.start w.stop ≡ true
+chosen-before w at handed u is = second-of _ _ (first-of _ _ (first-of _ _ (first-of _ _ (first-of _ _ (first-of _ _ is)))))
 
-pub record AreChosen {A : Type 0} (looks : Bool) (w : Wanted) (sel : Selection) (handed : List ℕ) (chosen : Chosen A) (left : List Facts) : Type 0 where
+pub record AreChosen {A : Type 0} (looks : Bool) (p : Facts → Bool) (sel : Selection) (handed : List ℕ) (chosen : Chosen A) (marks : List Bool) (left : List Facts) : Type 0 where
   pub done : List Facts
   pub whole : done ++ left ≡ units_of_part sel handed
-  pub has : HasChosen looks sel handed (wanted_of w done) chosen
+  pub has : HasChosen looks sel handed (chosen_of p done) chosen
+  pub marked : marks ≡ map p done
 
 whole-more : (every done rest left : List Facts) (u : Facts) → done ++ left ≡ every → left ≡ u ∷ rest → (done ++ u ∷ []) ++ rest ≡ every
 whole-more every done rest left u whole first = append_assoc done (u ∷ []) rest ∙ ap (λ (xs : List Facts). done ++ xs) (sym first) ∙ whole
 
-wanted-in : (w : Wanted) (us : List Facts) (u : Facts) → is_in_range w u ≡ true → wanted_of w (us ++ u ∷ []) ≡ wanted_of w us ++ u ∷ []
-wanted-in w us u is = filter-append (is_in_range w) us (u ∷ []) ∙ ap (λ (vs : List Facts). wanted_of w us ++ vs) (cond-true (is_in_range w u) (u ∷ []) [] is)
+chosen-in : (p : Facts → Bool) (us : List Facts) (u : Facts) → p u ≡ true → chosen_of p (us ++ u ∷ []) ≡ chosen_of p us ++ u ∷ []
+chosen-in p us u is = filter-append p us (u ∷ []) ∙ ap (λ (vs : List Facts). chosen_of p us ++ vs) (cond-true (p u) (u ∷ []) [] is)
 
-wanted-out : (w : Wanted) (us : List Facts) (u : Facts) → is_in_range w u ≡ false → wanted_of w (us ++ u ∷ []) ≡ wanted_of w us
-wanted-out w us u is = filter-append (is_in_range w) us (u ∷ []) ∙ ap (λ (vs : List Facts). wanted_of w us ++ vs) (cond-false (is_in_range w u) (u ∷ []) [] is) ∙ append-nil (wanted_of w us)
+chosen-out : (p : Facts → Bool) (us : List Facts) (u : Facts) → p u ≡ false → chosen_of p (us ++ u ∷ []) ≡ chosen_of p us
+chosen-out p us u is = filter-append p us (u ∷ []) ∙ ap (λ (vs : List Facts). chosen_of p us ++ vs) (cond-false (p u) (u ∷ []) [] is) ∙ append-nil (chosen_of p us)
 
-pub chosen-none : {A : Type 0} (looks : Bool) (w : Wanted) (sel : Selection) (handed : List ℕ) (chosen : Chosen A) (left : List Facts) → left ≡ units_of_part sel handed → HasChosen looks sel handed [] chosen
-    → AreChosen looks w sel handed chosen left
-chosen-none looks w sel handed chosen left same has = record { done = []; whole = same; has = has }
+-- one more is marked
+marked-more : (p : Facts → Bool) (us : List Facts) (u : Facts) (marks more : List Bool) (mark : Bool) → marks ≡ map p us → mark ≡ p u → more ≡ marks ++ mark ∷ [] → more ≡ map p (us ++ u ∷ [])
+marked-more p us u marks more mark are is next = next ∙ ap₂ (λ (ms : List Bool) (m : Bool). ms ++ m ∷ []) are is ∙ sym (map-append p us (u ∷ []))
 
-pub chosen-more : {A : Type 0} (looks : Bool) (w : Wanted) (sel : Selection) (handed : List ℕ) (old new : Chosen A) (left rest : List Facts) (u : Facts) → (s : AreChosen looks w sel handed old left) → left ≡ u ∷ rest → is_in_range w u ≡ true
-    → HasChosen looks sel handed (wanted_of w s.done ++ u ∷ []) new → AreChosen looks w sel handed new rest
-chosen-more looks w sel handed old new left rest u s first is has = record {
+pub chosen-none : {A : Type 0} (looks : Bool) (p : Facts → Bool) (sel : Selection) (handed : List ℕ) (chosen : Chosen A) (marks : List Bool) (left : List Facts) → marks ≡ [] → left ≡ units_of_part sel handed → HasChosen looks sel handed [] chosen
+    → AreChosen looks p sel handed chosen marks left
+chosen-none looks p sel handed chosen marks left none same has = record { done = []; whole = same; has = has; marked = none }
+
+pub chosen-more : {A : Type 0} (looks : Bool) (p : Facts → Bool) (sel : Selection) (handed : List ℕ) (old new : Chosen A) (marks more : List Bool) (mark : Bool) (left rest : List Facts) (u : Facts) → (s : AreChosen looks p sel handed old marks left) → left ≡ u ∷ rest → mark ≡ p u → mark ≡ true
+    → more ≡ marks ++ mark ∷ [] → HasChosen looks sel handed (chosen_of p s.done ++ u ∷ []) new → AreChosen looks p sel handed new more rest
+chosen-more looks p sel handed old new marks more mark left rest u s first told is next has = record {
   done = s.done ++ u ∷ [];
   whole = whole-more (units_of_part sel handed) s.done rest left u s.whole first;
-  has = subst (λ (us : List Facts). HasChosen looks sel handed us new) (sym (wanted-in w s.done u is)) has;
+  has = subst (λ (us : List Facts). HasChosen looks sel handed us new) (sym (chosen-in p s.done u (sym told ∙ is))) has;
+  marked = marked-more p s.done u marks more mark s.marked told next;
 }
 
-pub chosen-other : {A : Type 0} (looks : Bool) (w : Wanted) (sel : Selection) (handed : List ℕ) (chosen : Chosen A) (left rest : List Facts) (u : Facts) → AreChosen looks w sel handed chosen left → left ≡ u ∷ rest → is_in_range w u ≡ false
-    → AreChosen looks w sel handed chosen rest
-chosen-other looks w sel handed chosen left rest u s first is = record {
+pub chosen-other : {A : Type 0} (looks : Bool) (p : Facts → Bool) (sel : Selection) (handed : List ℕ) (chosen : Chosen A) (marks more : List Bool) (mark : Bool) (left rest : List Facts) (u : Facts) → AreChosen looks p sel handed chosen marks left → left ≡ u ∷ rest → mark ≡ p u → mark ≡ false
+    → more ≡ marks ++ mark ∷ [] → AreChosen looks p sel handed chosen more rest
+chosen-other looks p sel handed chosen marks more mark left rest u s first told is next = record {
   done = s.done ++ u ∷ [];
   whole = whole-more (units_of_part sel handed) s.done rest left u s.whole first;
-  has = subst (λ (us : List Facts). HasChosen looks sel handed us chosen) (sym (wanted-out w s.done u is)) s.has;
+  has = subst (λ (us : List Facts). HasChosen looks sel handed us chosen) (sym (chosen-out p s.done u (sym told ∙ is))) s.has;
+  marked = marked-more p s.done u marks more mark s.marked told next;
 }
 
 -- all are gone through
-pub all-chosen : {A : Type 0} (looks : Bool) (w : Wanted) (sel : Selection) (handed : List ℕ) (chosen : Chosen A) (left : List Facts) → AreChosen looks w sel handed chosen left → left ≡ []
-    → HasChosen looks sel handed (chosen_units w sel handed) chosen
-all-chosen looks w sel handed chosen left s none =
+pub all-chosen : {A : Type 0} (looks : Bool) (p : Facts → Bool) (sel : Selection) (handed : List ℕ) (chosen : Chosen A) (marks : List Bool) (left : List Facts) → AreChosen looks p sel handed chosen marks left → left ≡ []
+    → HasChosen looks sel handed (chosen_units p sel handed) chosen × (marks ≡ map p (units_of_part sel handed))
+all-chosen looks p sel handed chosen marks left s none =
     let every : s.done ≡ units_of_part sel handed = sym (append-nil s.done) ∙ ap (λ (xs : List Facts). s.done ++ xs) (sym none) ∙ s.whole in
-    subst (λ (us : List Facts). HasChosen looks sel handed (wanted_of w us) chosen) every s.has
+    (subst (λ (us : List Facts). HasChosen looks sel handed (chosen_of p us) chosen) every s.has, s.marked ∙ ap (map p) every)
 
-pub damaged-after : {A : Type 0} (B : Type 0) (looks : Bool) (w : Wanted) (sel : Selection) (handed : List ℕ) (end : ℕ) (chosen : Chosen A) (left : List Facts) (damage : Option SumFault) (f : SumFault) → AreChosen looks w sel handed chosen left → left ≡ []
-    → damage ≡ Some f → Chooses {A = B} looks w sel handed end damage (Err (Sums f))
-damaged-after B looks w sel handed end chosen left damage f s none is =
-    let has = all-chosen looks w sel handed chosen left s none in (is, inl (kept-accepted sel handed (chosen_units w sel handed) chosen.gathered has.kept))
+pub damaged-after : {A : Type 0} (B : Type 0) (looks : Bool) (p : Facts → Bool) (sel : Selection) (handed : List ℕ) (end : ℕ) (chosen : Chosen A) (marks : List Bool) (left : List Facts) (damage : Option SumFault) (f : SumFault) → AreChosen looks p sel handed chosen marks left → left ≡ []
+    → damage ≡ Some f → Chooses {A = B} looks p sel handed end damage (Err (Sums f))
+damaged-after B looks p sel handed end chosen marks left damage f s none is =
+    let (has, marked) = all-chosen looks p sel handed chosen marks left s none in (is, inl (kept-accepted sel handed (chosen_units p sel handed) chosen.gathered has.kept))
 
 -- ---- one that is refused
 
-chosen-split : (w : Wanted) (sel : Selection) (handed : List ℕ) (done left rest : List Facts) (u : Facts) → done ++ left ≡ units_of_part sel handed → left ≡ u ∷ rest → is_in_range w u ≡ true
-    → chosen_units w sel handed ≡ wanted_of w done ++ u ∷ wanted_of w rest
-chosen-split w sel handed done left rest u whole first is =
-    ap (wanted_of w) (sym whole ∙ ap (λ (xs : List Facts). done ++ xs) first) ∙ filter-append (is_in_range w) done (u ∷ rest)
-    ∙ ap (λ (vs : List Facts). wanted_of w done ++ vs) (cond-true (is_in_range w u) (u ∷ wanted_of w rest) (wanted_of w rest) is)
+chosen-split : (p : Facts → Bool) (sel : Selection) (handed : List ℕ) (done left rest : List Facts) (u : Facts) → done ++ left ≡ units_of_part sel handed → left ≡ u ∷ rest → p u ≡ true
+    → chosen_units p sel handed ≡ chosen_of p done ++ u ∷ chosen_of p rest
+chosen-split p sel handed done left rest u whole first is =
+    ap (chosen_of p) (sym whole ∙ ap (λ (xs : List Facts). done ++ xs) first) ∙ filter-append p done (u ∷ rest)
+    ∙ ap (λ (vs : List Facts). chosen_of p done ++ vs) (cond-true (p u) (u ∷ chosen_of p rest) (chosen_of p rest) is)
 
-pub first-refused : {A : Type 0} (looks : Bool) (w : Wanted) (sel : Selection) (handed : List ℕ) (chosen : Chosen A) (left rest : List Facts) (u : Facts) (inner : Fault) → AreChosen looks w sel handed chosen left → left ≡ u ∷ rest → is_in_range w u ≡ true
-    → IsRefusal (fault handed (range_of_unit sel u)) inner → IsFirstRefused w sel handed inner
-first-refused looks w sel handed chosen left rest u inner s first is refused = record {
-  before = wanted_of w s.done;
+pub first-refused : {A : Type 0} (looks : Bool) (p : Facts → Bool) (sel : Selection) (handed : List ℕ) (chosen : Chosen A) (marks : List Bool) (left rest : List Facts) (u : Facts) (inner : Fault) → AreChosen looks p sel handed chosen marks left → left ≡ u ∷ rest → p u ≡ true
+    → IsRefusal (fault handed (range_of_unit sel u)) inner → IsFirstRefused p sel handed inner
+first-refused looks p sel handed chosen marks left rest u inner s first is refused = record {
+  before = chosen_of p s.done;
   unit = u;
-  rest = wanted_of w rest;
-  chosen = chosen-split w sel handed s.done left rest u s.whole first is;
-  accepted = kept-accepted sel handed (wanted_of w s.done) chosen.gathered s.has.kept;
+  rest = chosen_of p rest;
+  chosen = chosen-split p sel handed s.done left rest u s.whole first is;
+  accepted = kept-accepted sel handed (chosen_of p s.done) chosen.gathered s.has.kept;
   refused = refused;
 }
 
-pub refused-for : {A : Type 0} (looks : Bool) (w : Wanted) (sel : Selection) (handed : List ℕ) (end : ℕ) (damage : Option SumFault) (inner : Fault) (cause : PartFault A) → IsFirstRefused w sel handed inner
-    → RefusesFor handed end damage inner cause → Chooses looks w sel handed end damage (Err cause)
-refused-for looks w sel handed end damage inner (Sums f) first (is, ends) = (is, inr (inner, first, ends))
-refused-for looks w sel handed end damage inner (Log f) first (own, placed) = inl (inner, first, own, placed)
-refused-for looks w sel handed end damage inner (Run f) first none = absurd none
-refused-for looks w sel handed end damage inner (NoEventAt pos) first none = absurd none
-refused-for looks w sel handed end damage inner (NoUnitWithGtid gtid) first none = absurd none
-refused-for looks w sel handed end damage inner (LaterLog n f) first none = absurd none
-refused-for looks w sel handed end damage inner (ChangedSince rows lines) first none = absurd none
-refused-for looks w sel handed end damage inner (UnknownSince lines) first none = absurd none
-refused-for looks w sel handed end damage inner (NoSchema text) first none = absurd none
-refused-for looks w sel handed end damage inner NothingSelected first none = absurd none
-refused-for looks w sel handed end damage inner TooLong first none = absurd none
+pub refused-for : {A : Type 0} (looks : Bool) (p : Facts → Bool) (sel : Selection) (handed : List ℕ) (end : ℕ) (damage : Option SumFault) (inner : Fault) (cause : PartFault A) → IsFirstRefused p sel handed inner
+    → RefusesFor handed end damage inner cause → Chooses looks p sel handed end damage (Err cause)
+refused-for looks p sel handed end damage inner (Sums f) first (is, ends) = (is, inr (inner, first, ends))
+refused-for looks p sel handed end damage inner (Log f) first (own, placed) = inl (inner, first, own, placed)
+refused-for looks p sel handed end damage inner (Run f) first none = absurd none
+refused-for looks p sel handed end damage inner (NoEventAt pos) first none = absurd none
+refused-for looks p sel handed end damage inner (NoUnitAt place) first none = absurd none
+refused-for looks p sel handed end damage inner (NoUnitWithGtid gtid) first none = absurd none
+refused-for looks p sel handed end damage inner (LaterLog n f) first none = absurd none
+refused-for looks p sel handed end damage inner (ChangedSince rows lines) first none = absurd none
+refused-for looks p sel handed end damage inner (UnknownSince lines) first none = absurd none
+refused-for looks p sel handed end damage inner (NoSchema text) first none = absurd none
+refused-for looks p sel handed end damage inner NothingSelected first none = absurd none
+refused-for looks p sel handed end damage inner TooLong first none = absurd none
 
 -- the groups of one more can't be added
-pub not-added : {A B : Type 0} (looks : Bool) (w : Wanted) (sel : Selection) (handed : List ℕ) (end : ℕ) (damage : Option SumFault) (chosen : Chosen A) (left rest : List Facts) (u : Facts) (cause : PartFault B)
-    → (s : AreChosen looks w sel handed chosen left) → left ≡ u ∷ rest → is_in_range w u ≡ true → IsUnitAccepted sel handed u → Adds looks sel handed (wanted_of w s.done ++ u ∷ []) (Err cause)
-    → Chooses looks w sel handed end damage (Err cause)
-not-added looks w sel handed end damage chosen left rest u (Run (run.Log f)) s first is accepted fails = fails
-not-added looks w sel handed end damage chosen left rest u TooLong s first is accepted long = (
-  wanted_of w s.done ++ u ∷ [],
-  wanted_of w rest,
-  chosen-split w sel handed s.done left rest u s.whole first is ∙ sym (append_assoc (wanted_of w s.done) (u ∷ []) (wanted_of w rest)),
-  accepted-more sel handed (wanted_of w s.done) u (kept-accepted sel handed (wanted_of w s.done) chosen.gathered s.has.kept) accepted,
+pub not-added : {A B : Type 0} (looks : Bool) (p : Facts → Bool) (sel : Selection) (handed : List ℕ) (end : ℕ) (damage : Option SumFault) (chosen : Chosen A) (marks : List Bool) (left rest : List Facts) (u : Facts) (cause : PartFault B)
+    → (s : AreChosen looks p sel handed chosen marks left) → left ≡ u ∷ rest → p u ≡ true → IsUnitAccepted sel handed u → Adds looks sel handed (chosen_of p s.done ++ u ∷ []) (Err cause)
+    → Chooses looks p sel handed end damage (Err cause)
+not-added looks p sel handed end damage chosen marks left rest u (Run (run.Log f)) s first is accepted fails = fails
+not-added looks p sel handed end damage chosen marks left rest u TooLong s first is accepted long = (
+  chosen_of p s.done ++ u ∷ [],
+  chosen_of p rest,
+  chosen-split p sel handed s.done left rest u s.whole first is ∙ sym (append_assoc (chosen_of p s.done) (u ∷ []) (chosen_of p rest)),
+  accepted-more sel handed (chosen_of p s.done) u (kept-accepted sel handed (chosen_of p s.done) chosen.gathered s.has.kept) accepted,
   long,
 )
-not-added looks w sel handed end damage chosen left rest u (Run run.Read) s first is accepted none = absurd none
-not-added looks w sel handed end damage chosen left rest u (Run run.Write) s first is accepted none = absurd none
-not-added looks w sel handed end damage chosen left rest u (Sums f) s first is accepted none = absurd none
-not-added looks w sel handed end damage chosen left rest u (NoEventAt pos) s first is accepted none = absurd none
-not-added looks w sel handed end damage chosen left rest u (NoUnitWithGtid gtid) s first is accepted none = absurd none
-not-added looks w sel handed end damage chosen left rest u (Log f) s first is accepted none = absurd none
-not-added looks w sel handed end damage chosen left rest u (LaterLog n f) s first is accepted none = absurd none
-not-added looks w sel handed end damage chosen left rest u (ChangedSince rows lines) s first is accepted none = absurd none
-not-added looks w sel handed end damage chosen left rest u (UnknownSince lines) s first is accepted none = absurd none
-not-added looks w sel handed end damage chosen left rest u (NoSchema text) s first is accepted none = absurd none
-not-added looks w sel handed end damage chosen left rest u NothingSelected s first is accepted none = absurd none
+not-added looks p sel handed end damage chosen marks left rest u (Run run.Read) s first is accepted none = absurd none
+not-added looks p sel handed end damage chosen marks left rest u (Run run.Write) s first is accepted none = absurd none
+not-added looks p sel handed end damage chosen marks left rest u (Sums f) s first is accepted none = absurd none
+not-added looks p sel handed end damage chosen marks left rest u (NoEventAt pos) s first is accepted none = absurd none
+not-added looks p sel handed end damage chosen marks left rest u (NoUnitAt place) s first is accepted none = absurd none
+not-added looks p sel handed end damage chosen marks left rest u (NoUnitWithGtid gtid) s first is accepted none = absurd none
+not-added looks p sel handed end damage chosen marks left rest u (Log f) s first is accepted none = absurd none
+not-added looks p sel handed end damage chosen marks left rest u (LaterLog n f) s first is accepted none = absurd none
+not-added looks p sel handed end damage chosen marks left rest u (ChangedSince rows lines) s first is accepted none = absurd none
+not-added looks p sel handed end damage chosen marks left rest u (UnknownSince lines) s first is accepted none = absurd none
+not-added looks p sel handed end damage chosen marks left rest u (NoSchema text) s first is accepted none = absurd none
+not-added looks p sel handed end damage chosen marks left rest u NothingSelected s first is accepted none = absurd none

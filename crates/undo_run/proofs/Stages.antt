@@ -7,7 +7,6 @@ use Rattle.std.proofs.lemmas.List.{length-map}
 use Rattle.blog_device.specs.Devices.{ReadsLog}
 use Rattle.blog_device.specs.declared.fault.RunFault.TheVariants as run
 use Rattle.blog_event.specs.declared.fault.Fault.TheVariants.{OutOfMemory}
-use Rattle.blog_request.specs.declared.wanted.Wanted.{Wanted}
 use Rattle.blog_run.specs.declared.writing.Writing.{Writing}
 use Rattle.blog_source.specs.Found.{found_of, source_refusal}
 use Rattle.blog_source.specs.Handed.{handed_log}
@@ -17,19 +16,20 @@ use Rattle.blog_source.specs.declared.source.Source.{Source}
 use Rattle.blog_sum.specs.declared.fault.SumFault.{SumFault}
 use Rattle.blog_trans.specs.Groups.{groups, placed_groups, transaction_value}
 use Rattle.blog_trans.specs.Selection.{Selection}
+use Rattle.blog_units.specs.Units.{Facts}
 use Rattle.list_run.specs.declared.given.GivenLog.{GivenLog}
 use Rattle.undo_run.specs.Parts.{Refuses as RefusesAll, RefusesStart, damage_before, has_start, reading_of, selection_in}
 use Rattle.undo_run.specs.Reports.{Since, report}
 use Rattle.undo_run.specs.Taken.{IsSafeIf, OfLater, Taken, WritesTaken, counts_taken, since_told}
-use Rattle.undo_run.specs.Units.{IsMissing, RefusesChosen, RefusesUnits, ids_asked, wanted_in}
+use Rattle.undo_run.specs.Units.{LacksUnit, RefusesChosen, RefusesUnits, is_asked}
 use Rattle.undo_run.specs.Writes.{WritesHanded, WritesPart, WritesRead, is_failed_write}
-use Rattle.undo_run.proofs.Asked.{missing-not-found}
 use Rattle.undo_run.specs.code.SinceView.{since_seen}
-use Rattle.undo_run.specs.code.Steps.{Chooses, IsNoUnit, IsSource, Looks, OpensLog, WritesIndex, opening_cause}
+use Rattle.undo_run.specs.code.Steps.{Chooses, IsSource, Looks, OpensLog, WritesIndex, opening_cause}
 use Rattle.undo_run.specs.declared.fault.OpeningFault.{OpeningFault}
 use Rattle.undo_run.specs.declared.fault.OpeningFault.TheVariants as opening
 use Rattle.undo_run.specs.declared.fault.PartFault.{PartFault}
-use Rattle.undo_run.specs.declared.fault.PartFault.TheVariants.{Run, Sums, NoEventAt, NoUnitWithGtid, Log, NothingSelected, LaterLog, ChangedSince, UnknownSince, TooLong, NoSchema}
+use Rattle.undo_run.specs.declared.fault.PartFault.TheVariants.{Run, Sums, NoEventAt, NoUnitAt, NoUnitWithGtid, Log, NothingSelected, LaterLog, ChangedSince, UnknownSince, TooLong, NoSchema}
+use Rattle.undo_run.specs.declared.request.UnitRequest.{UnitRequest}
 use Rattle.undo_run.specs.declared.since.Since as told
 
 -- ---- what is taken
@@ -62,6 +62,7 @@ by-groups looks known givens w name t Sound Refuses had has since (Err (LaterLog
 by-groups looks known givens w name t Sound Refuses had has since (Err (ChangedSince rows lines)) sound free none = absurd none
 by-groups looks known givens w name t Sound Refuses had has since (Err (UnknownSince lines)) sound free none = absurd none
 by-groups looks known givens w name t Sound Refuses had has since (Err (NoEventAt pos)) sound free none = absurd none
+by-groups looks known givens w name t Sound Refuses had has since (Err (NoUnitAt place)) sound free none = absurd none
 by-groups looks known givens w name t Sound Refuses had has since (Err (NoUnitWithGtid gtid)) sound free none = absurd none
 by-groups looks known givens w name t Sound Refuses had has since (Err (Sums f)) sound free none = absurd none
 by-groups looks known givens w name t Sound Refuses had has since (Err (Log f)) sound free none = absurd none
@@ -87,6 +88,7 @@ not-free true known givens w name t Sound Refuses had has (Run run.Read) sound n
 not-free true known givens w name t Sound Refuses had has (Run run.Write) sound none keeps = absurd none
 not-free true known givens w name t Sound Refuses had has (Sums f) sound none keeps = absurd none
 not-free true known givens w name t Sound Refuses had has (NoEventAt pos) sound none keeps = absurd none
+not-free true known givens w name t Sound Refuses had has (NoUnitAt place) sound none keeps = absurd none
 not-free true known givens w name t Sound Refuses had has (NoUnitWithGtid gtid) sound none keeps = absurd none
 not-free true known givens w name t Sound Refuses had has (Log f) sound none keeps = absurd none
 not-free true known givens w name t Sound Refuses had has (NoSchema text) sound none keeps = absurd none
@@ -103,6 +105,7 @@ no-write-failed X true known givens t (Run run.Read) is = refl
 no-write-failed X true known givens t (Run run.Write) none = absurd none
 no-write-failed X true known givens t (Sums f) is = refl
 no-write-failed X true known givens t (NoEventAt pos) is = refl
+no-write-failed X true known givens t (NoUnitAt place) is = refl
 no-write-failed X true known givens t (NoUnitWithGtid gtid) is = refl
 no-write-failed X true known givens t (Log f) is = refl
 no-write-failed X true known givens t (NoSchema text) is = refl
@@ -113,6 +116,7 @@ no-write-failed X true known givens t TooLong is = refl
 abbrev pub IsRefused : {A : Type 0} → (PartFault A → Type 0) → PartFault A → Type 0
 IsRefused Refuses (Run (run.Log f)) = f ≡ OutOfMemory
 IsRefused Refuses (NoEventAt pos) = Refuses (NoEventAt pos)
+IsRefused Refuses (NoUnitAt place) = Refuses (NoUnitAt place)
 IsRefused Refuses (NoUnitWithGtid gtid) = Refuses (NoUnitWithGtid gtid)
 IsRefused Refuses (Sums f) = Refuses (Sums f)
 IsRefused Refuses (Log f) = Refuses (Log f)
@@ -124,6 +128,7 @@ pub not-selected : {A R : Type 0} (looks : Bool) (known : R → Option (List ℕ
     → IsRefused Refuses cause → Keeps had has → WritesTaken looks known givens w name t Sound Refuses had has (Err cause)
 not-selected looks known givens w name t Sound Refuses had has (Run (run.Log f)) is keeps = (is, keeps)
 not-selected looks known givens w name t Sound Refuses had has (NoEventAt pos) is keeps = (is, keeps)
+not-selected looks known givens w name t Sound Refuses had has (NoUnitAt place) is keeps = (is, keeps)
 not-selected looks known givens w name t Sound Refuses had has (NoUnitWithGtid gtid) is keeps = (is, keeps)
 not-selected looks known givens w name t Sound Refuses had has (Sums f) is keeps = (is, keeps)
 not-selected looks known givens w name t Sound Refuses had has (Log f) is keeps = (is, keeps)
@@ -140,6 +145,7 @@ not-selected looks known givens w name t Sound Refuses had has (NoSchema text) n
 
 part-refused : {A : Type 0} (part : Selection) (handed : List ℕ) (end : ℕ) (damage : Option SumFault) (cause : PartFault A) → RefusesAll part handed end damage cause → IsRefused (RefusesAll part handed end damage) cause
 part-refused part handed end damage (NoEventAt pos) is = is
+part-refused part handed end damage (NoUnitAt place) none = absurd none
 part-refused part handed end damage (NoUnitWithGtid gtid) none = absurd none
 part-refused part handed end damage (Sums f) is = is
 part-refused part handed end damage (Log f) is = is
@@ -158,106 +164,111 @@ all-refused looks known givens w name t Sound had has part handed end damage cau
 
 -- ---- of chosen units
 
-pub start-refused : {A : Type 0} (w : Wanted) (part : Selection) (handed : List ℕ) (end : ℕ) (fault damage : Option SumFault) (cause : PartFault A) → RefusesStart part handed end fault cause
-    → IsRefused (RefusesUnits w part handed end fault damage) cause
-start-refused w part handed end fault damage (NoEventAt pos) is = inl is
-start-refused w part handed end fault damage (Sums f) is = inl is
-start-refused w part handed end fault damage (Run f) none = absurd none
-start-refused w part handed end fault damage (NoUnitWithGtid gtid) none = absurd none
-start-refused w part handed end fault damage (Log f) none = absurd none
-start-refused w part handed end fault damage (LaterLog n f) none = absurd none
-start-refused w part handed end fault damage (ChangedSince rows lines) none = absurd none
-start-refused w part handed end fault damage (UnknownSince lines) none = absurd none
-start-refused w part handed end fault damage (NoSchema text) none = absurd none
-start-refused w part handed end fault damage NothingSelected none = absurd none
-start-refused w part handed end fault damage TooLong none = absurd none
+pub start-refused : {A : Type 0} (r : UnitRequest) (part : Selection) (handed : List ℕ) (end : ℕ) (fault damage : Option SumFault) (cause : PartFault A) → RefusesStart part handed end fault cause
+    → IsRefused (RefusesUnits r part handed end fault damage) cause
+start-refused r part handed end fault damage (NoEventAt pos) is = inl is
+start-refused r part handed end fault damage (Sums f) is = inl is
+start-refused r part handed end fault damage (Run f) none = absurd none
+start-refused r part handed end fault damage (NoUnitAt place) none = absurd none
+start-refused r part handed end fault damage (NoUnitWithGtid gtid) none = absurd none
+start-refused r part handed end fault damage (Log f) none = absurd none
+start-refused r part handed end fault damage (LaterLog n f) none = absurd none
+start-refused r part handed end fault damage (ChangedSince rows lines) none = absurd none
+start-refused r part handed end fault damage (UnknownSince lines) none = absurd none
+start-refused r part handed end fault damage (NoSchema text) none = absurd none
+start-refused r part handed end fault damage NothingSelected none = absurd none
+start-refused r part handed end fault damage TooLong none = absurd none
 
-pub ids-refused : {A : Type 0} (w : Wanted) (part : Selection) (handed : List ℕ) (end : ℕ) (fault damage : Option SumFault) (n : ℕ) (cause : PartFault A) → has_start part handed end ≡ true
-    → IsMissing (ids_asked w) (selection_in part handed) handed n → IsNoUnit n (damage_before true part end fault) cause → IsRefused (RefusesUnits w part handed end fault damage) cause
-ids-refused w part handed end fault damage n (NoUnitWithGtid m) start missing (none, same) = inr (start, inl (none, subst (λ (k : ℕ). IsMissing (ids_asked w) (selection_in part handed) handed k) (sym same) missing))
-ids-refused w part handed end fault damage n (Sums f) start missing is = inr (start, inl (is, missing-not-found (ids_asked w) (selection_in part handed) handed n missing))
-ids-refused w part handed end fault damage n (Run f) start missing none = absurd none
-ids-refused w part handed end fault damage n (NoEventAt pos) start missing none = absurd none
-ids-refused w part handed end fault damage n (Log f) start missing none = absurd none
-ids-refused w part handed end fault damage n (LaterLog k f) start missing none = absurd none
-ids-refused w part handed end fault damage n (ChangedSince rows lines) start missing none = absurd none
-ids-refused w part handed end fault damage n (UnknownSince lines) start missing none = absurd none
-ids-refused w part handed end fault damage n (NoSchema text) start missing none = absurd none
-ids-refused w part handed end fault damage n NothingSelected start missing none = absurd none
-ids-refused w part handed end fault damage n TooLong start missing none = absurd none
+pub unit-lacking : {A : Type 0} (r : UnitRequest) (part : Selection) (handed : List ℕ) (end : ℕ) (fault damage : Option SumFault) (cause : PartFault A) → has_start part handed end ≡ true
+    → LacksUnit r (selection_in part handed) handed end (damage_before true part end fault) cause → IsRefused (RefusesUnits r part handed end fault damage) cause
+unit-lacking r part handed end fault damage (NoUnitAt place) start is = inr (start, inl is)
+unit-lacking r part handed end fault damage (NoUnitWithGtid n) start is = inr (start, inl is)
+unit-lacking r part handed end fault damage (Sums f) start is = inr (start, inl is)
+unit-lacking r part handed end fault damage (Run f) start none = absurd none
+unit-lacking r part handed end fault damage (NoEventAt pos) start none = absurd none
+unit-lacking r part handed end fault damage (Log f) start none = absurd none
+unit-lacking r part handed end fault damage (LaterLog k f) start none = absurd none
+unit-lacking r part handed end fault damage (ChangedSince rows lines) start none = absurd none
+unit-lacking r part handed end fault damage (UnknownSince lines) start none = absurd none
+unit-lacking r part handed end fault damage (NoSchema text) start none = absurd none
+unit-lacking r part handed end fault damage NothingSelected start none = absurd none
+unit-lacking r part handed end fault damage TooLong start none = absurd none
 
-pub chosen-refused : {A : Type 0} (w : Wanted) (part : Selection) (handed : List ℕ) (end : ℕ) (fault damage : Option SumFault) (cause : PartFault A) → has_start part handed end ≡ true
-    → RefusesChosen (wanted_in w part handed) (selection_in part handed) handed end damage cause → IsRefused (RefusesUnits w part handed end fault damage) cause
-chosen-refused w part handed end fault damage (Sums f) start is = inr (start, inr is)
-chosen-refused w part handed end fault damage (Log f) start is = inr (start, inr is)
-chosen-refused w part handed end fault damage NothingSelected start is = inr (start, inr is)
-chosen-refused w part handed end fault damage TooLong start is = inr (start, inr is)
-chosen-refused w part handed end fault damage (Run f) start none = absurd none
-chosen-refused w part handed end fault damage (NoEventAt pos) start none = absurd none
-chosen-refused w part handed end fault damage (NoUnitWithGtid gtid) start none = absurd none
-chosen-refused w part handed end fault damage (LaterLog n f) start none = absurd none
-chosen-refused w part handed end fault damage (ChangedSince rows lines) start none = absurd none
-chosen-refused w part handed end fault damage (UnknownSince lines) start none = absurd none
-chosen-refused w part handed end fault damage (NoSchema text) start none = absurd none
+pub chosen-refused : {A : Type 0} (r : UnitRequest) (part : Selection) (handed : List ℕ) (end : ℕ) (fault damage : Option SumFault) (cause : PartFault A) → has_start part handed end ≡ true
+    → RefusesChosen (is_asked r part handed) (selection_in part handed) handed end damage cause → IsRefused (RefusesUnits r part handed end fault damage) cause
+chosen-refused r part handed end fault damage (Sums f) start is = inr (start, inr is)
+chosen-refused r part handed end fault damage (Log f) start is = inr (start, inr is)
+chosen-refused r part handed end fault damage NothingSelected start is = inr (start, inr is)
+chosen-refused r part handed end fault damage TooLong start is = inr (start, inr is)
+chosen-refused r part handed end fault damage (Run f) start none = absurd none
+chosen-refused r part handed end fault damage (NoEventAt pos) start none = absurd none
+chosen-refused r part handed end fault damage (NoUnitAt place) start none = absurd none
+chosen-refused r part handed end fault damage (NoUnitWithGtid gtid) start none = absurd none
+chosen-refused r part handed end fault damage (LaterLog n f) start none = absurd none
+chosen-refused r part handed end fault damage (ChangedSince rows lines) start none = absurd none
+chosen-refused r part handed end fault damage (UnknownSince lines) start none = absurd none
+chosen-refused r part handed end fault damage (NoSchema text) start none = absurd none
 
-pub not-chosen : {A : Type 0} (looks : Bool) (w : Wanted) (part : Selection) (handed : List ℕ) (end : ℕ) (fault damage : Option SumFault) (cause : PartFault A) → has_start part handed end ≡ true
-    → Chooses {A = A} looks (wanted_in w part handed) (selection_in part handed) handed end damage (Err cause) → IsRefused (RefusesUnits w part handed end fault damage) cause
-not-chosen looks w part handed end fault damage (Run (run.Log f)) start is = is
-not-chosen looks w part handed end fault damage (Run run.Read) start none = absurd none
-not-chosen looks w part handed end fault damage (Run run.Write) start none = absurd none
-not-chosen looks w part handed end fault damage (Sums f) start is = inr (start, inr is)
-not-chosen looks w part handed end fault damage (Log f) start is = inr (start, inr is)
-not-chosen looks w part handed end fault damage NothingSelected start is = inr (start, inr is)
-not-chosen looks w part handed end fault damage TooLong start is = inr (start, inr is)
-not-chosen looks w part handed end fault damage (NoEventAt pos) start none = absurd none
-not-chosen looks w part handed end fault damage (NoUnitWithGtid gtid) start none = absurd none
-not-chosen looks w part handed end fault damage (LaterLog n f) start none = absurd none
-not-chosen looks w part handed end fault damage (ChangedSince rows lines) start none = absurd none
-not-chosen looks w part handed end fault damage (UnknownSince lines) start none = absurd none
-not-chosen looks w part handed end fault damage (NoSchema text) start none = absurd none
+pub not-chosen : {A : Type 0} (looks : Bool) (r : UnitRequest) (part : Selection) (handed : List ℕ) (end : ℕ) (fault damage : Option SumFault) (cause : PartFault A) → has_start part handed end ≡ true
+    → Chooses {A = A} looks (is_asked r part handed) (selection_in part handed) handed end damage (Err cause) → IsRefused (RefusesUnits r part handed end fault damage) cause
+not-chosen looks r part handed end fault damage (Run (run.Log f)) start is = is
+not-chosen looks r part handed end fault damage (Run run.Read) start none = absurd none
+not-chosen looks r part handed end fault damage (Run run.Write) start none = absurd none
+not-chosen looks r part handed end fault damage (Sums f) start is = inr (start, inr is)
+not-chosen looks r part handed end fault damage (Log f) start is = inr (start, inr is)
+not-chosen looks r part handed end fault damage NothingSelected start is = inr (start, inr is)
+not-chosen looks r part handed end fault damage TooLong start is = inr (start, inr is)
+not-chosen looks r part handed end fault damage (NoEventAt pos) start none = absurd none
+not-chosen looks r part handed end fault damage (NoUnitAt place) start none = absurd none
+not-chosen looks r part handed end fault damage (NoUnitWithGtid gtid) start none = absurd none
+not-chosen looks r part handed end fault damage (LaterLog n f) start none = absurd none
+not-chosen looks r part handed end fault damage (ChangedSince rows lines) start none = absurd none
+not-chosen looks r part handed end fault damage (UnknownSince lines) start none = absurd none
+not-chosen looks r part handed end fault damage (NoSchema text) start none = absurd none
 
 -- what holds of units and a selection of the program holds of those that they are
-pub of-units : (P : Wanted → Selection → Type 0) (v w : Wanted) (sel there : Selection) → v ≡ w → sel ≡ there → P v sel → P w there
-of-units P v w sel there same chosen here = subst (λ (s : Selection). P w s) chosen (subst (λ (u : Wanted). P u sel) same here)
+pub of-units : (P : (Facts → Bool) → Selection → Type 0) (p q : Facts → Bool) (sel there : Selection) → p ≡ q → sel ≡ there → P p sel → P q there
+of-units P p q sel there same chosen here = subst (λ (s : Selection). P q s) chosen (subst (λ (test : Facts → Bool). P test sel) same here)
 
 -- ---- of a log that is read
 
-of-read : {A R : Type 0} (looks : Bool) (known : R → Option (List ℕ)) (givens : List (GivenLog R)) (w : Writing) (name : List ℕ) (part : Selection) (wanted : Option Wanted) (old new had has : Option (List ℕ)) (bytes : List ℕ)
-    → ReadsLog old new bytes → source_refusal bytes ≡ None → (r : Result (Vec ℕ A) (PartFault A)) → WritesRead looks known givens w name part wanted had has r bytes → WritesPart looks known givens w name part wanted old new had has r
-of-read looks known givens w name part wanted old new had has bytes reads sound (Err (Run run.Read)) none = absurd none
-of-read looks known givens w name part wanted old new had has bytes reads sound (Err (Run (run.Log f))) (is, keeps) = (inl is, keeps)
-of-read looks known givens w name part wanted old new had has bytes reads sound (Err (Sums f)) is = inr (bytes, reads, sound, is)
-of-read looks known givens w name part wanted old new had has bytes reads sound (Ok told) is = (bytes, reads, sound, is)
-of-read looks known givens w name part wanted old new had has bytes reads sound (Err (Run run.Write)) is = (bytes, reads, sound, is)
-of-read looks known givens w name part wanted old new had has bytes reads sound (Err (NoEventAt pos)) is = (bytes, reads, sound, is)
-of-read looks known givens w name part wanted old new had has bytes reads sound (Err (NoUnitWithGtid gtid)) is = (bytes, reads, sound, is)
-of-read looks known givens w name part wanted old new had has bytes reads sound (Err (Log f)) is = (bytes, reads, sound, is)
-of-read looks known givens w name part wanted old new had has bytes reads sound (Err (LaterLog n f)) is = (bytes, reads, sound, is)
-of-read looks known givens w name part wanted old new had has bytes reads sound (Err (ChangedSince rows lines)) is = (bytes, reads, sound, is)
-of-read looks known givens w name part wanted old new had has bytes reads sound (Err (UnknownSince lines)) is = (bytes, reads, sound, is)
-of-read looks known givens w name part wanted old new had has bytes reads sound (Err (NoSchema text)) is = (bytes, reads, sound, is)
-of-read looks known givens w name part wanted old new had has bytes reads sound (Err NothingSelected) is = (bytes, reads, sound, is)
-of-read looks known givens w name part wanted old new had has bytes reads sound (Err TooLong) is = (bytes, reads, sound, is)
+of-read : {A R : Type 0} (looks : Bool) (known : R → Option (List ℕ)) (givens : List (GivenLog R)) (w : Writing) (name : List ℕ) (part : Selection) (asked : Option UnitRequest) (old new had has : Option (List ℕ)) (bytes : List ℕ)
+    → ReadsLog old new bytes → source_refusal bytes ≡ None → (r : Result (Vec ℕ A) (PartFault A)) → WritesRead looks known givens w name part asked had has r bytes → WritesPart looks known givens w name part asked old new had has r
+of-read looks known givens w name part asked old new had has bytes reads sound (Err (Run run.Read)) none = absurd none
+of-read looks known givens w name part asked old new had has bytes reads sound (Err (Run (run.Log f))) (is, keeps) = (inl is, keeps)
+of-read looks known givens w name part asked old new had has bytes reads sound (Err (Sums f)) is = inr (bytes, reads, sound, is)
+of-read looks known givens w name part asked old new had has bytes reads sound (Ok told) is = (bytes, reads, sound, is)
+of-read looks known givens w name part asked old new had has bytes reads sound (Err (Run run.Write)) is = (bytes, reads, sound, is)
+of-read looks known givens w name part asked old new had has bytes reads sound (Err (NoEventAt pos)) is = (bytes, reads, sound, is)
+of-read looks known givens w name part asked old new had has bytes reads sound (Err (NoUnitAt place)) is = (bytes, reads, sound, is)
+of-read looks known givens w name part asked old new had has bytes reads sound (Err (NoUnitWithGtid gtid)) is = (bytes, reads, sound, is)
+of-read looks known givens w name part asked old new had has bytes reads sound (Err (Log f)) is = (bytes, reads, sound, is)
+of-read looks known givens w name part asked old new had has bytes reads sound (Err (LaterLog n f)) is = (bytes, reads, sound, is)
+of-read looks known givens w name part asked old new had has bytes reads sound (Err (ChangedSince rows lines)) is = (bytes, reads, sound, is)
+of-read looks known givens w name part asked old new had has bytes reads sound (Err (UnknownSince lines)) is = (bytes, reads, sound, is)
+of-read looks known givens w name part asked old new had has bytes reads sound (Err (NoSchema text)) is = (bytes, reads, sound, is)
+of-read looks known givens w name part asked old new had has bytes reads sound (Err NothingSelected) is = (bytes, reads, sound, is)
+of-read looks known givens w name part asked old new had has bytes reads sound (Err TooLong) is = (bytes, reads, sound, is)
 
-pub opened-written : {A R S : Type 0} (looks : Bool) (known : R → Option (List ℕ)) (givens : List (GivenLog R)) (w : Writing) (name : List ℕ) (part : Selection) (wanted : Option Wanted) (old new had has : Option (List ℕ)) (source : Source S)
-    (r : Result (Vec ℕ A) (PartFault A)) → ((bytes : List ℕ) × ReadsLog old new bytes × IsSource (reading_of looks wanted part) bytes source)
-    → WritesHanded looks known givens w name part wanted (log_of source) (end_of source) (fault_of source) had has r → WritesPart looks known givens w name part wanted old new had has r
-opened-written looks known givens w name part wanted old new had has source r (bytes, reads, opened) is =
-    let how = reading_of looks wanted part in
-    of-read looks known givens w name part wanted old new had has bytes reads opened.sound r
-    (subst (λ (d : Option SumFault). WritesHanded looks known givens w name part wanted (handed_log how bytes) (found_of how bytes).end d had has r) opened.fault
-    (subst (λ (n : ℕ). WritesHanded looks known givens w name part wanted (handed_log how bytes) n (fault_of source) had has r) opened.end
-    (subst (λ (b : List ℕ). WritesHanded looks known givens w name part wanted b (end_of source) (fault_of source) had has r) opened.log is)))
+pub opened-written : {A R S : Type 0} (looks : Bool) (known : R → Option (List ℕ)) (givens : List (GivenLog R)) (w : Writing) (name : List ℕ) (part : Selection) (asked : Option UnitRequest) (old new had has : Option (List ℕ)) (source : Source S)
+    (r : Result (Vec ℕ A) (PartFault A)) → ((bytes : List ℕ) × ReadsLog old new bytes × IsSource (reading_of looks asked part) bytes source)
+    → WritesHanded looks known givens w name part asked (log_of source) (end_of source) (fault_of source) had has r → WritesPart looks known givens w name part asked old new had has r
+opened-written looks known givens w name part asked old new had has source r (bytes, reads, opened) is =
+    let how = reading_of looks asked part in
+    of-read looks known givens w name part asked old new had has bytes reads opened.sound r
+    (subst (λ (d : Option SumFault). WritesHanded looks known givens w name part asked (handed_log how bytes) (found_of how bytes).end d had has r) opened.fault
+    (subst (λ (n : ℕ). WritesHanded looks known givens w name part asked (handed_log how bytes) n (fault_of source) had has r) opened.end
+    (subst (λ (b : List ℕ). WritesHanded looks known givens w name part asked b (end_of source) (fault_of source) had has r) opened.log is)))
 
 -- it isn't opened
-unopened : (A : Type 0) {R : Type 0} (S : Type 0) (looks : Bool) (known : R → Option (List ℕ)) (givens : List (GivenLog R)) (w : Writing) (name : List ℕ) (part : Selection) (wanted : Option Wanted) (old new had has : Option (List ℕ)) (how : Reading)
-    (fault : OpeningFault) → OpensLog {A = S} how old new (Err fault) → Keeps had has → WritesPart {A = A} looks known givens w name part wanted old new had has (Err (opening_cause fault))
-unopened A S looks known givens w name part wanted old new had has how (opening.Run run.Read) is keeps = keeps
-unopened A S looks known givens w name part wanted old new had has how (opening.Run run.Write) none keeps = absurd none
-unopened A S looks known givens w name part wanted old new had has how (opening.Run (run.Log f)) is keeps = (is, keeps)
-unopened A S looks known givens w name part wanted old new had has how (opening.Sums f) is keeps = inl (is, keeps)
+unopened : (A : Type 0) {R : Type 0} (S : Type 0) (looks : Bool) (known : R → Option (List ℕ)) (givens : List (GivenLog R)) (w : Writing) (name : List ℕ) (part : Selection) (asked : Option UnitRequest) (old new had has : Option (List ℕ)) (how : Reading)
+    (fault : OpeningFault) → OpensLog {A = S} how old new (Err fault) → Keeps had has → WritesPart {A = A} looks known givens w name part asked old new had has (Err (opening_cause fault))
+unopened A S looks known givens w name part asked old new had has how (opening.Run run.Read) is keeps = keeps
+unopened A S looks known givens w name part asked old new had has how (opening.Run run.Write) none keeps = absurd none
+unopened A S looks known givens w name part asked old new had has how (opening.Run (run.Log f)) is keeps = (is, keeps)
+unopened A S looks known givens w name part asked old new had has how (opening.Sums f) is keeps = inl (is, keeps)
 
-pub unopened-written : {A R : Type 0} (S : Type 0) (looks : Bool) (known : R → Option (List ℕ)) (givens : List (GivenLog R)) (w : Writing) (name : List ℕ) (part : Selection) (wanted : Option Wanted) (old new had has : Option (List ℕ)) (how : Reading)
-    (fault : OpeningFault) (cause : PartFault A) → cause ≡ opening_cause fault → OpensLog {A = S} how old new (Err fault) → Keeps had has → WritesPart looks known givens w name part wanted old new had has (Err cause)
-unopened-written {A = A} S looks known givens w name part wanted old new had has how fault cause same is keeps =
-    subst (λ (c : PartFault A). WritesPart looks known givens w name part wanted old new had has (Err c)) (sym same) (unopened A S looks known givens w name part wanted old new had has how fault is keeps)
+pub unopened-written : {A R : Type 0} (S : Type 0) (looks : Bool) (known : R → Option (List ℕ)) (givens : List (GivenLog R)) (w : Writing) (name : List ℕ) (part : Selection) (asked : Option UnitRequest) (old new had has : Option (List ℕ)) (how : Reading)
+    (fault : OpeningFault) (cause : PartFault A) → cause ≡ opening_cause fault → OpensLog {A = S} how old new (Err fault) → Keeps had has → WritesPart looks known givens w name part asked old new had has (Err cause)
+unopened-written {A = A} S looks known givens w name part asked old new had has how fault cause same is keeps =
+    subst (λ (c : PartFault A). WritesPart looks known givens w name part asked old new had has (Err c)) (sym same) (unopened A S looks known givens w name part asked old new had has how fault is keeps)

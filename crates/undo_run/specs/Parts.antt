@@ -6,7 +6,6 @@ use Rattle.blog_event.specs.declared.fault.Fault.{Fault}
 use Rattle.blog_event.specs.Fault.{name_of, position_of as fault_position}
 use Rattle.blog_later.specs.Among.{Selected}
 use Rattle.blog_later.specs.Later.{later_units}
-use Rattle.blog_request.specs.declared.wanted.Wanted.{Wanted}
 use Rattle.blog_source.specs.Places.{first_of, place_of, position_of}
 use Rattle.blog_source.specs.declared.reading.Reading.{Reading}
 use Rattle.blog_sum.specs.declared.fault.SumFault.{SumFault}
@@ -19,13 +18,14 @@ use Rattle.undo_run.specs.After.{Later, later_step}
 use Rattle.undo_run.specs.Taken.{Taken}
 use Rattle.undo_run.specs.declared.fault.PartFault.{PartFault}
 use Rattle.undo_run.specs.declared.fault.PartFault.TheVariants.{Sums, NoEventAt, Log, NothingSelected}
+use Rattle.undo_run.specs.declared.request.UnitRequest.{UnitRequest}
 
 -- ---- what a part is
 
--- A part is a selection by places. It is all of that; or of its units those that are wanted. The log is read up to the part's stop, or to the
--- log's end where what came later is looked at, or units are wanted.
-abbrev pub reading_of : Bool → Option Wanted → Selection → Reading
-reading_of looks wanted part = record { stop = if looks || is_some wanted then None else part.stop; skip_damaged = false }
+-- A part is a selection by places. It is all of that; or of its units those that are asked for. The log is read up to the part's stop, or to the
+-- log's end where what came later is looked at, or units are asked for.
+abbrev pub reading_of : Bool → Option UnitRequest → Selection → Reading
+reading_of looks asked part = record { stop = if looks || is_some asked then None else part.stop; skip_damaged = false }
 
 -- the reading ended at the stop or after it
 abbrev pub is_behind : Selection → ℕ → Bool

@@ -25,7 +25,7 @@ use Rattle.undo_run.specs.Reports.{Since, report}
 use Rattle.undo_run.specs.declared.fault.OpeningFault.{OpeningFault}
 use Rattle.undo_run.specs.declared.fault.OpeningFault.TheVariants as opening
 use Rattle.undo_run.specs.declared.fault.PartFault.{PartFault}
-use Rattle.undo_run.specs.declared.fault.PartFault.TheVariants.{Run, Sums, NoEventAt, NoUnitWithGtid, Log, NothingSelected, LaterLog, ChangedSince, UnknownSince, TooLong, NoSchema}
+use Rattle.undo_run.specs.declared.fault.PartFault.TheVariants.{Run, Sums, NoEventAt, NoUnitAt, NoUnitWithGtid, Log, NothingSelected, LaterLog, ChangedSince, UnknownSince, TooLong, NoSchema}
 
 -- ---- what is taken, and what came after
 
@@ -138,6 +138,7 @@ WritesTaken looks known givens w name t Sound Refuses had has (Err (ChangedSince
 WritesTaken looks known givens w name t Sound Refuses had has (Err (UnknownSince lines)) = (Sound × OfLater looks known givens
     (λ logs. (looks ≡ true) × MayBeChanged (steps_after t logs) (tables_taken t) (after t logs))) × Keeps had has
 WritesTaken looks known givens w name t Sound Refuses had has (Err (NoEventAt pos)) = Refuses (NoEventAt pos) × Keeps had has
+WritesTaken looks known givens w name t Sound Refuses had has (Err (NoUnitAt place)) = Refuses (NoUnitAt place) × Keeps had has
 WritesTaken looks known givens w name t Sound Refuses had has (Err (NoUnitWithGtid n)) = Refuses (NoUnitWithGtid n) × Keeps had has
 WritesTaken looks known givens w name t Sound Refuses had has (Err (Sums f)) = Refuses (Sums f) × Keeps had has
 WritesTaken looks known givens w name t Sound Refuses had has (Err (Log f)) = Refuses (Log f) × Keeps had has

@@ -1,12 +1,15 @@
 -- Units of a part, by themselves: their changes are made once more, or undone, and those of the units among them are left.
-use Rattle.std.specs.Prelude.{◌≡◌, ◌⊎◌, ℕ, ◌<◌, Bool, true, false, ◌&&◌, if◌then◌else◌, List, [], ◌∷◌, ◌++◌, length, map, take, Option, Some, None, option_map, slice_get}
+use Rattle.std.specs.Prelude.{◌≡◌, ◌⊎◌, ℕ, ◌<◌, ◌==◌, Bool, true, false, ◌&&◌, ◌||◌, nat_lt, if◌then◌else◌, List, [], ◌∷◌, ◌++◌, length, map, take, drop, Option, Some, None, option_map, slice_get}
 use Rattle.std.specs.List.{AllByRecursion, list_all, list_any}
 use Rattle.std.specs.Option.{option_map_or}
 use Rattle.blog_event.specs.declared.fault.Fault.{Fault}
 use Rattle.blog_event.specs.Fault.{name_of, position_of as fault_position}
 use Rattle.blog_gathered.specs.Gathered.{Range, gathered_text}
-use Rattle.blog_later.specs.Among.{Step, Selected, Other, from_first, others_of, wanted_of}
+use Rattle.blog_later.specs.Among.{Step, Selected, Other, chosen_of, from_first, others_of}
 use Rattle.blog_later.specs.Later.{later_units, unit_changes}
+use Rattle.blog_choice.specs.Choice.{is_nil}
+use Rattle.blog_event.specs.Event.{event_at}
+use Rattle.blog_row.specs.Kinds.{is_begin_kind, kind_of}
 use Rattle.blog_request.specs.Ids.{Ids, has_id}
 use Rattle.blog_request.specs.Wanted.{is_before, is_in_range}
 use Rattle.blog_request.specs.code.IdsView.{ids_value}
@@ -19,23 +22,42 @@ use Rattle.blog_trans.specs.Groups.{groups}
 use Rattle.blog_trans.specs.Selection.{Selection, all}
 use Rattle.blog_units.specs.Units.{Facts, Id, range_of_unit}
 use Rattle.undo_run.specs.After.{Later}
-use Rattle.undo_run.specs.Parts.{IsPlaced, RefusesStart, damage_before, has_rows, has_start, is_at_end, selection_in}
+use Rattle.undo_run.specs.Parts.{IsPlaced, RefusesStart, begins_at, damage_before, has_rows, has_start, is_at_end, selection_in}
 use Rattle.undo_run.specs.Taken.{Taken}
 use Rattle.undo_run.specs.declared.fault.PartFault.{PartFault}
-use Rattle.undo_run.specs.declared.fault.PartFault.TheVariants.{Sums, NoUnitWithGtid, Log, NothingSelected, TooLong}
+use Rattle.undo_run.specs.declared.fault.PartFault.TheVariants.{Sums, NoUnitAt, NoUnitWithGtid, Log, NothingSelected, TooLong}
+use Rattle.undo_run.specs.declared.request.UnitRequest.{UnitRequest}
 
 -- ---- which units
 
--- The units are those of the events from the start on. Those that begin before the stop, and are of the wanted times, threads and ids, are
--- chosen. Positions are those in what is handed out of a log.
+-- Units are made of the events from the start on. Those are chosen that begin before the stop, and are of the wanted times, threads and ids;
+-- and, if places are asked for, start at one of these, or have their `BEGIN` there. Positions are those in what is handed out of a log.
 abbrev pub wanted_in : Wanted → Selection → List ℕ → Wanted
 wanted_in w part handed = record w { start = None; stop = option_map (position_of handed) part.stop }
 
+-- a `BEGIN` stands at a position
+abbrev pub is_begin_at : List ℕ → ℕ → Bool
+is_begin_at handed pos = option_map_or (λ e. is_begin_kind (kind_of e)) (event_at (drop pos handed)) false
+
+-- a unit starts there, or has its `BEGIN` there
+abbrev pub is_at : List ℕ → Facts → ℕ → Bool
+is_at handed u pos = pos == u.start || (nat_lt u.start pos && (nat_lt pos u.stop && is_begin_at handed pos))
+
+abbrev pub is_of_places : List ℕ → List ℕ → Facts → Bool
+is_of_places at handed u = is_nil at || list_any (is_at handed u) at
+
+abbrev pub is_chosen : Wanted → List ℕ → List ℕ → Facts → Bool
+is_chosen w at handed u = is_in_range w u && is_of_places at handed u
+
+abbrev pub is_asked : UnitRequest → Selection → List ℕ → Facts → Bool
+is_asked r part handed = is_chosen (wanted_in r.wanted part handed) (map (position_of handed) r.at.now) handed
+
+-- the units of a part, and those of them that pass a test: the chosen ones
 abbrev pub units_of_part : Selection → List ℕ → List Facts
 units_of_part sel handed = later_units handed sel.start
 
-abbrev pub chosen_units : Wanted → Selection → List ℕ → List Facts
-chosen_units w sel handed = wanted_of w (units_of_part sel handed)
+abbrev pub chosen_units : (Facts → Bool) → Selection → List ℕ → List Facts
+chosen_units p sel handed = chosen_of p (units_of_part sel handed)
 
 -- a chosen unit, up to the stop, and the selection's tables
 abbrev pub chosen_range : Selection → List ℕ → Facts → Range
@@ -46,7 +68,23 @@ abbrev pub kept_log : Selection → List ℕ → List Facts → List ℕ
 kept_log sel handed [] = []
 kept_log sel handed (u ∷ us) = gathered_text (chosen_range sel handed u) (map (chosen_range sel handed) (u ∷ us))
 
--- ---- their ids
+-- ---- their places and ids
+
+-- a unit in the range starts at a position, or has its `BEGIN` there
+abbrev pub has_unit_in : Selection → List ℕ → ℕ → Bool
+has_unit_in sel handed pos = list_any (λ u. is_before u.start sel.stop && is_at handed u pos) (units_of_part sel handed)
+
+-- the same of a place of the server's log, at which an event begins
+abbrev pub has_unit_at : Selection → List ℕ → ℕ → ℕ → Bool
+has_unit_at sel handed end place = begins_at handed end place && has_unit_in sel handed (position_of handed place)
+
+-- each of several asked places has a unit
+abbrev pub have_units : List ℕ → Selection → List ℕ → ℕ → Bool
+have_units asked sel handed end = list_all (has_unit_at sel handed end) asked
+
+-- this is the first that hasn't
+abbrev pub IsWithout : List ℕ → Selection → List ℕ → ℕ → ℕ → Type 0
+IsWithout asked sel handed end place = (n : ℕ) × (have_units (take n asked) sel handed end ≡ true) × (slice_get asked n ≡ Some place) × (has_unit_at sel handed end place ≡ false)
 
 -- an id, if there is one, is among some
 abbrev pub has_one_of : Ids → Option Id → Bool
@@ -70,23 +108,23 @@ ids_asked w = map ids_value w.gtids.now
 -- ---- what is taken of them
 
 -- the changes of a unit in turn: those of a chosen one are selected, and those of any other aren't
-abbrev pub step_of : Wanted → Selection → List ℕ → Facts → Step
-step_of w sel handed u = if is_in_range w u then Selected (changes handed (range_of_unit sel u)) else Other (unit_changes handed u)
+abbrev pub step_of : (Facts → Bool) → Selection → List ℕ → Facts → Step
+step_of p sel handed u = if p u then Selected (changes handed (range_of_unit sel u)) else Other (unit_changes handed u)
 
 -- the units from the first chosen one on
-abbrev pub units_on : Wanted → Selection → List ℕ → List Facts
-units_on w sel handed = from_first w (units_of_part sel handed)
+abbrev pub units_on : (Facts → Bool) → Selection → List ℕ → List Facts
+units_on p sel handed = from_first p (units_of_part sel handed)
 
 -- those of them that aren't chosen
-abbrev pub rest_among : List ℕ → Wanted → Selection → List ℕ → ℕ → Option SumFault → Later
-rest_among name w sel handed end fault = record { name = name; handed = handed; units = others_of w (units_on w sel handed); end = end; fault = fault }
+abbrev pub rest_among : List ℕ → (Facts → Bool) → Selection → List ℕ → ℕ → Option SumFault → Later
+rest_among name p sel handed end fault = record { name = name; handed = handed; units = others_of p (units_on p sel handed); end = end; fault = fault }
 
-abbrev pub chosen_taken : List ℕ → Wanted → Selection → List ℕ → ℕ → Option SumFault → Taken
-chosen_taken name w sel handed end fault = record {
-  log = kept_log sel handed (chosen_units w sel handed);
+abbrev pub chosen_taken : List ℕ → (Facts → Bool) → Selection → List ℕ → ℕ → Option SumFault → Taken
+chosen_taken name p sel handed end fault = record {
+  log = kept_log sel handed (chosen_units p sel handed);
   sel = all;
-  steps = map (step_of w sel handed) (units_on w sel handed);
-  rest = rest_among name w sel handed end fault;
+  steps = map (step_of p sel handed) (units_on p sel handed);
+  rest = rest_among name p sel handed end fault;
 }
 
 -- ---- their faults
@@ -97,74 +135,78 @@ IsUnitAccepted sel handed u = IsAccepted handed (range_of_unit sel u)
 abbrev pub AreAccepted : Selection → List ℕ → List Facts → Type 0
 AreAccepted sel handed us = AllByRecursion (IsUnitAccepted sel handed) us
 
--- The chosen units can be written: each asked id is one of a unit, the log was read up to the stop, each chosen unit is accepted, no two of them have one table with two layouts,
+-- The chosen units can be written: the log was read up to the stop, each of them is accepted, no two of them have one table with two layouts,
 -- and they have rows.
-pub record AreSound (w : Wanted) (sel : Selection) (handed : List ℕ) (damage : Option SumFault) : Type 0 where
-  pub found : are_found (ids_asked w) sel handed ≡ true
+pub record AreSound (p : Facts → Bool) (sel : Selection) (handed : List ℕ) (damage : Option SumFault) : Type 0 where
   pub whole : damage ≡ None
-  pub accepted : AreAccepted sel handed (chosen_units w sel handed)
-  pub agree : IsAccepted (kept_log sel handed (chosen_units w sel handed)) all
-  pub rows : has_rows (counts_of (groups (kept_log sel handed (chosen_units w sel handed)) all)) ≡ true
+  pub accepted : AreAccepted sel handed (chosen_units p sel handed)
+  pub agree : IsAccepted (kept_log sel handed (chosen_units p sel handed)) all
+  pub rows : has_rows (counts_of (groups (kept_log sel handed (chosen_units p sel handed)) all)) ≡ true
 
 -- this is the first chosen unit that is refused, or for which memory was refused, and its fault
-pub record IsFirstRefused (w : Wanted) (sel : Selection) (handed : List ℕ) (inner : Fault) : Type 0 where
+pub record IsFirstRefused (p : Facts → Bool) (sel : Selection) (handed : List ℕ) (inner : Fault) : Type 0 where
   pub before : List Facts
   pub unit : Facts
   pub rest : List Facts
-  pub chosen : chosen_units w sel handed ≡ before ++ unit ∷ rest
+  pub chosen : chosen_units p sel handed ≡ before ++ unit ∷ rest
   pub accepted : AreAccepted sel handed before
   pub refused : IsRefusal (fault handed (range_of_unit sel unit)) inner
 
 -- the log is damaged before the stop, and chosen units before that place have no fault of their own
-abbrev pub UnitsEndEarly : Wanted → Selection → List ℕ → Option SumFault → SumFault → Type 0
-UnitsEndEarly w sel handed damage f = (damage ≡ Some f)
-    × (AreAccepted sel handed (chosen_units w sel handed) ⊎ ((inner : Fault) × IsFirstRefused w sel handed inner × (is_at_end handed inner ≡ true)))
+abbrev pub UnitsEndEarly : (Facts → Bool) → Selection → List ℕ → Option SumFault → SumFault → Type 0
+UnitsEndEarly p sel handed damage f = (damage ≡ Some f)
+    × (AreAccepted sel handed (chosen_units p sel handed) ⊎ ((inner : Fault) × IsFirstRefused p sel handed inner × (is_at_end handed inner ≡ true)))
 
 -- a chosen unit is refused;
-abbrev pub UnitIsRefused : Wanted → Selection → List ℕ → ℕ → Option SumFault → Fault → Type 0
-UnitIsRefused w sel handed end damage f = (inner : Fault) × IsFirstRefused w sel handed inner × ((damage ≡ None) ⊎ (is_at_end handed inner ≡ false)) × IsPlaced handed end inner f
+abbrev pub UnitIsRefused : (Facts → Bool) → Selection → List ℕ → ℕ → Option SumFault → Fault → Type 0
+UnitIsRefused p sel handed end damage f = (inner : Fault) × IsFirstRefused p sel handed inner × ((damage ≡ None) ⊎ (is_at_end handed inner ≡ false)) × IsPlaced handed end inner f
 
 -- two of them have one table with two layouts, or memory was refused: this is told where a unit starts
-abbrev pub UnitsClash : Wanted → Selection → List ℕ → ℕ → Option SumFault → Fault → Type 0
-UnitsClash w sel handed end damage f = (damage ≡ None) × AreAccepted sel handed (chosen_units w sel handed)
-    × ((inner : Fault) × IsRefusal (fault (kept_log sel handed (chosen_units w sel handed)) all) inner × (name_of f ≡ name_of inner))
+abbrev pub UnitsClash : (Facts → Bool) → Selection → List ℕ → ℕ → Option SumFault → Fault → Type 0
+UnitsClash p sel handed end damage f = (damage ≡ None) × AreAccepted sel handed (chosen_units p sel handed)
+    × ((inner : Fault) × IsRefusal (fault (kept_log sel handed (chosen_units p sel handed)) all) inner × (name_of f ≡ name_of inner))
 
 -- no rows are changed;
-abbrev pub UnitsHaveNoRows : Wanted → Selection → List ℕ → Option SumFault → Type 0
-UnitsHaveNoRows w sel handed damage = (damage ≡ None) × AreAccepted sel handed (chosen_units w sel handed)
-    × ((chosen_units w sel handed ≡ []) ⊎ (has_rows (counts_of (groups (kept_log sel handed (chosen_units w sel handed)) all)) ≡ false))
+abbrev pub UnitsHaveNoRows : (Facts → Bool) → Selection → List ℕ → Option SumFault → Type 0
+UnitsHaveNoRows p sel handed damage = (damage ≡ None) × AreAccepted sel handed (chosen_units p sel handed)
+    × ((chosen_units p sel handed ≡ []) ⊎ (has_rows (counts_of (groups (kept_log sel handed (chosen_units p sel handed)) all)) ≡ false))
 
 -- the log in which their groups are gathered would be too long
-abbrev pub UnitsAreTooLong : Wanted → Selection → List ℕ → Type 0
-UnitsAreTooLong w sel handed = (before rest : List Facts) × (chosen_units w sel handed ≡ before ++ rest) × AreAccepted sel handed before × (4294967295 < length (kept_log sel handed before))
+abbrev pub UnitsAreTooLong : (Facts → Bool) → Selection → List ℕ → Type 0
+UnitsAreTooLong p sel handed = (before rest : List Facts) × (chosen_units p sel handed ≡ before ++ rest) × AreAccepted sel handed before × (4294967295 < length (kept_log sel handed before))
 
 -- why chosen units aren't written
-abbrev pub RefusesChosen : {A : Type 0} → Wanted → Selection → List ℕ → ℕ → Option SumFault → PartFault A → Type 0
-RefusesChosen w sel handed end damage (Sums f) = UnitsEndEarly w sel handed damage f
-RefusesChosen w sel handed end damage (Log f) = UnitIsRefused w sel handed end damage f ⊎ UnitsClash w sel handed end damage f
-RefusesChosen w sel handed end damage NothingSelected = UnitsHaveNoRows w sel handed damage
-RefusesChosen w sel handed end damage TooLong = UnitsAreTooLong w sel handed
-RefusesChosen w sel handed end damage cause = ⊥
+abbrev pub RefusesChosen : {A : Type 0} → (Facts → Bool) → Selection → List ℕ → ℕ → Option SumFault → PartFault A → Type 0
+RefusesChosen p sel handed end damage (Sums f) = UnitsEndEarly p sel handed damage f
+RefusesChosen p sel handed end damage (Log f) = UnitIsRefused p sel handed end damage f ⊎ UnitsClash p sel handed end damage f
+RefusesChosen p sel handed end damage NothingSelected = UnitsHaveNoRows p sel handed damage
+RefusesChosen p sel handed end damage TooLong = UnitsAreTooLong p sel handed
+RefusesChosen p sel handed end damage cause = ⊥
 
 -- ---- of a part
 
-abbrev pub units_taken : Wanted → List ℕ → Selection → List ℕ → ℕ → Option SumFault → Taken
-units_taken w name part handed end fault = chosen_taken name (wanted_in w part handed) (selection_in part handed) handed end fault
+abbrev pub units_taken : UnitRequest → List ℕ → Selection → List ℕ → ℕ → Option SumFault → Taken
+units_taken r name part handed end fault = chosen_taken name (is_asked r part handed) (selection_in part handed) handed end fault
 
 -- Where what came later is looked at, damage of the log is told with that. Else the log has to be read up to the part's stop.
 abbrev pub damage_among : Bool → Selection → ℕ → Option SumFault → Option SumFault
 damage_among looks part end fault = if looks then None else damage_before true part end fault
 
-abbrev pub AreSoundUnits : Wanted → Selection → List ℕ → ℕ → Option SumFault → Type 0
-AreSoundUnits w part handed end damage = (has_start part handed end ≡ true) × AreSound (wanted_in w part handed) (selection_in part handed) handed damage
+-- each place and each id that is asked for is one of a unit
+abbrev pub AreThere : UnitRequest → Selection → List ℕ → ℕ → Type 0
+AreThere r sel handed end = (have_units r.at.now sel handed end ≡ true) × (are_found (ids_asked r.wanted) sel handed ≡ true)
 
--- no unit has one of the asked ids; or the log is damaged, so that this isn't known
-abbrev pub RefusesIds : {A : Type 0} → Wanted → Selection → List ℕ → Option SumFault → PartFault A → Type 0
-RefusesIds w sel handed damage (NoUnitWithGtid n) = (damage ≡ None) × IsMissing (ids_asked w) sel handed n
-RefusesIds w sel handed damage (Sums f) = (damage ≡ Some f) × (are_found (ids_asked w) sel handed ≡ false)
-RefusesIds w sel handed damage cause = ⊥
+abbrev pub AreSoundUnits : UnitRequest → Selection → List ℕ → ℕ → Option SumFault → Type 0
+AreSoundUnits r part handed end damage = (has_start part handed end ≡ true) × AreThere r (selection_in part handed) handed end × AreSound (is_asked r part handed) (selection_in part handed) handed damage
 
-abbrev pub RefusesUnits : {A : Type 0} → Wanted → Selection → List ℕ → ℕ → Option SumFault → Option SumFault → PartFault A → Type 0
-RefusesUnits w part handed end fault damage cause = RefusesStart part handed end fault cause ⊎ ((has_start part handed end ≡ true)
-    × (RefusesIds (wanted_in w part handed) (selection_in part handed) handed (damage_before true part end fault) cause
-    ⊎ RefusesChosen (wanted_in w part handed) (selection_in part handed) handed end damage cause))
+-- no unit has one of the asked places or ids; or the log is damaged, so that this isn't known
+abbrev pub LacksUnit : {A : Type 0} → UnitRequest → Selection → List ℕ → ℕ → Option SumFault → PartFault A → Type 0
+LacksUnit r sel handed end damage (NoUnitAt place) = (damage ≡ None) × IsWithout r.at.now sel handed end place
+LacksUnit r sel handed end damage (NoUnitWithGtid n) = (damage ≡ None) × (have_units r.at.now sel handed end ≡ true) × IsMissing (ids_asked r.wanted) sel handed n
+LacksUnit r sel handed end damage (Sums f) = (damage ≡ Some f) × ((have_units r.at.now sel handed end ≡ false) ⊎ (are_found (ids_asked r.wanted) sel handed ≡ false))
+LacksUnit r sel handed end damage cause = ⊥
+
+abbrev pub RefusesUnits : {A : Type 0} → UnitRequest → Selection → List ℕ → ℕ → Option SumFault → Option SumFault → PartFault A → Type 0
+RefusesUnits r part handed end fault damage cause = RefusesStart part handed end fault cause ⊎ ((has_start part handed end ≡ true)
+    × (LacksUnit r (selection_in part handed) handed end (damage_before true part end fault) cause
+    ⊎ RefusesChosen (is_asked r part handed) (selection_in part handed) handed end damage cause))

@@ -1,6 +1,6 @@
 //! Chosen units of a log, whose groups are gathered in one log.
 
-ghost use Rattle.std.specs.Prelude.{◌≡◌, ◌++◌, ◌∷◌, List, []};
+ghost use Rattle.std.specs.Prelude.{◌≡◌, ◌++◌, ◌∷◌, IfOk, List, []};
 ghost use Rattle.blog_event.specs.Fault.{name_of};
 ghost use Rattle.blog_event.specs.code.LogView.{log_bytes};
 ghost use Rattle.blog_gathered.specs.code.GatheredView.{range_of};
@@ -8,15 +8,15 @@ ghost use Rattle.blog_source.specs.code.SourceView.{end_of, log_of};
 ghost use Rattle.blog_trans.specs.Selection.{Selection as ASelection, selection_of};
 ghost use Rattle.blog_units.specs.Units.{Facts};
 ghost use Rattle.undo_run.specs.Units.{chosen_range, chosen_units};
-ghost use Rattle.undo_run.specs.code.Steps.{Adds, Chooses, Gathers, HasChosen, Indexes, IsKept, RefusesFor};
+ghost use Rattle.undo_run.specs.code.Steps.{Adds, Chooses, Gathers, HasChosen, Indexes, IsKept, RefusesFor, chosen_by};
 
 use crate::fault::PartFault;
 use crate::part::{has_rows, is_at_end};
+use crate::request::Among;
 use blog_device::RunFault;
 use blog_event::{Fault, Log};
 use blog_gathered::{GatherFault, Gathered};
 use blog_later::Leaving;
-use blog_request::Wanted;
 use blog_source::Source;
 use blog_sum::SumFault;
 use blog_trans::{Index, Selection};
@@ -131,24 +131,38 @@ fn refusal<A: Allocator, B: Allocator>(
     }
 }
 
-/// Chooses the wanted units of the log of a source, in the range of a selection, and the changes of its tables. `damage` is why the
-/// reading of the log ended too early. `looks` says whether the rows that they left are asked for.
+/// Marks one more unit as chosen, or not.
+fn put_mark<A: Allocator>(marks: &mut Vec<bool, A>, mark: bool) -> Result<(), AllocError>
+    ensures { IfOk result (λ _. marks.new.items ≡ marks.old.items ++ mark ∷ []) }
+{
+    marks.push(mark)?;
+    Ok(())
+}
+
+/// Chooses units of the log of a source, in the range of a selection, and the changes of its tables; and marks each unit as chosen, or not, in
+/// turn. `damage` is why the reading of the log ended too early. `looks` says whether the rows that they left are asked for.
 pub(crate) fn choose<A: Allocator + Copy>(
     alloc: A,
     source: &Source<A>,
     log: &Log<'_>,
     inside: &Selection<'_>,
-    among: &Wanted<'_>,
+    among: &Among<'_, '_>,
     damage: Option<SumFault>,
     looks: bool,
-) -> Result<Chosen<A>, PartFault<A>>
+) -> Result<(Chosen<A>, Vec<bool, A>), PartFault<A>>
     requires bytes { log_bytes log.now ≡ log_of source.now }
-    requires stop { among.now.stop ≡ inside.now.stop }
-    ensures { Chooses looks among.now (selection_of inside.now) (log_of source.now) (end_of source.now) damage result }
+    requires stop { among.now.wanted.stop ≡ inside.now.stop }
+    ensures { Chooses looks (chosen_by among.now (log_of source.now)) (selection_of inside.now) (log_of source.now) (end_of source.now) damage result }
 {
     let mut chosen = Chosen::none(alloc);
+    let mut marks = Vec::new(alloc);
     for unit in Units::from_position(log, inside.start) {
-        if among.has_in_range(&unit) {
+        let is_chosen = among.has(log, &unit);
+        match put_mark(&mut marks, is_chosen) {
+            Ok(()) => {}
+            Err(fault) => return Err(PartFault::from(fault)),
+        }
+        if is_chosen {
             let index = match unit.groups_of(alloc, inside) {
                 Ok(index) => index,
                 Err(fault) => return Err(refusal(source, &fault, damage)),
@@ -161,7 +175,7 @@ pub(crate) fn choose<A: Allocator + Copy>(
     }
     match damage {
         Some(damage) => Err(PartFault::Sums(damage)),
-        None => Ok(chosen),
+        None => Ok((chosen, marks)),
     }
 }
 
@@ -184,13 +198,13 @@ pub(crate) fn index_of_chosen<'g, A: Allocator + Copy>(
     alloc: A,
     source: &Source<A>,
     inside: &Selection<'_>,
-    among: &Wanted<'_>,
+    among: &Among<'_, '_>,
     gathered: &'g Option<Gathered<A>>,
     places: &[Place],
     seed: u64,
 ) -> Result<Index<'g, 'static, A>, PartFault<A>>
-    requires { IsKept (selection_of inside.now) (log_of source.now) (chosen_units among.now (selection_of inside.now) (log_of source.now)) gathered.now }
-    ensures { Indexes among.now (selection_of inside.now) (log_of source.now) (end_of source.now) result }
+    requires { IsKept (selection_of inside.now) (log_of source.now) (chosen_units (chosen_by among.now (log_of source.now)) (selection_of inside.now) (log_of source.now)) gathered.now }
+    ensures { Indexes (chosen_by among.now (log_of source.now)) (selection_of inside.now) (log_of source.now) (end_of source.now) result }
 {
     let Some(gathered) = gathered else {
         return Err(PartFault::NothingSelected);

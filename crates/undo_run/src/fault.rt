@@ -38,6 +38,8 @@ pub enum PartFault<A: Allocator> {
     Sums(SumFault),
     /// No event begins at this place, which is to be the start.
     NoEventAt(u32),
+    /// No unit of the part starts at this place, or has its `BEGIN` there.
+    NoUnitAt(u32),
     /// No unit of the part has the global transaction ids of this number, from 0 on, of those that are wanted.
     NoUnitWithGtid(usize),
     /// The changes are refused for this fault, at its place; or memory was refused.

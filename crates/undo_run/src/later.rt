@@ -1,6 +1,6 @@
 //! Looking at what came after what is taken out of a log.
 
-ghost use Rattle.std.specs.Prelude.{◌≡◌, ◌∷◌, ℕ, IfOk, List, []};
+ghost use Rattle.std.specs.Prelude.{◌≡◌, ◌∷◌, ℕ, IfOk, List, [], map};
 ghost use Rattle.blog_choice.specs.code.ChosenView.{names_choice};
 ghost use Rattle.blog_event.specs.code.LogView.{log_bytes};
 ghost use Rattle.blog_later.specs.code.LeavingView.{HasLeft};
@@ -11,13 +11,14 @@ ghost use Rattle.blog_trans.specs.code.IndexView.{index_bytes, index_selection};
 ghost use Rattle.undo_run.specs.After.{Later};
 ghost use Rattle.undo_run.specs.Parts.{part_taken, selection_in, stop_in};
 ghost use Rattle.undo_run.specs.Taken.{Taken, tables_taken};
-ghost use Rattle.undo_run.specs.Units.{chosen_taken, chosen_units, kept_log};
+ghost use Rattle.undo_run.specs.Units.{chosen_taken, chosen_units, kept_log, units_of_part};
 ghost use Rattle.undo_run.specs.code.SinceView.{AreSeen};
-ghost use Rattle.undo_run.specs.code.Steps.{CountsOn, Judges, LooksAt, LooksInto, LooksOn, chosen_changes};
+ghost use Rattle.undo_run.specs.code.Steps.{CountsOn, Judges, LooksAt, LooksInto, LooksOn, chosen_by, chosen_changes};
 
 use crate::fault::PartFault;
 use crate::lines::Lines;
 use crate::opening::open_log;
+use crate::request::Among;
 use crate::seen::{look_between, look_on};
 use crate::since::Since;
 use crate::tables::tables_named;
@@ -25,7 +26,6 @@ use blog_choice::{ChosenNames, TableChoice};
 use blog_device::RunFault;
 use blog_event::Log;
 use blog_later::{Leaving, LeftRows};
-use blog_request::Wanted;
 use blog_source::Source;
 use blog_trans::{Index, Selection};
 use jiff::tz::TimeZone;
@@ -178,16 +178,17 @@ pub(crate) fn look_later<'n, 'l, A: Allocator + Copy, L: Read + Drop>(
     look_further(alloc, later, seed, rest, &mut lines, &left, 1, &names)
 }
 
-/// Looks at what came after the first wanted unit of the log of a source, which is in the range of a selection, but for the wanted ones: at
-/// the units of that log, and at later logs. An index has the groups of the wanted units, and `leaving` the rows that each of them left.
-/// Returns what was seen, unless it touches the wanted units, or may. Times are told in a zone.
+/// Looks at what came after the first chosen unit of the log of a source, which is in the range of a selection, but for the chosen ones: at
+/// the units of that log, and at later logs. `chosen` says of each unit in turn whether it is chosen; an index has the groups of these, and
+/// `leaving` the rows that each of them left. Returns what was seen, unless it touches the chosen units, or may. Times are told in a zone.
 pub(crate) fn look_after_units<'n, A: Allocator + Copy, L: Read + Drop>(
     alloc: A,
     source: &Source<A>,
     name: &'n [u8],
     log: &Log<'_>,
     inside: &Selection<'_>,
-    wanted: &Wanted<'_>,
+    among: &Among<'_, '_>,
+    chosen: &[bool],
     index: &Index<'_, '_, A>,
     leaving: Leaving<A>,
     later: Vec<GivenLog<'n, L>, A>,
@@ -195,10 +196,11 @@ pub(crate) fn look_after_units<'n, A: Allocator + Copy, L: Read + Drop>(
     zone: TimeZone<'_>,
 ) -> Result<Since<'n, A>, PartFault<A>>
     requires bytes { log_bytes log.now ≡ log_of source.now }
-    requires kept { index_bytes index.now ≡ kept_log (selection_of inside.now) (log_of source.now) (chosen_units wanted.now (selection_of inside.now) (log_of source.now)) }
+    requires kept { index_bytes index.now ≡ kept_log (selection_of inside.now) (log_of source.now) (chosen_units (chosen_by among.now (log_of source.now)) (selection_of inside.now) (log_of source.now)) }
     requires selection { index_selection index.now ≡ all }
-    requires left { HasLeft (chosen_changes (selection_of inside.now) (log_of source.now) (chosen_units wanted.now (selection_of inside.now) (log_of source.now))) leaving }
-    ensures { LooksAt L.remaining later.entry.items (chosen_taken name.now wanted.now (selection_of inside.now) (log_of source.now) (end_of source.now) (fault_of source.now)) result }
+    requires chosen { chosen.now ≡ map (chosen_by among.now (log_of source.now)) (units_of_part (selection_of inside.now) (log_of source.now)) }
+    requires left { HasLeft (chosen_changes (selection_of inside.now) (log_of source.now) (chosen_units (chosen_by among.now (log_of source.now)) (selection_of inside.now) (log_of source.now))) leaving }
+    ensures { LooksAt L.remaining later.entry.items (chosen_taken name.now (chosen_by among.now (log_of source.now)) (selection_of inside.now) (log_of source.now) (end_of source.now) (fault_of source.now)) result }
 {
     let tables = tables_named(alloc, index)?;
     let choice = TableChoice {
@@ -216,7 +218,7 @@ pub(crate) fn look_after_units<'n, A: Allocator + Copy, L: Read + Drop>(
         source,
         log,
         inside.start,
-        wanted,
+        chosen,
         &left,
         &names,
     )?;

@@ -9,10 +9,12 @@ mod missing;
 mod opening;
 mod part;
 mod reports;
+mod request;
 mod seen;
 mod since;
 mod tables;
 mod written_part;
 
 pub use fault::{OpeningFault, PartFault};
+pub use request::UnitRequest;
 pub use written_part::write_part;

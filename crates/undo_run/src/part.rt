@@ -119,7 +119,7 @@ fn is_empty(part: &Selection<'_>) -> bool
 }
 
 /// Whether an event begins at a place, or all that was read ends there. A place up to 4 is that of the first event.
-fn begins_at<A: Allocator>(source: &Source<A>, place: u32) -> bool
+pub(crate) fn begins_at<A: Allocator>(source: &Source<A>, place: u32) -> bool
     ensures { result ≡ begins_at (log_of source.now) (end_of source.now) place }
 {
     if place <= 4 {

@@ -1,6 +1,6 @@
 //! Looking at what one more log has after a part.
 
-ghost use Rattle.std.specs.Prelude.{◌≡◌, ℕ, ◌+◌, ◌++◌, ◌∷◌, IfOk, List, [], map, option_map, slice_get};
+ghost use Rattle.std.specs.Prelude.{◌≡◌, ℕ, ◌+◌, ◌++◌, ◌∷◌, Bool, IfOk, List, [], map, option_map, slice_get};
 ghost use Rattle.blog_choice.specs.Choice.{Choice};
 ghost use Rattle.blog_choice.specs.code.ChosenView.{names_choice};
 ghost use Rattle.blog_event.specs.code.LogView.{log_bytes};
@@ -19,7 +19,6 @@ use blog_choice::ChosenNames;
 use blog_event::constants::ROTATE_EVENT;
 use blog_event::{Event, Log};
 use blog_later::{LeftRows, Looked, look, look_among};
-use blog_request::Wanted;
 use blog_source::Source;
 use std::alloc::{AllocError, Allocator};
 
@@ -143,7 +142,8 @@ pub(crate) fn look_on<'n, A: Allocator + Copy, B: Allocator>(
     since.with(alloc, name, source, &looked, next_log(log))
 }
 
-/// Looks at what a log has after the first wanted unit, from a position on, but for the wanted units, and returns what was seen.
+/// Looks at what a log has after the first chosen unit, from a position on, but for the chosen units, and returns what was seen. `chosen` says of
+/// each unit in turn whether it is chosen.
 pub(crate) fn look_between<'n, A: Allocator + Copy, B: Allocator>(
     alloc: A,
     lines: &mut Lines<'_, A>,
@@ -151,15 +151,16 @@ pub(crate) fn look_between<'n, A: Allocator + Copy, B: Allocator>(
     source: &Source<B>,
     log: &Log<'_>,
     at: u32,
-    wanted: &Wanted<'_>,
+    chosen: &[bool],
     left: &LeftRows<A>,
     names: &ChosenNames<'_, A>,
 ) -> Result<Since<'n, A>, AllocError>
     requires { log_bytes log.now ≡ log_of source.now }
-    ensures { IfOk result (AreSeen (0 + touches_by (left_before left.now) wanted.now (log_of source.now) 0 (from_first wanted.now (later_units (log_of source.now) at))) (names_choice names.now)
-        (later_of name.now source.now (others_of wanted.now (from_first wanted.now (later_units (log_of source.now) at))) ∷ [])) }
+    ensures { (p : Facts → Bool) → chosen.now ≡ map p (later_units (log_of source.now) at)
+        → IfOk result (AreSeen (0 + touches_by (left_before left.now) p (log_of source.now) 0 (from_first p (later_units (log_of source.now) at))) (names_choice names.now)
+        (later_of name.now source.now (others_of p (from_first p (later_units (log_of source.now) at))) ∷ [])) }
 {
-    let looked = look_among(alloc, left, names, wanted, log, at)?;
+    let looked = look_among(alloc, left, names, chosen, log, at)?;
     lines.put(name, source, &looked)?;
     Since::none(alloc).with(alloc, name, source, &looked, next_log(log))
 }

@@ -1,6 +1,6 @@
 //! Reading a log, and writing a part of it, or wanted units of that.
 
-ghost use Rattle.std.specs.Prelude.{◌≡◌, ◌||◌, None, OnErr, Some, false, option_map, true};
+ghost use Rattle.std.specs.Prelude.{◌≡◌, ◌||◌, None, OnErr, Some, false, map, option_map, true};
 ghost use Rattle.blog_device.specs.Watched.{device_of, has_failed};
 ghost use Rattle.blog_event.specs.Opening.{opening_fault};
 ghost use Rattle.blog_event.specs.code.LogView.{log_bytes};
@@ -10,18 +10,19 @@ ghost use Rattle.blog_source.specs.code.SourceView.{end_of, fault_of, log_of};
 ghost use Rattle.blog_trans.specs.Selection.{all, selection_of};
 ghost use Rattle.blog_trans.specs.code.IndexView.{index_bytes, index_selection};
 ghost use Rattle.undo_run.specs.Parts.{part_taken, reading_of, selection_in};
-ghost use Rattle.undo_run.specs.Units.{chosen_taken, chosen_units, damage_among, kept_log};
+ghost use Rattle.undo_run.specs.Units.{chosen_taken, chosen_units, damage_among, kept_log, units_of_part};
 ghost use Rattle.undo_run.specs.Writes.{WritesHanded, WritesPart, is_failed_read, is_failed_write};
 ghost use Rattle.undo_run.specs.code.SinceView.{since_seen};
-ghost use Rattle.undo_run.specs.code.Steps.{IsNoUnit, Looks, WritesIndex, chosen_changes};
+ghost use Rattle.undo_run.specs.code.Steps.{LacksUnits, Looks, WritesIndex, chosen_by, chosen_changes};
 
 use crate::chosen::{Chosen, choose, index_of_chosen};
 use crate::fault::PartFault;
 use crate::later::{look_after_units, look_later};
-use crate::missing::first_missing;
+use crate::missing::{first_missing, first_without_unit};
 use crate::opening::open_log;
 use crate::part::{damage_before, has_start, inside_of, no_start, select_part};
 use crate::reports::report_of;
+use crate::request::{Among, UnitRequest, positions_of};
 use crate::since::Since;
 use advice::no_schema;
 use blog_device::{RunFault, Watched};
@@ -44,22 +45,21 @@ use std::io::{Read, Write};
 /// The part is a selection by places: positions in the server's log, with its checksums. Its start is where an event begins, or the end
 /// of the log; one up to 4 is the first event.
 ///
-/// Without `wanted` all of the part is written. With it units are made of the events from the start on, and those are written that
-/// start before the stop, and are of the wanted times, threads and ids: what `wanted` says of positions and tables isn't looked at. Each is
-/// accepted by itself, up to the stop, and the others stay as they are.
+/// Without `asked` all of the part is written. With it units are made of the events from the start on, and those are written that
+/// start before the stop, and are asked for. Each is accepted by itself, up to the stop, and the others stay as they are.
 ///
-/// `looks` says whether what came after is looked at: the units after the stop, or from the first wanted one on those that aren't wanted, to
+/// `looks` says whether what came after is looked at: the units after the stop, or from the first chosen one on those that aren't chosen, to
 /// the end of the log; and then the later logs, each of which is read when its turn comes, to its end. It fails with `ChangedSince` if these
 /// take rows that changes before them left, which are written, and else with `UnknownSince` if one of the logs is damaged, for a part
 /// after its stop, or if something there may concern the changed tables, and can't be looked into. Without `looks` no later log is read, and
-/// of the log itself what is at the stop or after it only if units are wanted.
+/// of the log itself what is at the stop or after it only if units are asked for.
 ///
 /// Fails at the first of these that holds: with `Run` if the reader fails or the log is too long, or if memory is refused; with `Sums` if
 /// the log can't be opened; with `NoEventAt` if no event begins at the start, or with `Sums` if the log ends too early or is damaged in
-/// front of it; with `NoUnitWithGtid` of the first of the wanted global transaction ids that no unit of the part has, or with `Sums` if the
-/// part is damaged then; with `Log` or `Sums` of the first fault in the order of the log; with `NothingSelected` if no rows are changed; with
+/// front of it; with `NoUnitAt` at the first of the asked places that no unit of the part has, or with `NoUnitWithGtid` of the first of the
+/// global transaction ids, or with `Sums` if the part is damaged then; with `Log` or `Sums` of the first fault in the order of the log; with `NothingSelected` if no rows are changed; with
 /// `LaterLog` of the first later log that isn't opened, by its number; with `ChangedSince` or `UnknownSince`; with `NoSchema` if the changes
-/// have no table of a schema that is to have another name; with `TooLong`. The writer wasn't called then. With `looks` and `wanted` damage of
+/// have no table of a schema that is to have another name; with `TooLong`. The writer wasn't called then. With `looks` and `asked` damage of
 /// the log is no fault of its own, but `UnknownSince`.
 /// Fails with `Run(Write)` if a write failed; the writer then has a beginning of what is written.
 ///
@@ -70,7 +70,7 @@ pub fn write_part<'n, A: Allocator + Copy, R: Read, L: Read + Drop, W: Write>(
     reader: &mut Watched<R>,
     name: &'n [u8],
     part: &Selection<'_>,
-    wanted: Option<Wanted<'_>>,
+    asked: Option<UnitRequest<'_>>,
     looks: bool,
     later: Vec<GivenLog<'n, L>, A>,
     seed: u64,
@@ -79,31 +79,31 @@ pub fn write_part<'n, A: Allocator + Copy, R: Read, L: Read + Drop, W: Write>(
     writer: &mut Watched<W>,
 ) -> Result<Vec<u8, A>, PartFault<A>>
     requires { HasShortWriting writing.now }
-    ensures writes { WritesPart looks L.remaining later.entry.items writing.now name.now (selection_of part.now) wanted.entry (R.remaining (device_of reader.old)) (R.remaining (device_of reader.new))
+    ensures writes { WritesPart looks L.remaining later.entry.items writing.now name.now (selection_of part.now) asked.entry (R.remaining (device_of reader.old)) (R.remaining (device_of reader.new))
         (W.contents (device_of writer.old)) (W.contents (device_of writer.new)) result }
     ensures untouched { OnErr result (has_failed writer.new ≡ false → writer.new ≡ writer.old) }
     ensures reader_mark { has_failed reader.new ≡ (has_failed reader.old || is_failed_read result) }
     ensures writer_mark { has_failed writer.new ≡ (has_failed writer.old || is_failed_write result) }
 {
-    let source = match open_log(alloc, reader, read_to(part, &wanted, looks)) {
+    let source = match open_log(alloc, reader, read_to(part, &asked, looks)) {
         Ok(source) => source,
         Err(fault) => return Err(PartFault::from(fault)),
     };
-    match wanted {
+    match asked {
         None => write_all(
             alloc, &source, name, part, looks, later, seed, zone, writing, writer,
         ),
-        Some(wanted) => write_units(
-            alloc, &source, name, part, &wanted, looks, later, seed, zone, writing, writer,
+        Some(asked) => write_units(
+            alloc, &source, name, part, &asked, looks, later, seed, zone, writing, writer,
         ),
     }
 }
 
 /// Up to where the log of a part is read; to its end if there is no such place.
-fn read_to(part: &Selection<'_>, wanted: &Option<Wanted<'_>>, looks: bool) -> Option<u32>
-    ensures { result ≡ (reading_of looks wanted.now (selection_of part.now)).stop }
+fn read_to(part: &Selection<'_>, asked: &Option<UnitRequest<'_>>, looks: bool) -> Option<u32>
+    ensures { result ≡ (reading_of looks asked.now (selection_of part.now)).stop }
 {
-    if looks || wanted.is_some() {
+    if looks || asked.is_some() {
         None
     } else {
         part.stop
@@ -166,7 +166,7 @@ fn write_all<'n, A: Allocator + Copy, L: Read + Drop, W: Write>(
     write_index(alloc, name, &index, &since, writing, writer)
 }
 
-/// Why the reading of a source ended, if units are wanted and it ended in front of the stop of their part; nothing if what came later is looked at.
+/// Why the reading of a source ended, if units are asked for and it ended in front of the stop of their part; nothing if what came later is looked at.
 fn damage_among<A: Allocator>(
     source: &Source<A>,
     part: &Selection<'_>,
@@ -181,24 +181,40 @@ fn damage_among<A: Allocator>(
     }
 }
 
-/// Why nothing is written if no unit has the ids of a number: the log may be damaged.
-fn no_unit<A: Allocator>(number: usize, damage: Option<SumFault>) -> PartFault<A>
-    ensures { IsNoUnit number damage result }
+/// The first place or global transaction id that is asked for and that no unit of a range has: why nothing is written. `damage` is why the
+/// reading of the log ended too early.
+fn missing<A: Allocator>(
+    source: &Source<A>,
+    log: &Log<'_>,
+    inside: &Selection<'_>,
+    asked: &UnitRequest<'_>,
+    damage: Option<SumFault>,
+) -> Option<PartFault<A>>
+    requires { log_bytes log.now ≡ log_of source.now }
+    ensures { LacksUnits asked.now (selection_of inside.now) (log_of source.now) (end_of source.now) damage result }
 {
+    let missing = match first_without_unit(source, log, inside, asked.at) {
+        Some(place) => PartFault::NoUnitAt(place),
+        None => match first_missing(log, inside, asked.wanted.gtids) {
+            Some(number) => PartFault::NoUnitWithGtid(number),
+            None => return None,
+        },
+    };
     match damage {
-        Some(damage) => PartFault::Sums(damage),
-        None => PartFault::NoUnitWithGtid(number),
+        Some(damage) => Some(PartFault::Sums(damage)),
+        None => Some(missing),
     }
 }
 
-/// Looks at what came after the first wanted unit of the log of a source, if that is asked for.
+/// Looks at what came after the first chosen unit of the log of a source, if that is asked for.
 fn look_among_if<'n, A: Allocator + Copy, L: Read + Drop>(
     alloc: A,
     source: &Source<A>,
     name: &'n [u8],
     log: &Log<'_>,
     inside: &Selection<'_>,
-    among: &Wanted<'_>,
+    among: &Among<'_, '_>,
+    chosen: &[bool],
     index: &Index<'_, '_, A>,
     leaving: Leaving<A>,
     looks: bool,
@@ -207,14 +223,15 @@ fn look_among_if<'n, A: Allocator + Copy, L: Read + Drop>(
     zone: TimeZone<'_>,
 ) -> Result<Option<Since<'n, A>>, PartFault<A>>
     requires bytes { log_bytes log.now ≡ log_of source.now }
-    requires kept { index_bytes index.now ≡ kept_log (selection_of inside.now) (log_of source.now) (chosen_units among.now (selection_of inside.now) (log_of source.now)) }
+    requires kept { index_bytes index.now ≡ kept_log (selection_of inside.now) (log_of source.now) (chosen_units (chosen_by among.now (log_of source.now)) (selection_of inside.now) (log_of source.now)) }
     requires selection { index_selection index.now ≡ all }
-    requires left { looks ≡ true → HasLeft (chosen_changes (selection_of inside.now) (log_of source.now) (chosen_units among.now (selection_of inside.now) (log_of source.now))) leaving }
-    ensures { Looks looks L.remaining later.entry.items (chosen_taken name.now among.now (selection_of inside.now) (log_of source.now) (end_of source.now) (fault_of source.now)) result }
+    requires chosen { chosen.now ≡ map (chosen_by among.now (log_of source.now)) (units_of_part (selection_of inside.now) (log_of source.now)) }
+    requires left { looks ≡ true → HasLeft (chosen_changes (selection_of inside.now) (log_of source.now) (chosen_units (chosen_by among.now (log_of source.now)) (selection_of inside.now) (log_of source.now))) leaving }
+    ensures { Looks looks L.remaining later.entry.items (chosen_taken name.now (chosen_by among.now (log_of source.now)) (selection_of inside.now) (log_of source.now) (end_of source.now) (fault_of source.now)) result }
 {
     if looks {
         match look_after_units(
-            alloc, source, name, log, inside, among, index, leaving, later, seed, zone,
+            alloc, source, name, log, inside, among, chosen, index, leaving, later, seed, zone,
         ) {
             Ok(since) => Ok(Some(since)),
             Err(fault) => Err(fault),
@@ -224,13 +241,13 @@ fn look_among_if<'n, A: Allocator + Copy, L: Read + Drop>(
     }
 }
 
-/// Writes the wanted units of a part of the log of a source.
+/// Writes those units of a part of the log of a source that are asked for.
 fn write_units<'n, A: Allocator + Copy, L: Read + Drop, W: Write>(
     alloc: A,
     source: &Source<A>,
     name: &'n [u8],
     part: &Selection<'_>,
-    wanted: &Wanted<'_>,
+    asked: &UnitRequest<'_>,
     looks: bool,
     later: Vec<GivenLog<'n, L>, A>,
     seed: u64,
@@ -240,7 +257,7 @@ fn write_units<'n, A: Allocator + Copy, L: Read + Drop, W: Write>(
 ) -> Result<Vec<u8, A>, PartFault<A>>
     requires short { HasShortWriting writing.now }
     requires opens { opening_fault (log_of source.now) ≡ None }
-    ensures writes { WritesHanded looks L.remaining later.entry.items writing.now name.now (selection_of part.now) (Some wanted.now) (log_of source.now) (end_of source.now) (fault_of source.now)
+    ensures writes { WritesHanded looks L.remaining later.entry.items writing.now name.now (selection_of part.now) (Some asked.now) (log_of source.now) (end_of source.now) (fault_of source.now)
         (W.contents (device_of writer.old)) (W.contents (device_of writer.new)) result }
     ensures untouched { OnErr result (has_failed writer.new ≡ false → writer.new ≡ writer.old) }
     ensures mark { has_failed writer.new ≡ (has_failed writer.old || is_failed_write result) }
@@ -253,29 +270,41 @@ fn write_units<'n, A: Allocator + Copy, L: Read + Drop, W: Write>(
         Err(fault) => return Err(PartFault::Run(RunFault::Log(fault))),
     };
     let inside = inside_of(source, part);
-    let among = Wanted {
-        start: None,
-        stop: inside.stop,
-        ..*wanted
-    };
-    if let Some(number) = first_missing(&log, &inside, wanted.gtids) {
-        return Err(no_unit(number, damage_before(source, part, true)));
+    if let Some(fault) = missing(
+        source,
+        &log,
+        &inside,
+        asked,
+        damage_before(source, part, true),
+    ) {
+        return Err(fault);
     }
+    let at = positions_of(alloc, source, asked.at)?;
+    let among = Among {
+        wanted: Wanted {
+            start: None,
+            stop: inside.stop,
+            ..asked.wanted
+        },
+        at: &at,
+    };
     let damage = damage_among(source, part, looks);
+    let (chosen, marks) = match choose(alloc, source, &log, &inside, &among, damage, looks) {
+        Ok(both) => both,
+        Err(fault) => return Err(fault),
+    };
     let Chosen {
         gathered,
         places,
         leaving,
-    } = match choose(alloc, source, &log, &inside, &among, damage, looks) {
-        Ok(chosen) => chosen,
-        Err(fault) => return Err(fault),
-    };
+    } = chosen;
     let index = match index_of_chosen(alloc, source, &inside, &among, &gathered, &places, seed) {
         Ok(index) => index,
         Err(fault) => return Err(fault),
     };
     let since = match look_among_if(
-        alloc, source, name, &log, &inside, &among, &index, leaving, looks, later, seed, zone,
+        alloc, source, name, &log, &inside, &among, &marks, &index, leaving, looks, later, seed,
+        zone,
     ) {
         Ok(since) => since,
         Err(fault) => return Err(fault),

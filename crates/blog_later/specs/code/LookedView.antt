@@ -1,7 +1,8 @@
 -- What was seen of units, and the fingerprints that are kept.
-use Rattle.std.specs.Prelude.{◌≡◌, ℕ, List, filter, length}
+use Rattle.std.specs.Prelude.{◌≡◌, ℕ, Bool, List, filter, length}
 use Rattle.blog_choice.specs.Choice.{Choice}
 use Rattle.blog_units.specs.Units.{Facts}
+use Rattle.blog_later.specs.Among.{from_first, others_of, touches_by}
 use Rattle.blog_later.specs.Prints.{Left, prints_before}
 use Rattle.blog_later.specs.Later.{is_accepted, is_apart, may_concern}
 use Rattle.blog_later.specs.code.Counted.{at_most, starts}
@@ -18,3 +19,7 @@ pub record AreSeen {A : Type 0} (choice : Choice) (bytes : List ℕ) (us : List 
   pub touched : looked.touched ≡ at_most n
   pub unknown : looked.unknown.items ≡ starts (filter (may_concern choice bytes) us)
   pub apart : looked.apart.items ≡ starts (filter (is_apart choice bytes) us)
+
+-- what is seen of units of which some are chosen: of the others after the first chosen one
+abbrev pub LooksAmong : {A : Type 0} → (ℕ → Left) → (Facts → Bool) → Choice → List ℕ → List Facts → Looked A → Type 0
+LooksAmong lefts p choice bytes us looked = AreSeen choice bytes (others_of p (from_first p us)) (touches_by lefts p bytes 0 (from_first p us)) looked

@@ -14,7 +14,6 @@ use Rattle.blog_later.specs.Prints.{Left}
 use Rattle.blog_later.specs.code.Counted.{at_most}
 use Rattle.blog_later.specs.code.LeavingView.{HasLeft}
 use Rattle.blog_request.specs.Ids.{Ids}
-use Rattle.blog_request.specs.declared.wanted.Wanted.{Wanted}
 use Rattle.blog_run.specs.Writing.{CanBeWritten, end_of_text, lacks, text_of}
 use Rattle.blog_run.specs.declared.writing.Writing.{Writing}
 use Rattle.blog_source.specs.Found.{found_of, source_refusal}
@@ -35,13 +34,15 @@ use Rattle.undo_run.specs.After.{AreChanged, Later, MayBeChanged, is_damaged, la
 use Rattle.undo_run.specs.Parts.{IsPlaced, is_at_end}
 use Rattle.undo_run.specs.Reports.{Since, report}
 use Rattle.undo_run.specs.Taken.{FailsLater, FailsToOpen, IsSafe, OfLater, Taken, after, since_told, steps_after, tables_taken, whole_log}
-use Rattle.undo_run.specs.Units.{AreSound, IsMissing, RefusesChosen, are_found, chosen_range, chosen_units, ids_asked, kept_log}
+use Rattle.undo_run.specs.Units.{AreSound, AreThere, IsMissing, IsWithout, LacksUnit, RefusesChosen, are_found, chosen_range, chosen_units, have_units, is_chosen, kept_log, units_of_part}
 use Rattle.undo_run.specs.code.SinceView.{AreSeen, since_seen}
 use Rattle.undo_run.specs.declared.chosen.Chosen.{Chosen}
 use Rattle.undo_run.specs.declared.fault.OpeningFault.{OpeningFault}
 use Rattle.undo_run.specs.declared.fault.OpeningFault.TheVariants as opening
 use Rattle.undo_run.specs.declared.fault.PartFault.{PartFault}
-use Rattle.undo_run.specs.declared.fault.PartFault.TheVariants.{Run, Sums, NoUnitWithGtid, Log, LaterLog, ChangedSince, UnknownSince, TooLong, NoSchema}
+use Rattle.undo_run.specs.declared.fault.PartFault.TheVariants.{Run, Sums, Log, LaterLog, ChangedSince, UnknownSince, TooLong, NoSchema}
+use Rattle.undo_run.specs.declared.request.Among.{Among}
+use Rattle.undo_run.specs.declared.request.UnitRequest.{UnitRequest}
 use Rattle.undo_run.specs.declared.since.Since as told
 
 -- ---- opening a log
@@ -151,27 +152,33 @@ RefusesFor handed end damage inner (Sums f) = (damage ≡ Some f) × (is_at_end 
 RefusesFor handed end damage inner (Log f) = ((damage ≡ None) ⊎ (is_at_end handed inner ≡ false)) × IsPlaced handed end inner f
 RefusesFor handed end damage inner cause = ⊥
 
--- what comes of choosing units
-abbrev pub Chooses : {A : Type 0} → Bool → Wanted → Selection → List ℕ → ℕ → Option SumFault → Result (Chosen A) (PartFault A) → Type 0
-Chooses looks w sel handed end damage (Ok chosen) = (damage ≡ None) × HasChosen looks sel handed (chosen_units w sel handed) chosen
-Chooses looks w sel handed end damage (Err (Run (run.Log f))) = f ≡ OutOfMemory
-Chooses looks w sel handed end damage (Err cause) = RefusesChosen w sel handed end damage cause
+-- which units of what is handed out are chosen
+abbrev pub chosen_by : Among → List ℕ → Facts → Bool
+chosen_by among handed = is_chosen among.wanted among.at.now handed
 
--- what comes of looking for asked ids that no unit has
+-- what comes of choosing units
+abbrev pub Chooses : {A : Type 0} → Bool → (Facts → Bool) → Selection → List ℕ → ℕ → Option SumFault → Result (Chosen A × Vec Bool A) (PartFault A) → Type 0
+Chooses looks p sel handed end damage (Ok both) = (damage ≡ None) × HasChosen looks sel handed (chosen_units p sel handed) both.0 × (both.1.items ≡ map p (units_of_part sel handed))
+Chooses looks p sel handed end damage (Err (Run (run.Log f))) = f ≡ OutOfMemory
+Chooses looks p sel handed end damage (Err cause) = RefusesChosen p sel handed end damage cause
+
+-- what comes of looking for an asked place that no unit has, or for asked ids
+abbrev pub FindsNone : List ℕ → Selection → List ℕ → ℕ → Option ℕ → Type 0
+FindsNone asked sel handed end None = have_units asked sel handed end ≡ true
+FindsNone asked sel handed end (Some place) = IsWithout asked sel handed end place
+
 abbrev pub FindsMissing : List Ids → Selection → List ℕ → Option ℕ → Type 0
 FindsMissing asked sel handed None = are_found asked sel handed ≡ true
 FindsMissing asked sel handed (Some n) = IsMissing asked sel handed n
 
--- why nothing is written if no unit has the ids of a number
-abbrev pub IsNoUnit : {A : Type 0} → ℕ → Option SumFault → PartFault A → Type 0
-IsNoUnit n damage (NoUnitWithGtid m) = (damage ≡ None) × (m ≡ n)
-IsNoUnit n damage (Sums f) = damage ≡ Some f
-IsNoUnit n damage cause = ⊥
+abbrev pub LacksUnits : {A : Type 0} → UnitRequest → Selection → List ℕ → ℕ → Option SumFault → Option (PartFault A) → Type 0
+LacksUnits r sel handed end damage None = AreThere r sel handed end
+LacksUnits r sel handed end damage (Some cause) = LacksUnit r sel handed end damage cause
 
 -- what comes of indexing their groups
-abbrev pub Indexes : {A : Type 0} → Wanted → Selection → List ℕ → ℕ → Result (Index A) (PartFault A) → Type 0
-Indexes w sel handed end (Ok index) = (are_found (ids_asked w) sel handed ≡ true → AreSound w sel handed None) × (index_bytes index ≡ kept_log sel handed (chosen_units w sel handed)) × (index_selection index ≡ all)
-Indexes w sel handed end (Err cause) = RefusesChosen w sel handed end None cause
+abbrev pub Indexes : {A : Type 0} → (Facts → Bool) → Selection → List ℕ → ℕ → Result (Index A) (PartFault A) → Type 0
+Indexes p sel handed end (Ok index) = AreSound p sel handed None × (index_bytes index ≡ kept_log sel handed (chosen_units p sel handed)) × (index_selection index ≡ all)
+Indexes p sel handed end (Err cause) = RefusesChosen p sel handed end None cause
 
 -- ---- writing it
 

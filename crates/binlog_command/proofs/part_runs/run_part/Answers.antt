@@ -16,11 +16,11 @@ returns-then-task-clause-tells g c = λ asked.
       c.writing-writing.result,
       c.writing-writing.ensures.asked,
       (
-        c.wanted-units.result,
-        c.wanted-units.ensures,
+        c.request-units.result,
+        c.request-units.ensures,
         (
           c.in_ok-told.told.items,
-          told-of task.looks g.L.Read.remaining c.args.later.items c.writing-writing.result task.sql.log.now (selection_of task.part) c.wanted-units.result (g.D.Read.remaining (device_of c.args.reader.now))
+          told-of task.looks g.L.Read.remaining c.args.later.items c.writing-writing.result task.sql.log.now (selection_of task.part) c.request-units.result (g.D.Read.remaining (device_of c.args.reader.now))
               (g.D.Read.remaining (device_of c.part_to.new.reader)) _ c.in_ok-told.told c.in_ok-told.ensures.writes,
           subst (λ (text : List ℕ). Appends had has text) c.deref.ensures.value appends,
         ),
@@ -36,10 +36,10 @@ returns-in_ok-told-in-Some-clause-tells g c = λ asked.
     (λ appends. (
       c.writing-writing.result,
       c.writing-writing.ensures.asked,
-      (c.wanted-units.result, c.wanted-units.ensures, (c.in_ok-told-in-Some.told.items, c.in_ok-told-in-Some.ensures.told, subst (λ (text : List ℕ). Appends had has text) c.deref-in-Some.ensures.value appends)),
+      (c.request-units.result, c.request-units.ensures, (c.in_ok-told-in-Some.told.items, c.in_ok-told-in-Some.ensures.told, subst (λ (text : List ℕ). Appends had has text) c.deref-in-Some.ensures.value appends)),
     ))
     c.tell-in-Some.ensures.told
 
 pub returns-in_ok-told-in-None-clause-writes : goal.returns-in_ok-told-in-None-clause-writes
 returns-in_ok-told-in-None-clause-writes g c = λ printed written.
-    (c.writing-writing.result, c.writing-writing.ensures.asked, (c.wanted-units.result, c.wanted-units.ensures, (c.in_ok-told-in-None.told, c.in_ok-told-in-None.ensures.writes)))
+    (c.writing-writing.result, c.writing-writing.ensures.asked, (c.request-units.result, c.request-units.ensures, (c.in_ok-told-in-None.told, c.in_ok-told-in-None.ensures.writes)))

@@ -3,14 +3,15 @@ use Rattle.blog_event.specs.code.LogView.{log_bytes}
 use Rattle.blog_source.specs.code.SourceView.{log_of}
 use Rattle.blog_trans.specs.Selection.{selection_of}
 use Rattle.blog_units.specs.code.UnitsView.{units_left, units_log}
+use Rattle.undo_run.specs.code.Steps.{chosen_by}
 use Rattle.undo_run.proofs.Kept.{AreChosen}
 use Rattle.undo_run.proofs.chosen.choose.Given as goal
 
--- the wanted ones so far are chosen
+-- those so far are chosen, and marked
 abbrev pub invariant-loop-unit : goal.invariant-loop-unit
 invariant-loop-unit g l = record {
   next : (goal.iterator-loop-unit g).can_next l.unit-iterator;
   finite : (goal.iterator-loop-unit g).is_finite l.unit-iterator;
   log : units_log l.unit-iterator ≡ l.log;
-  chosen : AreChosen l.looks l.among (selection_of l.inside) (log_of l.source) l.chosen (units_left l.unit-iterator);
+  chosen : AreChosen l.looks (chosen_by l.among (log_of l.source)) (selection_of l.inside) (log_of l.source) l.chosen l.marks.items (units_left l.unit-iterator);
 }

@@ -8,7 +8,7 @@ use Rattle.blog_trans.specs.Groups.{groups}
 use Rattle.blog_trans.specs.Selection.{all, selection_of}
 use Rattle.undo_run.specs.Parts.{has_rows}
 use Rattle.undo_run.specs.Units.{chosen_units}
-use Rattle.undo_run.specs.code.Steps.{IsKept}
+use Rattle.undo_run.specs.code.Steps.{IsKept, chosen_by}
 use Rattle.undo_run.proofs.Kept.{kept-accepted, kept-bytes}
 use Rattle.undo_run.proofs.chosen.index_of_chosen.Goals as goal
 
@@ -16,13 +16,12 @@ pub returns-in-Ok : goal.returns-in-Ok
 returns-in-Ok g c =
     let sel = selection_of c.args.inside.now in
     let handed = log_of c.args.source.now in
-    let us = chosen_units c.args.among.now sel handed in
+    let us = chosen_units (chosen_by c.args.among.now handed) sel handed in
     let kept = subst (λ (o : Option (Gathered _)). IsKept sel handed us o) c.in-Some.is c.requires in
     let text = kept-bytes sel handed us c.in-Some.gathered kept in
     let bytes = c.in-Ok.ensures.bytes ∙ text in
     let whole = c.in-Ok.ensures.selection in (
-      λ found. record {
-        found = found;
+      record {
         whole = refl;
         accepted = kept-accepted sel handed us (Some c.in-Some.gathered) kept;
         agree = subst (λ (b : List ℕ). IsAccepted b all) text c.in-Ok.ensures.accepted;
@@ -36,7 +35,7 @@ pub returns-in-Ok-2 : goal.returns-in-Ok-2
 returns-in-Ok-2 g c =
     let sel = selection_of c.args.inside.now in
     let handed = log_of c.args.source.now in
-    let us = chosen_units c.args.among.now sel handed in
+    let us = chosen_units (chosen_by c.args.among.now handed) sel handed in
     let kept = subst (λ (o : Option (Gathered _)). IsKept sel handed us o) c.in-Some.is c.requires in
     let bytes = c.in-Ok.ensures.bytes ∙ kept-bytes sel handed us c.in-Some.gathered kept in
     let whole = c.in-Ok.ensures.selection in (
@@ -49,7 +48,7 @@ pub returns : goal.returns
 returns g c =
     let sel = selection_of c.args.inside.now in
     let handed = log_of c.args.source.now in
-    let us = chosen_units c.args.among.now sel handed in
+    let us = chosen_units (chosen_by c.args.among.now handed) sel handed in
     let kept = subst (λ (o : Option (Gathered _)). IsKept sel handed us o) c.in-Some.is c.requires in
     inr (
       refl,

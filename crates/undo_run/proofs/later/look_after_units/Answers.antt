@@ -10,7 +10,7 @@ use Rattle.blog_trans.specs.Groups.{groups}
 use Rattle.blog_trans.specs.Selection.{selection_of}
 use Rattle.undo_run.specs.Taken.{tables_named, tables_taken}
 use Rattle.undo_run.specs.Units.{chosen_taken, chosen_units, units_on}
-use Rattle.undo_run.specs.code.Steps.{chosen_changes}
+use Rattle.undo_run.specs.code.Steps.{chosen_by, chosen_changes}
 use Rattle.undo_run.proofs.Counted.{units-count}
 use Rattle.undo_run.proofs.later.look_after_units.Goals as goal
 
@@ -19,15 +19,15 @@ returns g c =
     let source = c.args.source.now in
     let sel = selection_of c.args.inside.now in
     let handed = log_of source in
-    let w = c.args.wanted.now in
-    let t = chosen_taken c.args.name.now w sel handed (end_of source) (fault_of source) in
+    let p = chosen_by c.args.among.now handed in
+    let t = chosen_taken c.args.name.now p sel handed (end_of source) (fault_of source) in
     let left = c.sorted-left.result in
     let choice : Choice = names_choice c.in_ok-names.names in
     let as_choice : List Name → Choice = λ names. record { database = None; tables = names; excluded = [] } in
     let named : choice ≡ tables_taken t =
     c.in_ok-names.ensures ∙ ap (λ names. as_choice (map name_value names)) c.deref.ensures.value ∙ ap as_choice c.in_ok-tables.ensures
     ∙ (λ i. tables_named (counts_of (groups (c.requires.kept i) (c.requires.selection i)))) in
-    let css = chosen_changes sel handed (chosen_units w sel handed) in
+    let css = chosen_changes sel handed (chosen_units p sel handed) in
     let few = c.requires.left.few in
-    c.look_further.ensures t (0 + touches_by (left_before left) w handed 0 (units_on w sel handed)) named c.in_ok-rest.ensures
-    (units-count (left_before left) 4294967295 w sel handed (c.sorted-left.ensures css c.requires.left) (omega (arith, few)))
+    c.look_further.ensures t (0 + touches_by (left_before left) p handed 0 (units_on p sel handed)) named (c.in_ok-rest.ensures p c.requires.chosen)
+    (units-count (left_before left) 4294967295 p sel handed (c.sorted-left.ensures css c.requires.left) (omega (arith, few)))

@@ -1,4 +1,4 @@
-use Rattle.std.proofs.Common.{List, ℕ, [], subst}
+use Rattle.std.proofs.Common.{List, ℕ, [], ap, map, subst, sym, ◌∙◌}
 use Rattle.blog_choice.specs.code.ChosenView.{names_choice}
 use Rattle.blog_later.specs.Among.{from_first, others_of, touches_by}
 use Rattle.blog_later.specs.Later.{later_units}
@@ -8,14 +8,13 @@ use Rattle.undo_run.specs.code.SinceView.{IsLooked}
 use Rattle.undo_run.proofs.seen.look_between.Goals as goal
 
 pub returns : goal.returns
-returns g c =
+returns g c p same =
     let lefts = left_before c.args.left.now in
     let choice = names_choice c.args.names.now in
     let source = c.args.source.now in
-    let w = c.args.wanted.now in
     let looked = c.in_ok-looked.looked in
-    let told = c.in_ok-looked.ensures in
-    let is = subst (λ (handed : List ℕ). IsLooked (touches_by lefts w handed 0 (from_first w (later_units handed c.args.at))) choice
-    (record { name = c.args.name.now; handed = handed; units = others_of w (from_first w (later_units handed c.args.at)); end = end_of source; fault = fault_of source }) looked)
+    let told = c.in_ok-looked.ensures p (same ∙ ap (λ (handed : List ℕ). map p (later_units handed c.args.at)) (sym c.requires)) in
+    let is = subst (λ (handed : List ℕ). IsLooked (touches_by lefts p handed 0 (from_first p (later_units handed c.args.at))) choice
+    (record { name = c.args.name.now; handed = handed; units = others_of p (from_first p (later_units handed c.args.at)); end = end_of source; fault = fault_of source }) looked)
     c.requires (record { units = told.units; touched = told.touched; unknown = told.unknown; apart = told.apart }) in
-    c.with.ensures 0 (touches_by lefts w (log_of source) 0 (from_first w (later_units (log_of source) c.args.at))) choice (others_of w (from_first w (later_units (log_of source) c.args.at))) [] is (c.none.ensures choice)
+    c.with.ensures 0 (touches_by lefts p (log_of source) 0 (from_first p (later_units (log_of source) c.args.at))) choice (others_of p (from_first p (later_units (log_of source) c.args.at))) [] is (c.none.ensures choice)
