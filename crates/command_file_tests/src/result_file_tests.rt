@@ -1,55 +1,15 @@
 //! Runs whose output goes to a file.
 
 use binlog_command::Failure;
-use command_runs::{STOP, path_of, run_arguments, run_log, with_byte};
+use command_runs::scripts::play;
+use command_runs::{path_of, run_log};
 use result_file::FileFault;
-use sample_logs::small::{INSERT_ONE_ROW, PLAIN, SUMMED};
+use sample_logs::small::SUMMED;
 use std::alloc::Global;
+use std::fs;
 use std::os::unix::fs::{MetadataExt, symlink};
+use std::process::Abort;
 use std::test::Fail;
-use std::{env, fs};
-
-/// Runs `plain` over this log, to this result file. It fails with a line of this beginning, the path and this end.
-fn check_told(
-    rt: &HostRuntime,
-    log: &[u8],
-    arguments: &[&str],
-    path: &str,
-    told: (&str, &str),
-) -> Result<(), Fail> {
-    let (before, after) = told;
-    let line = format!(in rt.alloc(); "binlog: {before}{path}{after}\n")?;
-    if run_log(rt, "told", log, arguments)?.is_refusal(1, line.as_str()) {
-        Ok(())
-    } else {
-        Err(Fail::new(format_args!("{line}")))
-    }
-}
-
-const IS_THERE: (&str, &str) = (
-    "the result file is there: ",
-    ": give another name, or --force",
-);
-
-const IS_LINK: (&str, &str) = (
-    "the result file is a symbolic link: ",
-    ": give the name of the file itself",
-);
-
-const IS_DIRECTORY: (&str, &str) = (
-    "the result file is a directory: ",
-    ": give the name of a file",
-);
-
-const NO_FOLDER: (&str, &str) = (
-    "cannot create the result file ",
-    ": No such file or directory (os error 2): see its folder and whether you may write there",
-);
-
-const FULL: (&str, &str) = (
-    "cannot write the result file ",
-    ": No space left on device (os error 28): see whether its disk is full",
-);
 
 #[test]
 fn standard_output_needs_no_result_file(rt: HostRuntime) -> Result<(), Fail> {
@@ -77,100 +37,111 @@ fn standard_output_needs_no_result_file(rt: HostRuntime) -> Result<(), Fail> {
 /// A result file has a name: LOG isn't even opened.
 #[test]
 fn an_empty_name_is_wrong(rt: HostRuntime) -> Result<(), Fail> {
-    for command in ["plain", "split", "sql"] {
-        for arguments in [
-            &[command, "-r", "", "not/there"] as &[&str],
-            &[command, "--result-file=", "--force", "not/there"],
-        ] {
-            let outcome = run_arguments(&rt, arguments)?;
-            let line =
-                "error: a value is required for '--result-file <FILE>' but none was supplied\n";
-            assert!(rt; outcome.begins_refusal(2, line), "{arguments:?}");
-        }
-    }
-    Ok(())
-}
-
-/// Whether the option names the file that is created.
-fn creates(rt: &HostRuntime, option: &str) -> Result<bool, Fail> {
-    let result = path_of(rt, "created")?;
-    let arguments = ["plain", option, result.as_str()];
-    let outcome = run_log(rt, "creates", SUMMED.as_slice(), arguments.as_slice())?;
-    let written = fs::read(rt, result.as_path())?;
-    fs::remove_file(rt, result.as_path())?;
-    Ok(outcome.is_done(b"") && written.as_slice() == PLAIN.as_slice())
+    play(
+        &rt,
+        "\
+$ plain -r '' not/there
+!~ error: a value is required for '--result-file <FILE>' but none was supplied
+= 2
+$ plain --result-file= --force not/there
+!~ error: a value is required for '--result-file <FILE>' but none was supplied
+= 2
+$ split -r '' not/there
+!~ error: a value is required for '--result-file <FILE>' but none was supplied
+= 2
+$ split --result-file= --force not/there
+!~ error: a value is required for '--result-file <FILE>' but none was supplied
+= 2
+$ sql -r '' not/there
+!~ error: a value is required for '--result-file <FILE>' but none was supplied
+= 2
+$ sql --result-file= --force not/there
+!~ error: a value is required for '--result-file <FILE>' but none was supplied
+= 2",
+    )
 }
 
 #[test]
 fn a_file_is_created(rt: HostRuntime) -> Result<(), Fail> {
-    assert!(rt; creates(&rt, "-r")?);
-    assert!(rt; creates(&rt, "--result-file")?);
-    Ok(())
+    play(
+        &rt,
+        "\
+file log SUMMED
+$ plain -r @result @log
+same result PLAIN
+remove result
+$ plain --result-file @result @log
+same result PLAIN",
+    )
 }
 
 #[test]
 fn a_file_that_is_there_is_kept_unless_forced(rt: HostRuntime) -> Result<(), Fail> {
+    play(
+        &rt,
+        "\
+file log SUMMED
+file result CLOSED
+$ plain -r @result @log
+! binlog: the result file is there: @result: give another name, or --force
+= 1
+same result CLOSED
+$ plain --force -r @result @log
+same result PLAIN",
+    )
+}
+
+#[test]
+fn a_replaced_file_is_for_its_owner_alone(rt: HostRuntime) -> Result<(), Fail> {
     let result = path_of(&rt, "there")?;
     let path = result.as_str();
-    let long = [0x2A; 300];
-    fs::write(&rt, path, long.as_slice())?;
-    check_told(
-        &rt,
-        SUMMED.as_slice(),
-        &["plain", "-r", path],
-        path,
-        IS_THERE,
-    )?;
-    assert_eq!(rt; fs::read(&rt, path)?.as_slice(), long.as_slice());
+    fs::write(&rt, path, b"the old text")?;
     let arguments = ["plain", "--force", "-r", path];
-    assert!(rt; run_log(&rt, "forces", SUMMED.as_slice(), arguments.as_slice())?.is_done(b""));
-    let written = fs::read(&rt, path)?;
+    assert!(rt; run_log(&rt, "forces", &SUMMED, &arguments)?.is_done(b""));
     let mode = fs::metadata(&rt, path)?.mode();
     fs::remove_file(&rt, path)?;
-    assert_eq!(rt; written.as_slice(), PLAIN.as_slice());
     assert_eq!(rt; mode & 0o777, 0o600);
     Ok(())
 }
 
 #[test]
 fn a_refused_log_leaves_the_file_alone(rt: HostRuntime) -> Result<(), Fail> {
-    let result = path_of(&rt, "alone")?;
-    let wrong = with_byte(&rt, STOP + 5, 2)?;
-    let arguments = ["plain", "--force", "-r", result.as_str()];
-    let line =
-        "binlog: WrongSum at 120: the event isn't what the server wrote: copy the log from the server again\n";
-    let outcome = run_log(&rt, "refuses", wrong.as_slice(), arguments.as_slice())?;
-    assert!(rt; outcome.is_refusal(1, line));
-    assert!(rt; !fs::exists(&rt, result.as_path())?);
-    fs::write(&rt, result.as_path(), b"kept")?;
-    let outcome = run_log(&rt, "refuses", wrong.as_slice(), arguments.as_slice())?;
-    let kept = fs::read(&rt, result.as_path())?;
-    fs::remove_file(&rt, result.as_path())?;
-    assert!(rt; outcome.is_refusal(1, line));
-    assert_eq!(rt; kept.as_slice(), b"kept".as_slice());
-    Ok(())
+    play(
+        &rt,
+        "\
+file log SUMMED 125=2
+$ plain --force -r @result @log
+! binlog: WrongSum at 120: the event isn't what the server wrote: copy the log from the server again
+= 1
+none result
+text kept kept
+file result @kept
+$ plain --force -r @result @log
+! binlog: WrongSum at 120: the event isn't what the server wrote: copy the log from the server again
+= 1
+same result @kept",
+    )
 }
 
 #[test]
 fn the_log_is_no_result_file(rt: HostRuntime) -> Result<(), Fail> {
-    let path = path_of(&rt, "itself")?;
-    let name = path.as_str();
-    fs::write(&rt, name, SUMMED.as_slice())?;
-    let line = format!(in rt.alloc();
-        "binlog: the result file is the log: {name}: give another name\n"
-    )?;
-    let outcomes = [
-        run_arguments(&rt, &["plain", "-r", name, name])?,
-        run_arguments(&rt, &["plain", "--force", "-r", name, name])?,
-        run_arguments(&rt, &["split", "--force", "-r", name, name])?,
-    ];
-    let kept = fs::read(&rt, name)?;
-    fs::remove_file(&rt, name)?;
-    for outcome in &outcomes {
-        assert!(rt; outcome.is_refusal(1, line.as_str()));
-    }
-    assert_eq!(rt; kept.as_slice(), SUMMED.as_slice());
-    Ok(())
+    play(
+        &rt,
+        "\
+file log SUMMED
+$ plain -r @log @log
+! binlog: the result file is the log: @log: give another name
+= 1
+same log SUMMED
+$ plain --force -r @log @log
+! binlog: the result file is the log: @log: give another name
+= 1
+same log SUMMED
+$ split --force -r @log @log
+! binlog: the result file is the log: @log: give another name
+= 1
+same log SUMMED",
+    )
 }
 
 #[test]
@@ -178,20 +149,16 @@ fn a_link_is_left_alone(rt: HostRuntime) -> Result<(), Fail> {
     let result = path_of(&rt, "link")?;
     let path = result.as_str();
     symlink(&rt, "nothing-is-there", path)?;
-    check_told(
-        &rt,
-        SUMMED.as_slice(),
-        &["plain", "-r", path],
-        path,
-        IS_LINK,
+    let line = format!(in rt.alloc();
+        "binlog: the result file is a symbolic link: {path}: give the name of the file itself\n"
     )?;
-    check_told(
-        &rt,
-        SUMMED.as_slice(),
+    for arguments in [
+        &["plain", "-r", path] as &[&str],
         &["plain", "--force", "-r", path],
-        path,
-        IS_LINK,
-    )?;
+    ] {
+        let outcome = run_log(&rt, "linked", &SUMMED, arguments)?;
+        assert!(rt; outcome.is_refusal(1, line.as_str()));
+    }
     assert!(rt; fs::symlink_metadata(&rt, path)?.is_symlink());
     fs::remove_file(&rt, path)?;
     Ok(())
@@ -199,37 +166,34 @@ fn a_link_is_left_alone(rt: HostRuntime) -> Result<(), Fail> {
 
 #[test]
 fn a_file_that_cannot_be_created_is_told(rt: HostRuntime) -> Result<(), Fail> {
-    let result = path_of(&rt, "no-folder")?.join(rt.alloc(), "plain.binlog")?;
-    let path = result.as_str();
-    check_told(
+    play(
         &rt,
-        SUMMED.as_slice(),
-        &["plain", "-r", path],
-        path,
-        NO_FOLDER,
-    )?;
-    let folder = env::temp_dir(&rt)?;
-    let path = folder.as_str();
-    check_told(
-        &rt,
-        SUMMED.as_slice(),
-        &["plain", "--force", "-r", path],
-        path,
-        IS_DIRECTORY,
+        "\
+file log SUMMED
+$ plain -r @absent/plain.binlog @log
+! binlog: cannot create the result file @absent/plain.binlog: No such file or directory (os error 2): see its folder and whether you may write there
+= 1
+folder logs
+$ plain --force -r @logs @log
+! binlog: the result file is a directory: @logs: give the name of a file
+= 1",
     )
 }
 
 #[test]
 fn a_full_device_is_a_failed_write_and_stays(rt: HostRuntime) -> Result<(), Fail> {
-    let path = "/dev/full";
-    check_told(&rt, SUMMED.as_slice(), &["plain", "-r", path], path, FULL)?;
-    check_told(
+    play(
         &rt,
-        INSERT_ONE_ROW.as_slice(),
-        &["split", "--force", "-r", path],
-        path,
-        FULL,
+        "\
+file log SUMMED
+$ plain -r /dev/full @log
+! binlog: cannot write the result file /dev/full: No space left on device (os error 28): see whether its disk is full
+= 1
+file log INSERT_ONE_ROW
+$ split --force -r /dev/full @log
+! binlog: cannot write the result file /dev/full: No space left on device (os error 28): see whether its disk is full
+= 1",
     )?;
-    assert!(rt; fs::exists(&rt, path)?);
+    assert!(rt; fs::exists(&rt, "/dev/full")?);
     Ok(())
 }

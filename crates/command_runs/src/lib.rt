@@ -2,10 +2,10 @@
 #![tactic(auto)]
 
 pub mod large_logs;
+pub mod scripts;
 
 use binlog_command::{Process, command};
 use blog_device::Watched;
-use sample_logs::small::{PLAIN, SUMMED};
 use std::alloc::AllocError;
 use std::path::PathBuf;
 use std::test::Fail;
@@ -14,9 +14,6 @@ use testkit::runs::Outcome;
 
 /// When each run begins, in seconds since 1970.
 const BEGAN: u32 = 0x0102_0304;
-
-/// Where the Stop event of `SUMMED` begins.
-pub const STOP: usize = 120;
 
 /// The arguments of a run, of which the first is the program's name.
 pub fn arguments_of(rt: &HostRuntime, arguments: &[&str]) -> Result<Vec<String>, AllocError> {
@@ -71,11 +68,4 @@ pub fn run_log(
     let outcome = run_given(rt, Ok(all));
     fs::remove_file(rt, path.as_path())?;
     Ok(outcome)
-}
-
-/// `SUMMED` with one byte changed.
-pub fn with_byte(rt: &HostRuntime, at: usize, byte: u8) -> Result<Vec<u8>, Fail> {
-    let mut log = SUMMED.to_vec(rt.alloc())?;
-    *log.get_mut(at).ok_or("an edit past the end")? = byte;
-    Ok(log)
 }

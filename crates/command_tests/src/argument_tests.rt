@@ -1,33 +1,129 @@
 //! Runs without a command, with an unknown one or with two, and of the help.
 
-use command_runs::{path_of, run_arguments, run_given};
-use sample_logs::small::PLAIN;
-use std::process::{Abort, ExitCode};
+use command_runs::scripts::play;
+use command_runs::{run_arguments, run_given};
+use std::io;
+use std::process::Abort;
 use std::test::Fail;
-use std::{fs, io};
 
-/// What is printed after each wrong command.
-const USAGE: &str = "
+#[test]
+fn a_missing_command_is_an_error(rt: HostRuntime) -> Result<(), Fail> {
+    play(
+        &rt,
+        "\
+$
+! error: 'binlog' requires a subcommand but one was not provided
+!   [subcommands: list, undo, redo, plain, split, sql, help]
+!+ usage
+= 2",
+    )
+}
 
-Usage: binlog list [-d NAME] [-T NAME] [-j POS] [--stop-position POS]
-                   [--start-datetime TIME] [--stop-datetime TIME]
-                   [--utc | --time-zone NAME] [--json] LOG..
-       binlog undo [--later LOG].. [--anyway] [-j POS] [--stop-position POS]
-                   [-d NAME] [-T NAME]
-                   [--dry-run] [-r FILE [--force]] LOG
-       binlog redo [-j POS] [--stop-position POS] [-d NAME] [-T NAME]
-                   [--dry-run] [-r FILE [--force]] LOG
-       binlog plain [-r FILE [--force]] LOG
-       binlog split [--size BYTES] [-r FILE [--force]] LOG
-       binlog sql [--each-transaction] [--keep-times] [--size BYTES]
-                  [--rewrite-db FROM:TO].. [-r FILE [--force]] LOG
+#[test]
+fn an_unknown_command_is_an_error(rt: HostRuntime) -> Result<(), Fail> {
+    play(
+        &rt,
+        "\
+file log PLAIN
+$ @log
+! error: unrecognized subcommand '@log'
+!+ usage
+= 2
+$ foo @log
+! error: unrecognized subcommand 'foo'
+!+ usage
+= 2
+remove log
+$ LOG
+! error: unrecognized subcommand 'LOG'
+!+ usage
+= 2",
+    )
+}
 
-For more information, try '--help'.
-";
+#[test]
+fn a_wrong_command_makes_no_file(rt: HostRuntime) -> Result<(), Fail> {
+    play(
+        &rt,
+        "\
+file log PLAIN
+$ -r @result @log
+!~ error: unexpected argument '-r' found
+= 2
+none result
+$ -r @result plain @log
+!~ error: unexpected argument '-r' found
+= 2
+none result
+$ foo -r @result @log
+!~ error: unrecognized subcommand 'foo'
+= 2
+none result
+$ foo plain -r @result @log
+!~ error: unrecognized subcommand 'foo'
+= 2
+none result
+same log PLAIN",
+    )
+}
 
-/// The same where `plain` was given.
-const PLAIN_USAGE: &str =
-    "\n\nUsage: binlog plain [-r FILE [--force]] LOG\n\nFor more information, try '--help'.\n";
+#[test]
+fn a_command_given_twice_is_an_error(rt: HostRuntime) -> Result<(), Fail> {
+    play(
+        &rt,
+        "\
+file log PLAIN
+$ plain plain @log
+!~ error: unexpected argument '@log' found
+= 2
+none result
+$ plain list @log
+!~ error: unexpected argument '@log' found
+= 2
+none result
+$ plain @log plain
+!~ error: unexpected argument 'plain' found
+= 2
+none result
+$ split split @log
+!~ error: unexpected argument '@log' found
+= 2
+none result
+$ split list @log
+!~ error: unexpected argument '@log' found
+= 2
+none result
+$ split @log split
+!~ error: unexpected argument 'split' found
+= 2
+none result
+$ sql sql @log
+!~ error: unexpected argument '@log' found
+= 2
+none result
+$ sql list @log
+!~ error: unexpected argument '@log' found
+= 2
+none result
+$ sql @log sql
+!~ error: unexpected argument 'sql' found
+= 2
+none result
+# a list takes several logs, so this is the name of one
+$ list @log list
+! binlog: cannot open the log list: No such file or directory (os error 2): see its name and its folder
+= 1
+$ plain -r @result plain @log
+!~ error: unexpected argument '@log' found
+= 2
+none result
+$ split -r @result split @log
+!~ error: unexpected argument '@log' found
+= 2
+none result
+same log PLAIN",
+    )
+}
 
 /// Lines of the help.
 static HELP_LINES: [&str; 15] = [
@@ -48,101 +144,6 @@ static HELP_LINES: [&str; 15] = [
     "Exit status: 0 done, 1 the log is refused or something failed, 2 the arguments are wrong.",
 ];
 
-/// The arguments are wrong, as this line and the usage say.
-pub(crate) fn check_wrong(rt: &HostRuntime, arguments: &[&str], line: &str) -> Result<(), Fail> {
-    let wanted = format!(in rt.alloc(); "{line}{USAGE}")?;
-    if run_arguments(rt, arguments)?.is_refusal(2, wanted.as_str()) {
-        Ok(())
-    } else {
-        Err(Fail::new(format_args!("{arguments:?}")))
-    }
-}
-
-#[test]
-fn a_missing_command_is_an_error(rt: HostRuntime) -> Result<(), Fail> {
-    let line =
-        "error: 'binlog' requires a subcommand but one was not provided\n  [subcommands: list, undo, redo, plain, split, sql, help]";
-    check_wrong(&rt, &[], line)
-}
-
-#[test]
-fn an_unknown_command_is_an_error(rt: HostRuntime) -> Result<(), Fail> {
-    let log = path_of(&rt, "uncommanded")?;
-    let name = log.as_str();
-    fs::write(&rt, name, PLAIN.as_slice())?;
-    let line = format!(in rt.alloc(); "error: unrecognized subcommand '{name}'")?;
-    check_wrong(&rt, &[name], line.as_str())?;
-    check_wrong(&rt, &["foo", name], "error: unrecognized subcommand 'foo'")?;
-    fs::remove_file(&rt, name)?;
-    check_wrong(&rt, &["LOG"], "error: unrecognized subcommand 'LOG'")
-}
-
-/// The arguments are wrong, as a line that begins so says, and there is no file of this path.
-fn check_unmade(rt: &HostRuntime, arguments: &[&str], line: &str, file: &str) -> Result<(), Fail> {
-    let refused = run_arguments(rt, arguments)?.begins_refusal(2, line);
-    if refused && !fs::exists(rt, file)? {
-        Ok(())
-    } else {
-        Err(Fail::new(format_args!("{arguments:?}")))
-    }
-}
-
-#[test]
-fn a_wrong_command_makes_no_file(rt: HostRuntime) -> Result<(), Fail> {
-    let log = path_of(&rt, "kept")?;
-    let result = path_of(&rt, "not-made")?;
-    fs::write(&rt, log.as_str(), PLAIN.as_slice())?;
-    let missing = "error: unexpected argument '-r' found\n\nUsage: binlog list ";
-    let arguments = ["-r", result.as_str(), log.as_str()];
-    check_unmade(&rt, arguments.as_slice(), missing, result.as_str())?;
-    let arguments = ["-r", result.as_str(), "plain", log.as_str()];
-    check_unmade(&rt, arguments.as_slice(), missing, result.as_str())?;
-    let unknown = "error: unrecognized subcommand 'foo'\n\nUsage: binlog list ";
-    let arguments = ["foo", "-r", result.as_str(), log.as_str()];
-    check_unmade(&rt, arguments.as_slice(), unknown, result.as_str())?;
-    let arguments = ["foo", "plain", "-r", result.as_str(), log.as_str()];
-    check_unmade(&rt, arguments.as_slice(), unknown, result.as_str())?;
-    let kept = fs::read(&rt, log.as_str())?;
-    fs::remove_file(&rt, log.as_str())?;
-    assert_eq!(rt; kept.as_slice(), PLAIN.as_slice());
-    Ok(())
-}
-
-/// The log is `name`, and the command is given before and after it, or before another command.
-fn check_given_twice(rt: &HostRuntime, command: &str, name: &str, file: &str) -> Result<(), Fail> {
-    let usage = format!(in rt.alloc(); "found\n\nUsage: binlog {command} ")?;
-    let usage = usage.as_str();
-    let second = format!(in rt.alloc(); "error: unexpected argument '{name}' {usage}")?;
-    check_unmade(rt, &[command, command, name], second.as_str(), file)?;
-    check_unmade(rt, &[command, "list", name], second.as_str(), file)?;
-    let last = format!(in rt.alloc(); "error: unexpected argument '{command}' {usage}")?;
-    check_unmade(rt, &[command, name, command], last.as_str(), file)
-}
-
-#[test]
-fn a_command_given_twice_is_an_error(rt: HostRuntime) -> Result<(), Fail> {
-    let log = path_of(&rt, "twice")?;
-    let result = path_of(&rt, "not-made-twice")?;
-    fs::write(&rt, log.as_str(), PLAIN.as_slice())?;
-    for command in ["plain", "split", "sql"] {
-        check_given_twice(&rt, command, log.as_str(), result.as_str())?;
-    }
-    let name = log.as_str();
-    // a list takes several logs, so this is the name of one
-    let absent =
-        "binlog: cannot open the log list: No such file or directory (os error 2): see its name and its folder\n";
-    assert!(rt; run_arguments(&rt, &["list", name, "list"])?.is_refusal(1, absent));
-    let line = format!(in rt.alloc(); "error: unexpected argument '{name}' found\n")?;
-    let arguments = ["plain", "-r", result.as_str(), "plain", log.as_str()];
-    check_unmade(&rt, arguments.as_slice(), line.as_str(), result.as_str())?;
-    let arguments = ["split", "-r", result.as_str(), "split", log.as_str()];
-    check_unmade(&rt, arguments.as_slice(), line.as_str(), result.as_str())?;
-    let kept = fs::read(&rt, log.as_str())?;
-    fs::remove_file(&rt, log.as_str())?;
-    assert_eq!(rt; kept.as_slice(), PLAIN.as_slice());
-    Ok(())
-}
-
 #[test]
 fn the_help_has_every_command(rt: HostRuntime) -> Result<(), Fail> {
     let help = run_arguments(&rt, &["--help"])?;
@@ -162,66 +163,61 @@ fn the_help_has_every_command(rt: HostRuntime) -> Result<(), Fail> {
 
 #[test]
 fn help_and_version_are_written(rt: HostRuntime) -> Result<(), Fail> {
-    let cases = [
-        (
-            &["--help"] as &[&str],
-            "binlog plain [-r FILE [--force]] LOG",
-        ),
-        (&["plain", "--help"], "-r is the same as --result-file"),
-        (&["list", "--help"], "-j is the same as --start-position"),
-        (
-            &["undo", "--help"],
-            "binlog undo --rewrite-db shop:scratch -j 4021 --stop-position 9144 binlog.000042 | mysql",
-        ),
-        (
-            &["redo", "--help"],
-            "binlog redo --rewrite-db shop:scratch -d shop binlog.000042 | mysql",
-        ),
-        (
-            &["split", "--help"],
-            "binlog split [--size BYTES] [-r FILE [--force]] LOG",
-        ),
-        (
-            &["sql", "--help"],
-            "binlog sql --rewrite-db shop:scratch undo.binlog | mysql",
-        ),
-        (&["--version"], "binlog 0.1.0 (proved with "),
-    ];
-    for (arguments, text) in cases {
-        let outcome = run_arguments(&rt, arguments)?;
-        assert_eq!(rt; outcome.status, ExitCode::SUCCESS);
-        assert!(rt; outcome.errors().is_empty());
-        assert!(rt; str::from_utf8(outcome.output())?.contains(text), "{text}");
-    }
-    Ok(())
+    play(
+        &rt,
+        "\
+$ --help
+>~ binlog plain [-r FILE [--force]] LOG
+$ plain --help
+>~ -r is the same as --result-file
+$ list --help
+>~ -j is the same as --start-position
+$ undo --help
+>~ binlog undo --rewrite-db shop:scratch -j 4021 --stop-position 9144 binlog.000042 | mysql
+$ redo --help
+>~ binlog redo --rewrite-db shop:scratch -d shop binlog.000042 | mysql
+$ split --help
+>~ binlog split [--size BYTES] [-r FILE [--force]] LOG
+$ sql --help
+>~ binlog sql --rewrite-db shop:scratch undo.binlog | mysql
+$ --version
+>~ binlog 0.1.0 (proved with ",
+    )
 }
 
 #[test]
 fn wrong_arguments_end_in_two(rt: HostRuntime) -> Result<(), Fail> {
-    check_wrong(
+    play(
         &rt,
-        &["other", "a"],
-        "error: unrecognized subcommand 'other'",
-    )?;
-    check_wrong(&rt, &["a"], "error: unrecognized subcommand 'a'")?;
-    let cases: [(&[&str], &str); 3] = [
-        (
-            &["plain"],
-            "error: the following required arguments were not provided:\n  <LOG>",
-        ),
-        (&["plain", "a", "b"], "error: unexpected argument 'b' found"),
-        (
-            &["plain", "--nothing", "a"],
-            "error: unexpected argument '--nothing' found\n\n  tip: to pass '--nothing' as a value, use '-- --nothing'",
-        ),
-    ];
-    for (arguments, line) in cases {
-        let wanted = format!(in rt.alloc(); "{line}{PLAIN_USAGE}")?;
-        assert!(rt;
-            run_arguments(&rt, arguments)?.is_refusal(2, wanted.as_str()),
-            "{arguments:?}"
-        );
-    }
+        "\
+$ other a
+! error: unrecognized subcommand 'other'
+!+ usage
+= 2
+$ a
+! error: unrecognized subcommand 'a'
+!+ usage
+= 2
+$ plain
+! error: the following required arguments were not provided:
+!   <LOG>
+!+ plain_usage
+= 2
+$ plain a b
+! error: unexpected argument 'b' found
+!+ plain_usage
+= 2
+$ plain --nothing a
+! error: unexpected argument '--nothing' found
+!
+!   tip: to pass '--nothing' as a value, use '-- --nothing'
+!+ plain_usage
+= 2",
+    )
+}
+
+#[test]
+fn arguments_that_the_system_does_not_give_are_told(rt: HostRuntime) -> Result<(), Fail> {
     let not_text = run_given(&rt, Err(io::Error::from(io::ErrorKind::InvalidData)));
     let line = "binlog: the arguments are not UTF-8: give names in UTF-8\n";
     assert!(rt; not_text.is_refusal(2, line));

@@ -1,21 +1,21 @@
 //! The size of `split` and `sql`, where it isn't given.
 
 use command_runs::large_logs::long_texts;
-use command_runs::{run_arguments, run_log};
+use command_runs::run_log;
+use command_runs::scripts::play;
 use std::process::Abort;
 use std::test::Fail;
 
 #[test]
 fn the_help_has_the_sizes(rt: HostRuntime) -> Result<(), Fail> {
-    for command in ["split", "sql"] {
-        let help = run_arguments(&rt, &[command, "--help"])?;
-        assert!(rt; help.is_done(help.output()));
-        let text = str::from_utf8(help.output())?;
-        let wanted =
-            "The most bytes of a statement, headers included, from 1024 on; 8000000 if it isn't given";
-        assert!(rt; text.contains(wanted), "{command}");
-    }
-    Ok(())
+    play(
+        &rt,
+        "\
+$ split --help
+>~ The most bytes of a statement, headers included, from 1024 on; 8000000 if it isn't given
+$ sql --help
+>~ The most bytes of a statement, headers included, from 1024 on; 8000000 if it isn't given",
+    )
 }
 
 /// How many statements a log has as SQL.

@@ -1,13 +1,11 @@
 //! Runs of `split`.
 
-use crate::argument_tests::check_wrong;
-use command_runs::{path_of, run_arguments, run_log};
+use command_runs::run_log;
+use command_runs::scripts::{named, play, play_with};
 use sample_logs::builder::{BEGIN, XID, build, insert, map_of};
-use sample_logs::logs::insert_and_drop;
-use sample_logs::small::{INSERT_ONE_ROW, SUMMED};
-use sample_logs::summed::IN_USE;
+use sample_logs::small::SUMMED;
 use std::alloc::AllocError;
-use std::fs;
+use std::process::Abort;
 use std::test::Fail;
 
 /// The rows of the rows events of a statement, which have 531 and 456 bytes.
@@ -39,74 +37,76 @@ fn cut(rt: &impl AllocGlobal, name: &[u8]) -> Result<Vec<u8>, AllocError> {
     )
 }
 
-/// Whether a run with these arguments writes this log for another.
-fn writes(rt: &HostRuntime, log: &[u8], arguments: &[&str], text: &[u8]) -> Result<bool, Fail> {
-    Ok(run_log(rt, "uncut", log, arguments)?.is_done(text))
-}
-
 #[test]
 fn statements_are_cut(rt: HostRuntime) -> Result<(), Fail> {
     let least = whole(&rt, b"t")?;
     let more = whole(&rt, b"t2")?;
     let cut = cut(&rt, b"t2")?;
-    assert!(rt; writes(&rt, &more, &["split"], &more)?);
-    assert!(rt; writes(&rt, &least, &["split", "--size", "1024"], &least)?);
-    assert!(rt; writes(&rt, &more, &["split", "--size", "1025"], &more)?);
-    assert!(rt; writes(&rt, &more, &["split", "--size", "1024"], &cut)?);
-    Ok(())
+    play_with(
+        &rt,
+        &[
+            named("least", &least),
+            named("more", &more),
+            named("cut", &cut),
+        ],
+        "\
+file least least
+file more more
+$ split @more
+>+ more
+$ split --size 1024 @least
+>+ least
+$ split --size 1025 @more
+>+ more
+$ split --size 1024 @more
+>+ cut",
+    )
 }
 
 #[test]
 fn a_cut_log_is_written_to_a_file(rt: HostRuntime) -> Result<(), Fail> {
-    let log = whole(&rt, b"t2")?;
+    let more = whole(&rt, b"t2")?;
     let cut = cut(&rt, b"t2")?;
-    let result = path_of(&rt, "cut-file")?;
-    let arguments = ["split", "--size", "1024", "-r", result.as_str()];
-    let outcome = run_log(&rt, "to-file", log.as_slice(), arguments.as_slice())?;
-    let kept = run_log(&rt, "to-file", log.as_slice(), arguments.as_slice())?;
-    let written = fs::read(&rt, result.as_path())?;
-    fs::remove_file(&rt, result.as_path())?;
-    let is_there = format!(in rt.alloc();
-        "binlog: the result file is there: {}: give another name, or --force\n",
-        result.as_str()
-    )?;
-    assert!(rt; outcome.is_done(b""));
-    assert!(rt; kept.is_refusal(1, is_there.as_str()));
-    assert_eq!(rt; written.as_slice(), cut.as_slice());
-    Ok(())
+    play_with(
+        &rt,
+        &[named("more", &more), named("cut", &cut)],
+        "\
+file log more
+$ split --size 1024 -r @result @log
+same result cut
+$ split --size 1024 -r @result @log
+! binlog: the result file is there: @result: give another name, or --force
+= 1
+same result cut",
+    )
 }
 
 #[test]
 fn logs_that_are_not_cut_are_told(rt: HostRuntime) -> Result<(), Fail> {
-    let dropped = insert_and_drop(&rt)?;
-    let cases = [
-        (
-            dropped.as_slice(),
-            "Statement at 259: the log can't be undone as a whole: cut the log that flashback writes of a range",
-        ),
-        (
-            IN_USE.as_slice(),
-            "Statement at 567: the log can't be undone as a whole: cut the log that flashback writes of a range",
-        ),
-        (
-            &SUMMED[..SUMMED.len() - 1],
-            "CutEvent at 120: the log ends inside an event, or is damaged: copy it from the server again",
-        ),
-        (
-            &INSERT_ONE_ROW[..200],
-            "CutEvent at 196: the log ends inside an event, or is damaged: copy it from the server again",
-        ),
-        (
-            b"no log",
-            "NotABinlog at 0: the file is no binary log, or an encrypted one: give a binary log",
-        ),
-    ];
-    for (log, line) in cases {
-        let outcome = run_log(&rt, "not-cut", log, &["split"])?;
-        let line = format!(in rt.alloc(); "binlog: {line}\n")?;
-        assert!(rt; outcome.is_refusal(1, line.as_str()), "{line}");
-    }
-    Ok(())
+    play(
+        &rt,
+        "\
+file log dropped
+$ split @log
+! binlog: Statement at 259: the log can't be undone as a whole: cut the log that flashback writes of a range
+= 1
+file log IN_USE
+$ split @log
+! binlog: Statement at 567: the log can't be undone as a whole: cut the log that flashback writes of a range
+= 1
+file log SUMMED ..142
+$ split @log
+! binlog: CutEvent at 120: the log ends inside an event, or is damaged: copy it from the server again
+= 1
+file log INSERT_ONE_ROW ..200
+$ split @log
+! binlog: CutEvent at 196: the log ends inside an event, or is damaged: copy it from the server again
+= 1
+text log no log
+$ split @log
+! binlog: NotABinlog at 0: the file is no binary log, or an encrypted one: give a binary log
+= 1",
+    )
 }
 
 const CUT_EVENT: &str =
@@ -136,26 +136,43 @@ fn damaged_logs_are_not_cut(rt: HostRuntime) -> Result<(), Fail> {
 
 #[test]
 fn wrong_sizes_end_in_two(rt: HostRuntime) -> Result<(), Fail> {
-    for size in ["+4", "4294967296", "8MB"] {
-        check_size(&rt, "split", size)?;
-    }
-    let outcome = run_arguments(&rt, &["split", "--json", "4", "a"])?;
-    assert!(rt; outcome.begins_refusal(2, "error: unexpected argument '--json' found\n\n"));
-    Ok(())
-}
-
-/// Checks that this command reports this size as none.
-pub(crate) fn check_size(rt: &HostRuntime, command: &str, size: &str) -> Result<(), Fail> {
-    let line = format!(in rt.alloc();
-        "error: invalid value '{size}' for '--size <BYTES>': not a number of bytes: decimal digits, 1024 to 4294967295"
-    )?;
-    check_wrong(rt, &[command, "--size", size, "a"], line.as_str())
+    play(
+        &rt,
+        "\
+$ split --size +4 a
+! error: invalid value '+4' for '--size <BYTES>': not a number of bytes: decimal digits, 1024 to 4294967295
+!+ usage
+= 2
+$ split --size 4294967296 a
+! error: invalid value '4294967296' for '--size <BYTES>': not a number of bytes: decimal digits, 1024 to 4294967295
+!+ usage
+= 2
+$ split --size 8MB a
+! error: invalid value '8MB' for '--size <BYTES>': not a number of bytes: decimal digits, 1024 to 4294967295
+!+ usage
+= 2
+$ split --json 4 a
+!~ error: unexpected argument '--json' found
+= 2",
+    )
 }
 
 #[test]
 fn sizes_below_the_least_are_wrong(rt: HostRuntime) -> Result<(), Fail> {
-    for size in ["0", "1", "1023"] {
-        check_size(&rt, "split", size)?;
-    }
-    Ok(())
+    play(
+        &rt,
+        "\
+$ split --size 0 a
+! error: invalid value '0' for '--size <BYTES>': not a number of bytes: decimal digits, 1024 to 4294967295
+!+ usage
+= 2
+$ split --size 1 a
+! error: invalid value '1' for '--size <BYTES>': not a number of bytes: decimal digits, 1024 to 4294967295
+!+ usage
+= 2
+$ split --size 1023 a
+! error: invalid value '1023' for '--size <BYTES>': not a number of bytes: decimal digits, 1024 to 4294967295
+!+ usage
+= 2",
+    )
 }

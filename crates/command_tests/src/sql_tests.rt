@@ -1,13 +1,11 @@
 //! Runs of `sql`. The lines that are expected were made from the bytes of the log by another program.
 
-use crate::argument_tests::check_wrong;
-use crate::split_tests::{check_size, whole};
-use command_runs::{path_of, run_arguments, run_log};
+use crate::split_tests::whole;
+use command_runs::scripts::{named, play, play_with};
+use command_runs::{path_of, run_log};
 use console::VERSION;
 use sample_logs::builder::{BEGIN, COMMIT, Part, XID, build, insert, map_of};
-use sample_logs::logs::{insert_and_drop, two_transactions};
-use sample_logs::small::{INSERT_ONE_ROW, SUMMED};
-use sample_logs::summed::IN_USE;
+use sample_logs::logs::two_transactions;
 use std::fs;
 use std::process::Abort;
 use std::test::Fail;
@@ -91,57 +89,59 @@ DEALLOCATE PREPARE undo_end;
 
 const LAST: &str = "SELECT @undo_end AS ended_with, @undo_errors AS errors;\n";
 
-/// Checks that a run with these arguments prints the log as these parts.
-fn check_printed(
-    rt: &HostRuntime,
-    log: &[u8],
-    arguments: &[&str],
-    parts: &[&str],
-) -> Result<(), Fail> {
-    let outcome = run_log(rt, "as-sql", log, arguments)?;
-    let mut text = Vec::new(rt.alloc());
-    for part in parts {
-        text.extend_from_slice(part.as_bytes())?;
-    }
-    if outcome.is_done(text.as_slice()) {
-        Ok(())
-    } else {
-        Err(Fail::new(format_args!("{arguments:?}")))
-    }
-}
-
 #[test]
 fn a_log_is_printed_as_sql(rt: HostRuntime) -> Result<(), Fail> {
-    let log = INSERT_ONE_ROW.as_slice();
-    let each = "SET @undo_end = 'COMMIT';\nBEGIN;\n";
-    let cases: [(&[&str], &[&str]); 6] = [
-        (&["sql"], &[HEAD, "BEGIN;\n", ROWS, END, LAST]),
-        (
-            &["sql", "--keep-times"],
-            &[HEAD, "BEGIN;\n", KEPT, END, LAST],
-        ),
-        (
-            &["sql", "--each-transaction"],
-            &[HEAD, each, ROWS, END, LAST],
-        ),
-        (
-            &["sql", "--rewrite-db", "d:other"],
-            &[HEAD, "BEGIN;\n", RENAMED, END, LAST],
-        ),
-        // the first of a schema counts
-        (
-            &["sql", "--rewrite-db", "d:other", "--rewrite-db", "d:y"],
-            &[HEAD, "BEGIN;\n", RENAMED, END, LAST],
-        ),
-        (
-            &["sql", "--size", "1024"],
-            &[HEAD, "BEGIN;\n", ROWS, END, LAST],
-        ),
-    ];
-    for (arguments, parts) in cases {
-        check_printed(&rt, log, arguments, parts)?;
-    }
-    Ok(())
+    play_with(
+        &rt,
+        &[
+            named("head", HEAD.as_bytes()),
+            named("rows", ROWS.as_bytes()),
+            named("kept", KEPT.as_bytes()),
+            named("renamed", RENAMED.as_bytes()),
+            named("end", END.as_bytes()),
+            named("last", LAST.as_bytes()),
+        ],
+        "\
+file log INSERT_ONE_ROW
+$ sql @log
+>+ head
+> BEGIN;
+>+ rows
+>+ end
+>+ last
+$ sql --keep-times @log
+>+ head
+> BEGIN;
+>+ kept
+>+ end
+>+ last
+$ sql --each-transaction @log
+>+ head
+> SET @undo_end = 'COMMIT';
+> BEGIN;
+>+ rows
+>+ end
+>+ last
+$ sql --rewrite-db d:other @log
+>+ head
+> BEGIN;
+>+ renamed
+>+ end
+>+ last
+# the first of a schema counts
+$ sql --rewrite-db d:other --rewrite-db d:y @log
+>+ head
+> BEGIN;
+>+ renamed
+>+ end
+>+ last
+$ sql --size 1024 @log
+>+ head
+> BEGIN;
+>+ rows
+>+ end
+>+ last",
+    )
 }
 
 /// Runs `sql` over a log, to standard output or to a file, with each pair of databases, and checks that it refuses the log with this
@@ -275,73 +275,102 @@ fn statements_are_cut(rt: HostRuntime) -> Result<(), Fail> {
         let outcome = run_log(&rt, "cut-sql", log, arguments.as_slice())?;
         assert_eq!(rt; count(&outcome, "BINLOG '\n")?, binlogs, "{size}");
     }
-    let arguments = ["sql", "--keep-times", "--size", "1024"];
-    let parts = [HEAD, "BEGIN;\n", CUT, END, LAST];
-    check_printed(&rt, &more, arguments.as_slice(), parts.as_slice())
+    Ok(())
+}
+
+#[test]
+fn a_cut_log_is_printed(rt: HostRuntime) -> Result<(), Fail> {
+    let log = whole(&rt, b"t2")?;
+    play_with(
+        &rt,
+        &[
+            named("cut_in_two", &log),
+            named("head", HEAD.as_bytes()),
+            named("cut", CUT.as_bytes()),
+            named("end", END.as_bytes()),
+            named("last", LAST.as_bytes()),
+        ],
+        "\
+file log cut_in_two
+$ sql --keep-times --size 1024 @log
+>+ head
+> BEGIN;
+>+ cut
+>+ end
+>+ last",
+    )
 }
 
 #[test]
 fn sizes_below_the_least_are_wrong(rt: HostRuntime) -> Result<(), Fail> {
-    for size in ["0", "1", "1023"] {
-        check_size(&rt, "sql", size)?;
-    }
-    Ok(())
+    play(
+        &rt,
+        "\
+$ sql --size 0 a
+! error: invalid value '0' for '--size <BYTES>': not a number of bytes: decimal digits, 1024 to 4294967295
+!+ usage
+= 2
+$ sql --size 1 a
+! error: invalid value '1' for '--size <BYTES>': not a number of bytes: decimal digits, 1024 to 4294967295
+!+ usage
+= 2
+$ sql --size 1023 a
+! error: invalid value '1023' for '--size <BYTES>': not a number of bytes: decimal digits, 1024 to 4294967295
+!+ usage
+= 2
+$ sql --size 8MB a
+! error: invalid value '8MB' for '--size <BYTES>': not a number of bytes: decimal digits, 1024 to 4294967295
+!+ usage
+= 2",
+    )
 }
 
 #[test]
 fn sql_is_written_to_a_file(rt: HostRuntime) -> Result<(), Fail> {
-    let result = path_of(&rt, "sql-file")?;
-    let log = INSERT_ONE_ROW.as_slice();
-    let arguments = ["sql", "-r", result.as_str()];
-    let forced = ["sql", "-r", result.as_str(), "--force"];
-    let outcome = run_log(&rt, "sql-to-file", log, arguments.as_slice())?;
-    let kept = run_log(&rt, "sql-to-file", log, arguments.as_slice())?;
-    let again = run_log(&rt, "sql-to-file", log, forced.as_slice())?;
-    let written = fs::read(&rt, result.as_path())?;
-    let printed = run_log(&rt, "sql-to-file", log, &["sql"])?;
-    fs::remove_file(&rt, result.as_path())?;
-    let is_there = format!(in rt.alloc();
-        "binlog: the result file is there: {}: give another name, or --force\n",
-        result.as_str()
-    )?;
-    assert!(rt; outcome.is_done(b""));
-    assert!(rt; kept.is_refusal(1, is_there.as_str()));
-    assert!(rt; again.is_done(b""));
-    assert!(rt; printed.is_done(written.as_slice()));
-    Ok(())
+    play(
+        &rt,
+        "\
+file log INSERT_ONE_ROW
+$ sql @log
+>* printed
+$ sql -r @result @log
+same result @printed
+$ sql -r @result @log
+! binlog: the result file is there: @result: give another name, or --force
+= 1
+same result @printed
+text result another
+$ sql -r @result --force @log
+same result @printed",
+    )
 }
 
 #[test]
 fn logs_that_are_not_printed_are_told(rt: HostRuntime) -> Result<(), Fail> {
-    let dropped = insert_and_drop(&rt)?;
-    let cases = [
-        (
-            dropped.as_slice(),
-            "Statement at 259: the log can't be undone as a whole: cut the log that flashback writes of a range",
-        ),
-        (
-            IN_USE.as_slice(),
-            "Statement at 567: the log can't be undone as a whole: cut the log that flashback writes of a range",
-        ),
-        (
-            &SUMMED[..SUMMED.len() - 1],
-            "CutEvent at 120: the log ends inside an event, or is damaged: copy it from the server again",
-        ),
-        (
-            &INSERT_ONE_ROW[..200],
-            "CutEvent at 196: the log ends inside an event, or is damaged: copy it from the server again",
-        ),
-        (
-            b"no log",
-            "NotABinlog at 0: the file is no binary log, or an encrypted one: give a binary log",
-        ),
-    ];
-    for (log, line) in cases {
-        let outcome = run_log(&rt, "not-printed", log, &["sql"])?;
-        let line = format!(in rt.alloc(); "binlog: {line}\n")?;
-        assert!(rt; outcome.is_refusal(1, line.as_str()), "{line}");
-    }
-    Ok(())
+    play(
+        &rt,
+        "\
+file log dropped
+$ sql @log
+! binlog: Statement at 259: the log can't be undone as a whole: cut the log that flashback writes of a range
+= 1
+file log IN_USE
+$ sql @log
+! binlog: Statement at 567: the log can't be undone as a whole: cut the log that flashback writes of a range
+= 1
+file log SUMMED ..142
+$ sql @log
+! binlog: CutEvent at 120: the log ends inside an event, or is damaged: copy it from the server again
+= 1
+file log INSERT_ONE_ROW ..200
+$ sql @log
+! binlog: CutEvent at 196: the log ends inside an event, or is damaged: copy it from the server again
+= 1
+text log no log
+$ sql @log
+! binlog: NotABinlog at 0: the file is no binary log, or an encrypted one: give a binary log
+= 1",
+    )
 }
 
 /// The name of a table that would end a text is in the base64 alone.
@@ -359,15 +388,34 @@ fn names_are_in_the_base64_alone(rt: HostRuntime) -> Result<(), Fail> {
 
 #[test]
 fn wrong_schemas_end_in_two(rt: HostRuntime) -> Result<(), Fail> {
-    let long = ["x"; 256].concat(rt.alloc())?;
-    let long = format!(in rt.alloc(); "a:{}", long.as_str())?;
-    for value in ["shop", ":x", "x:", ":", "", long.as_str()] {
-        let line = format!(in rt.alloc();
-            "error: invalid value '{value}' for '--rewrite-db <FROM:TO>': not two names of databases with a colon between them, such as shop:scratch, of 1 to 255 bytes each"
-        )?;
-        check_wrong(&rt, &["sql", "--rewrite-db", value, "a"], line.as_str())?;
-    }
-    check_size(&rt, "sql", "8MB")
+    play(
+        &rt,
+        "\
+$ sql --rewrite-db shop a
+! error: invalid value 'shop' for '--rewrite-db <FROM:TO>': not two names of databases with a colon between them, such as shop:scratch, of 1 to 255 bytes each
+!+ usage
+= 2
+$ sql --rewrite-db :x a
+! error: invalid value ':x' for '--rewrite-db <FROM:TO>': not two names of databases with a colon between them, such as shop:scratch, of 1 to 255 bytes each
+!+ usage
+= 2
+$ sql --rewrite-db x: a
+! error: invalid value 'x:' for '--rewrite-db <FROM:TO>': not two names of databases with a colon between them, such as shop:scratch, of 1 to 255 bytes each
+!+ usage
+= 2
+$ sql --rewrite-db : a
+! error: invalid value ':' for '--rewrite-db <FROM:TO>': not two names of databases with a colon between them, such as shop:scratch, of 1 to 255 bytes each
+!+ usage
+= 2
+$ sql --rewrite-db '' a
+! error: invalid value '' for '--rewrite-db <FROM:TO>': not two names of databases with a colon between them, such as shop:scratch, of 1 to 255 bytes each
+!+ usage
+= 2
+$ sql --rewrite-db a:xxxxxxxxxxxxxxxxxxxxxxxxxxxxxxxxxxxxxxxxxxxxxxxxxxxxxxxxxxxxxxxxxxxxxxxxxxxxxxxxxxxxxxxxxxxxxxxxxxxxxxxxxxxxxxxxxxxxxxxxxxxxxxxxxxxxxxxxxxxxxxxxxxxxxxxxxxxxxxxxxxxxxxxxxxxxxxxxxxxxxxxxxxxxxxxxxxxxxxxxxxxxxxxxxxxxxxxxxxxxxxxxxxxxxxxxxxxxxxxxxxxxxxxxxxxxxxxx a
+! error: invalid value 'a:xxxxxxxxxxxxxxxxxxxxxxxxxxxxxxxxxxxxxxxxxxxxxxxxxxxxxxxxxxxxxxxxxxxxxxxxxxxxxxxxxxxxxxxxxxxxxxxxxxxxxxxxxxxxxxxxxxxxxxxxxxxxxxxxxxxxxxxxxxxxxxxxxxxxxxxxxxxxxxxxxxxxxxxxxxxxxxxxxxxxxxxxxxxxxxxxxxxxxxxxxxxxxxxxxxxxxxxxxxxxxxxxxxxxxxxxxxxxxxxxxxxxxxxxxxxxxxxx' for '--rewrite-db <FROM:TO>': not two names of databases with a colon between them, such as shop:scratch, of 1 to 255 bytes each
+!+ usage
+= 2",
+    )
 }
 
 /// The first line has the version of the programs.

@@ -12,14 +12,15 @@ mod wrong_arguments;
 
 use crate::commands::command;
 use blog_flash::Watched;
-use logs::with_byte;
-use sample_logs::small::INSERT_ONE_ROW;
+use sample_logs::logs::insert_and_drop;
+use sample_logs::small::{INSERT_ONE_ROW, OLD_SERVER};
 use std::alloc::AllocError;
 use std::path::PathBuf;
 use std::process::{Abort, ExitCode};
 use std::test::Fail;
-use std::{env, fs, io};
-use testkit::runs::{Outcome, push_arguments};
+use std::{fs, io};
+use testkit::runs::Outcome;
+use transcripts::{Named, Program};
 use writers::Broken;
 
 /// Where the rows event of `INSERT_ONE_ROW` has its type.
@@ -66,99 +67,91 @@ fn check_done(rt: &HostRuntime, arguments: &[&str], output: &[u8]) -> Result<(),
     Ok(())
 }
 
-/// The run with these arguments ended with this status and this line.
-fn check_refusal(rt: &HostRuntime, arguments: &[&str], status: u8, line: &str) -> Result<(), Fail> {
-    let refused = run_arguments(rt, arguments)?.is_refusal(status, line);
-    check(refused, "not refused", arguments)?;
-    Ok(())
+/// The program in scripts.
+struct Flashback;
+
+impl Program for Flashback {
+    fn name(&self) -> &'static str {
+        "flashback"
+    }
+
+    fn run(&self, rt: &HostRuntime, arguments: Vec<String>) -> Outcome {
+        run_given(rt, Ok(arguments))
+    }
 }
 
-/// Runs the program with these arguments over a file of these bytes.
-fn run_log(rt: &HostRuntime, name: &str, log: &[u8], arguments: &[&str]) -> Result<Outcome, Fail> {
-    run_all(rt, name, log, arguments_of(rt, arguments)?)
+/// A log with this name in scripts.
+fn named<'a>(name: &'a str, bytes: &'a [u8]) -> Named<'a> {
+    Named { name, bytes }
 }
 
-/// The same, with `-r` and this file.
-fn run_log_to(
-    rt: &HostRuntime,
-    name: &str,
-    log: &[u8],
-    arguments: &[&str],
-    file: &str,
-) -> Result<Outcome, Fail> {
-    let mut all = arguments_of(rt, arguments)?;
-    push_arguments(&mut all, &["-r", file])?;
-    run_all(rt, name, log, all)
+/// Plays a script, which can name these logs beside those below. `dropped` is a transaction that inserts a row, and a `DROP TABLE`;
+/// `long` is no log, and has more bytes than the others.
+fn play_with(rt: &HostRuntime, given: &[Named<'_>], script: &str) -> Result<(), Fail> {
+    let dropped = insert_and_drop(rt)?;
+    let logs = [
+        named("dropped", &dropped),
+        named("long", &[0x2A; 400]),
+        named("INSERT_ONE_ROW", &INSERT_ONE_ROW),
+        named("OLD_SERVER", &OLD_SERVER),
+    ];
+    Ok(transcripts::play(rt, &Flashback, given, logs.as_slice(), script)?)
 }
 
-/// Runs the program with all of these arguments over a file of these bytes.
-fn run_all(
-    rt: &HostRuntime,
-    name: &str,
-    log: &[u8],
-    arguments: Vec<String>,
-) -> Result<Outcome, Fail> {
-    let path = path_of(rt, name)?;
-    run_path(rt, path.as_str(), log, arguments)
-}
-
-/// The same over a file of this path, which is made for it.
-fn run_path(
-    rt: &HostRuntime,
-    path: &str,
-    log: &[u8],
-    mut arguments: Vec<String>,
-) -> Result<Outcome, Fail> {
-    push_arguments(&mut arguments, &[path])?;
-    fs::write(rt, path, log)?;
-    let outcome = run_given(rt, Ok(arguments));
-    fs::remove_file(rt, path)?;
-    Ok(outcome)
-}
-
-/// The run with these arguments over a file of these bytes ended with the status 1 and this line.
-fn check_log_refused(
-    rt: &HostRuntime,
-    name: &str,
-    log: &[u8],
-    arguments: &[&str],
-    line: &str,
-) -> Result<(), Fail> {
-    let refused = run_log(rt, name, log, arguments)?.is_refusal(1, line);
-    check(refused, "not refused", arguments)?;
-    Ok(())
+/// Plays a script.
+fn play(rt: &HostRuntime, script: &str) -> Result<(), Fail> {
+    play_with(rt, &[], script)
 }
 
 #[test]
 fn undoes_an_insert(rt: HostRuntime) -> Result<(), Fail> {
-    let wanted = with_byte(rt.alloc(), ROWS_TYPE, 0x20)?;
-    let outcome = run_log(&rt, "insert", INSERT_ONE_ROW.as_slice(), &["-B"])?;
-    assert!(rt; outcome.is_done(wanted.as_slice()));
-    Ok(())
+    play(
+        &rt,
+        "\
+file log INSERT_ONE_ROW
+$ -B @log
+>+ INSERT_ONE_ROW 200=32",
+    )
 }
 
 #[test]
 fn refuses_logs(rt: HostRuntime) -> Result<(), Fail> {
-    let line = "flashback: NotABinlog at 0\n";
-    check_log_refused(&rt, "refused", &[], &["-B"], line)?;
-    check_log_refused(&rt, "refused", &[0xFE, 0x62, 0x69], &["-B"], line)
+    play(
+        &rt,
+        "\
+text log 
+$ -B @log
+! flashback: NotABinlog at 0
+= 1
+file log INSERT_ONE_ROW ..3
+$ -B @log
+! flashback: NotABinlog at 0
+= 1",
+    )
 }
 
 #[test]
 fn names_a_log_that_cannot_be_opened(rt: HostRuntime) -> Result<(), Fail> {
-    let absent = path_of(&rt, "absent")?;
-    let line = "flashback: cannot open the log\n";
-    check_refusal(&rt, &["-B", absent.as_str()], 1, line)?;
-    Ok(())
+    play(
+        &rt,
+        "\
+$ -B @absent
+! flashback: cannot open the log
+= 1",
+    )
 }
 
 #[test]
 fn names_a_log_that_cannot_be_read(rt: HostRuntime) -> Result<(), Fail> {
-    // a folder is opened as a file, and every read of it fails
-    let folder = env::temp_dir(&rt)?;
-    let line = "flashback: read failed\n";
-    check_refusal(&rt, &["--flashback", folder.as_str()], 1, line)?;
-    Ok(())
+    play(
+        &rt,
+        "\
+# a folder is opened as a file, and every read of it fails
+folder logs
+$ --flashback @logs
+! flashback: read failed
+= 1",
+    )
 }
 
 /// The options as the help names them.
@@ -220,11 +213,14 @@ fn the_help_is_written(rt: HostRuntime) -> Result<(), Fail> {
 
 #[test]
 fn the_version_is_written(rt: HostRuntime) -> Result<(), Fail> {
-    for argument in ["-V", "--version"] {
-        let text = text_of(&rt, argument)?;
-        assert!(rt; text.as_str().starts_with("flashback 0.1.0 "));
-    }
-    Ok(())
+    play(
+        &rt,
+        "\
+$ -V
+>~ flashback 0.1.0 
+$ --version
+>~ flashback 0.1.0 ",
+    )
 }
 
 /// The run with these arguments fails at its first write, and prints that.

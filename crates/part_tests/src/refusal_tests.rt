@@ -3,8 +3,6 @@
 use crate::runs::{Came, UNDO, between, given, no_logs, part_of, part_with, undone};
 use blog_device::{RunFault, Watched};
 use blog_event::{Fault, event_at};
-use blog_run::Writing;
-use blog_sql::{Renamed, SqlOptions};
 use blog_sum::SumFault;
 use blog_trans::Selection;
 use jiff::tz::TimeZone;
@@ -124,69 +122,6 @@ fn the_first_fault_is_told(rt: HostRuntime) -> Result<(), Fail> {
     // the change of the definition is behind the stop
     let came = undone(&rt, &IN_USE, &between(198, Some(490)))?;
     assert_eq!(rt; came, Came::Done);
-    Ok(())
-}
-
-#[test]
-fn a_part_without_rows_is_refused(rt: HostRuntime) -> Result<(), Fail> {
-    let names: [(Option<&[u8]>, Option<&[u8]>); 5] = [
-        (None, Some(b"order")),
-        (None, Some(b"Orders")),
-        (Some(b"sho"), None),
-        (Some(b"sho"), Some(b"orders")),
-        (Some(b"shop"), Some(b"")),
-    ];
-    for (database, table) in names {
-        let part = Selection {
-            start: 4,
-            stop: None,
-            database,
-            table,
-        };
-        let came = undone(&rt, &CLOSED, &part)?;
-        assert_eq!(rt; came, Came::NothingSelected);
-    }
-    // between the format description and the first unit
-    let came = undone(&rt, &CLOSED, &between(4, Some(198)))?;
-    assert_eq!(rt; came, Came::NothingSelected);
-    Ok(())
-}
-
-#[test]
-fn a_schema_without_tables_is_told(rt: HostRuntime) -> Result<(), Fail> {
-    let to = b"other".as_slice();
-    let schemas = [Renamed { from: b"Shop", to }];
-    let sql = SqlOptions {
-        each_transaction: false,
-        time: None,
-        schemas: &schemas,
-    };
-    let writing = Writing {
-        sql: Some(sql),
-        ..UNDO
-    };
-    let mut reader = Watched::new(SlowReader::new(&CLOSED, ALL, Failure::Never));
-    let mut writer = Watched::new(SlowWriter::new(&rt, ALL, Failure::Never));
-    let part = between(START, Some(STOP));
-    let wanted =
-        "the log changes no table in database Shop: give --rewrite-db a database of the log: shop";
-    match write_part(
-        rt.alloc(),
-        &mut reader,
-        b"",
-        &part,
-        None,
-        false,
-        no_logs(rt.alloc()),
-        0,
-        TimeZone::UTC,
-        &writing,
-        &mut writer,
-    ) {
-        Err(PartFault::NoSchema(text)) => assert_eq!(&rt; text.as_str(), wanted),
-        _ => return Err("no schema was missed".into()),
-    }
-    assert_eq!(rt; writer.device().calls, 0);
     Ok(())
 }
 

@@ -82,7 +82,7 @@ pub(crate) fn part_of<R: AllocGlobal>(
 ) -> Result<(Came, Vec<u8>, Vec<u8>), Fail>
     requires { HasShortWriting writing.now }
 {
-    part_by(rt, log, part, false, writing)
+    part_with(rt, log, part, false, &[], writing)
 }
 
 /// What comes of undoing a part of a log.
@@ -113,20 +113,8 @@ pub(crate) fn given<'a, A: Allocator>(
     Ok(all)
 }
 
-/// What comes of writing a part of a log, what was written, and the report, or the lines that a refusal comes with.
-pub(crate) fn part_by<R: AllocGlobal>(
-    rt: &R,
-    log: &[u8],
-    part: &Selection<'_>,
-    looks: bool,
-    writing: &Writing<'_>,
-) -> Result<(Came, Vec<u8>, Vec<u8>), Fail>
-    requires { HasShortWriting writing.now }
-{
-    part_with(rt, log, part, looks, &[], writing)
-}
-
-/// The same with later logs.
+/// What comes of writing a part of a log, what was written, and the report, or the lines that a refusal comes with. What came later, in
+/// the log and in these, is looked at or not.
 pub(crate) fn part_with<R: AllocGlobal>(
     rt: &R,
     log: &[u8],

@@ -1,7 +1,5 @@
 //! Runs in which one request for memory is refused, each in turn.
 
-use super::both_outputs::{COUNTED, DONE, UNDONE};
-use super::file_names::{check_bytes, has_bytes};
 use super::logs::with_byte;
 use super::{ROWS_TYPE, arguments_of, check, path_of};
 use crate::commands::command;
@@ -10,9 +8,9 @@ use linked_list_allocator::LocalHeap;
 use refusing::Refusing;
 use sample_logs::small::INSERT_ONE_ROW;
 use std::alloc::Allocator;
-use std::fs;
 use std::process::ExitCode;
 use std::test::Fail;
+use std::{fs, io};
 use testkit::runs::{Outcome, push_arguments};
 
 /// More requests than each of these runs makes.
@@ -20,6 +18,45 @@ const REQUESTS: usize = 200;
 
 /// A heap with room for each of these runs, in bytes.
 const ROOM: usize = 1 << 18;
+
+/// The log undone, as pseudo-SQL.
+const UNDONE: &str = "\
+BEGIN
+### DELETE FROM `d`.`t`
+### WHERE
+###   @1=X'05000000'
+COMMIT
+";
+
+/// Its changes, as pseudo-SQL.
+const DONE: &str = "\
+BEGIN
+### INSERT INTO `d`.`t`
+### SET
+###   @1=X'05000000'
+COMMIT
+";
+
+/// Its changes in numbers.
+const COUNTED: &str = "\
+transactions 1
+statements 1
+`d`.`t` inserts 1 updates 0 deletes 0
+";
+
+/// Whether the file of this path has these bytes, or isn't there where there are none.
+fn has_bytes(rt: &HostRuntime, path: &str, wanted: Option<&[u8]>) -> io::Result<bool> {
+    match wanted {
+        Some(bytes) => Ok(fs::read(rt, path)?.as_slice() == bytes),
+        None => Ok(!fs::exists(rt, path)?),
+    }
+}
+
+/// The file of this path has these bytes, or isn't there where there are none.
+fn check_bytes(rt: &HostRuntime, path: &str, wanted: Option<&[u8]>) -> Result<(), Fail> {
+    check(has_bytes(rt, path, wanted)?, "bytes of the file", &[path])?;
+    Ok(())
+}
 
 const OUT_OF_MEMORY: &str = "flashback: OutOfMemory\n";
 

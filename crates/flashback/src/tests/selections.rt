@@ -1,118 +1,291 @@
 //! Parts of a log, and other logs than one inserting transaction.
 
-use super::ROWS_TYPE;
-use super::both_outputs::{check_both_outputs, check_refused};
-use super::logs::with_byte;
-use sample_logs::logs::insert_and_drop;
-use sample_logs::small::INSERT_ONE_ROW;
+use super::play;
 use std::test::Fail;
-
-/// Where the events of the log begin.
-const FIRST: usize = 120;
-
-/// Where the table map has the type of its column.
-const COLUMN_TYPE: usize = 193;
-
-/// The log without its last byte.
-fn cut() -> &'static [u8] {
-    INSERT_ONE_ROW.split_last().map_or(&[], |(_, front)| front)
-}
-
-/// Selections of the whole log where it is undone.
-static UNDOING: [&[&str]; 6] = [
-    &["-B", "-j", "0"],
-    &["-B", "-j", "4"],
-    &["-B", "-j", "120"],
-    &["-B", "--stop-position", "259"],
-    &["-B", "-d", "d"],
-    &["-B", "-T", "t"],
-];
-
-/// The same where it is written as it stands.
-static FORWARD: [&[&str]; 2] = [&["--forward"], &["--forward", "-d", "d", "-T", "t"]];
-
-/// Selections of nothing.
-static NOTHING: [&[&str]; 6] = [
-    &["-B", "-j", "259"],
-    &["-B", "-d", "e"],
-    &["-B", "-d", "D"],
-    &["-B", "-d", ""],
-    &["-B", "-T", "d"],
-    &["-B", "-j", "160", "--stop-position", "100"],
-];
-
-/// Each of these selections of the log has this output.
-fn check_selections(rt: &HostRuntime, selections: &[&[&str]], wanted: &[u8]) -> Result<(), Fail> {
-    for arguments in selections {
-        check_both_outputs(rt, "selected", INSERT_ONE_ROW.as_slice(), arguments, wanted)?;
-    }
-    Ok(())
-}
 
 #[test]
 fn each_selection_has_its_output(rt: HostRuntime) -> Result<(), Fail> {
-    let undone = with_byte(rt.alloc(), ROWS_TYPE, 0x20)?;
-    check_selections(&rt, &UNDOING, undone.as_slice())?;
-    check_selections(&rt, &FORWARD, INSERT_ONE_ROW.as_slice())?;
-    check_selections(&rt, &NOTHING, INSERT_ONE_ROW.get(..FIRST).unwrap_or(&[]))
+    play(
+        &rt,
+        "\
+file log INSERT_ONE_ROW
+$ -B -j 0 @log
+>+ INSERT_ONE_ROW 200=32
+>* written
+$ -B -j 0 -r @new @log
+same new @written
+remove new
+file old long
+$ -B -j 0 -r @old @log
+same old @written
+$ -B -j 4 @log
+>+ INSERT_ONE_ROW 200=32
+>* written
+$ -B -j 4 -r @new @log
+same new @written
+remove new
+file old long
+$ -B -j 4 -r @old @log
+same old @written
+$ -B -j 120 @log
+>+ INSERT_ONE_ROW 200=32
+>* written
+$ -B -j 120 -r @new @log
+same new @written
+remove new
+file old long
+$ -B -j 120 -r @old @log
+same old @written
+$ -B --stop-position 259 @log
+>+ INSERT_ONE_ROW 200=32
+>* written
+$ -B --stop-position 259 -r @new @log
+same new @written
+remove new
+file old long
+$ -B --stop-position 259 -r @old @log
+same old @written
+$ -B -d d @log
+>+ INSERT_ONE_ROW 200=32
+>* written
+$ -B -d d -r @new @log
+same new @written
+remove new
+file old long
+$ -B -d d -r @old @log
+same old @written
+$ -B -T t @log
+>+ INSERT_ONE_ROW 200=32
+>* written
+$ -B -T t -r @new @log
+same new @written
+remove new
+file old long
+$ -B -T t -r @old @log
+same old @written
+$ --forward @log
+>+ INSERT_ONE_ROW
+>* written
+$ --forward -r @new @log
+same new @written
+remove new
+file old long
+$ --forward -r @old @log
+same old @written
+$ --forward -d d -T t @log
+>+ INSERT_ONE_ROW
+>* written
+$ --forward -d d -T t -r @new @log
+same new @written
+remove new
+file old long
+$ --forward -d d -T t -r @old @log
+same old @written
+$ -B -j 259 @log
+>+ INSERT_ONE_ROW ..120
+>* written
+$ -B -j 259 -r @new @log
+same new @written
+remove new
+file old long
+$ -B -j 259 -r @old @log
+same old @written
+$ -B -d e @log
+>+ INSERT_ONE_ROW ..120
+>* written
+$ -B -d e -r @new @log
+same new @written
+remove new
+file old long
+$ -B -d e -r @old @log
+same old @written
+$ -B -d D @log
+>+ INSERT_ONE_ROW ..120
+>* written
+$ -B -d D -r @new @log
+same new @written
+remove new
+file old long
+$ -B -d D -r @old @log
+same old @written
+$ -B -d '' @log
+>+ INSERT_ONE_ROW ..120
+>* written
+$ -B -d '' -r @new @log
+same new @written
+remove new
+file old long
+$ -B -d '' -r @old @log
+same old @written
+$ -B -T d @log
+>+ INSERT_ONE_ROW ..120
+>* written
+$ -B -T d -r @new @log
+same new @written
+remove new
+file old long
+$ -B -T d -r @old @log
+same old @written
+$ -B -j 160 --stop-position 100 @log
+>+ INSERT_ONE_ROW ..120
+>* written
+$ -B -j 160 --stop-position 100 -r @new @log
+same new @written
+remove new
+file old long
+$ -B -j 160 --stop-position 100 -r @old @log
+same old @written",
+    )
 }
-
-/// Selections that are refused, with their lines.
-static REFUSED: [(&[&str], &str); 5] = [
-    (&["-B", "-j", "159"], "flashback: OutOfPlace at 159\n"),
-    (&["-B", "-j", "160"], "flashback: NoEventAt at 160\n"),
-    (&["-B", "-j", "300"], "flashback: NoEventAt at 300\n"),
-    (
-        &["-B", "--stop-position", "232"],
-        "flashback: Unended at 232\n",
-    ),
-    (
-        &["--forward", "--stop-position", "232"],
-        "flashback: Unended at 232\n",
-    ),
-];
 
 #[test]
 fn each_selection_has_its_fault(rt: HostRuntime) -> Result<(), Fail> {
-    for (arguments, line) in &REFUSED {
-        check_refused(
-            &rt,
-            "unselected",
-            INSERT_ONE_ROW.as_slice(),
-            arguments,
-            line,
-        )?;
-    }
-    Ok(())
+    play(
+        &rt,
+        "\
+file log INSERT_ONE_ROW
+$ -B -j 159 @log
+! flashback: OutOfPlace at 159
+= 1
+$ -B -j 159 -r @new @log
+! flashback: OutOfPlace at 159
+= 1
+none new
+file old long
+$ -B -j 159 -r @old @log
+! flashback: OutOfPlace at 159
+= 1
+same old long
+$ -B -j 160 @log
+! flashback: NoEventAt at 160
+= 1
+$ -B -j 160 -r @new @log
+! flashback: NoEventAt at 160
+= 1
+none new
+file old long
+$ -B -j 160 -r @old @log
+! flashback: NoEventAt at 160
+= 1
+same old long
+$ -B -j 300 @log
+! flashback: NoEventAt at 300
+= 1
+$ -B -j 300 -r @new @log
+! flashback: NoEventAt at 300
+= 1
+none new
+file old long
+$ -B -j 300 -r @old @log
+! flashback: NoEventAt at 300
+= 1
+same old long
+$ -B --stop-position 232 @log
+! flashback: Unended at 232
+= 1
+$ -B --stop-position 232 -r @new @log
+! flashback: Unended at 232
+= 1
+none new
+file old long
+$ -B --stop-position 232 -r @old @log
+! flashback: Unended at 232
+= 1
+same old long
+$ --forward --stop-position 232 @log
+! flashback: Unended at 232
+= 1
+$ --forward --stop-position 232 -r @new @log
+! flashback: Unended at 232
+= 1
+none new
+file old long
+$ --forward --stop-position 232 -r @old @log
+! flashback: Unended at 232
+= 1
+same old long",
+    )
 }
 
 #[test]
 fn a_cut_log_leaves_the_file_alone(rt: HostRuntime) -> Result<(), Fail> {
-    check_refused(&rt, "cut", cut(), &["-B"], "flashback: CutEvent at 232\n")
-}
-
-/// A log with an event that can't be undone behind 259 is undone up to there.
-fn check_stop(rt: &HostRuntime, log: &[u8]) -> Result<(), Fail> {
-    let undone = with_byte(rt.alloc(), ROWS_TYPE, 0x20)?;
-    check_refused(rt, "drop", log, &["-B"], "flashback: Statement at 259\n")?;
-    let arguments = ["-B", "--stop-position", "259"];
-    check_both_outputs(rt, "drop", log, &arguments, undone.as_slice())
+    play(
+        &rt,
+        "\
+file log INSERT_ONE_ROW ..258
+$ -B @log
+! flashback: CutEvent at 232
+= 1
+$ -B -r @new @log
+! flashback: CutEvent at 232
+= 1
+none new
+file old long
+$ -B -r @old @log
+! flashback: CutEvent at 232
+= 1
+same old long",
+    )
 }
 
 #[test]
 fn a_stop_leaves_out_what_cannot_be_undone(rt: HostRuntime) -> Result<(), Fail> {
-    check_stop(&rt, insert_and_drop(&rt)?.as_slice())
-}
-
-/// A log whose table can't be undone has nothing of another schema.
-fn check_other_table(rt: &HostRuntime, log: &[u8]) -> Result<(), Fail> {
-    check_refused(rt, "type", log, &["-B"], "flashback: UnknownType at 159\n")?;
-    let nothing = log.get(..FIRST).unwrap_or(&[]);
-    check_both_outputs(rt, "type", log, &["-B", "-d", "e"], nothing)
+    play(
+        &rt,
+        "\
+# an event that can't be undone is at 259
+file log dropped
+$ -B @log
+! flashback: Statement at 259
+= 1
+$ -B -r @new @log
+! flashback: Statement at 259
+= 1
+none new
+file old long
+$ -B -r @old @log
+! flashback: Statement at 259
+= 1
+same old long
+$ -B --stop-position 259 @log
+>+ INSERT_ONE_ROW 200=32
+>* written
+$ -B --stop-position 259 -r @new @log
+same new @written
+remove new
+file old long
+$ -B --stop-position 259 -r @old @log
+same old @written",
+    )
 }
 
 #[test]
 fn other_tables_are_not_judged(rt: HostRuntime) -> Result<(), Fail> {
-    let log = with_byte(rt.alloc(), COLUMN_TYPE, 0x06)?;
-    check_other_table(&rt, log.as_slice())
+    play(
+        &rt,
+        "\
+# the type of the column can't be undone
+file log INSERT_ONE_ROW 193=6
+$ -B @log
+! flashback: UnknownType at 159
+= 1
+$ -B -r @new @log
+! flashback: UnknownType at 159
+= 1
+none new
+file old long
+$ -B -r @old @log
+! flashback: UnknownType at 159
+= 1
+same old long
+$ -B -d e @log
+>+ @log ..120
+>* written
+$ -B -d e -r @new @log
+same new @written
+remove new
+file old long
+$ -B -d e -r @old @log
+same old @written",
+    )
 }

@@ -1,7 +1,7 @@
 //! Logs with rows events of version 1, and of a server before 5.6.1.
 
-use super::both_outputs::{COUNTED, DONE, UNDONE, check_both_outputs, check_printed};
-use sample_logs::small::{INSERT_ONE_ROW, OLD_SERVER};
+use super::{named, play, play_with};
+use sample_logs::small::INSERT_ONE_ROW;
 use std::test::Fail;
 
 /// The rows event at 196 as version 1 has it: without an extra length.
@@ -12,27 +12,6 @@ const ROWS: [u8; 34] = [
 
 /// Where the end of the transaction has the lowest byte of its log_pos, behind those rows.
 const LOG_POS: usize = 243;
-
-/// What is printed of each log.
-static PRINTED: [(&[&str], &str); 3] = [
-    (&["-B", "--sql"], UNDONE),
-    (&["--forward", "--sql"], DONE),
-    (&["--summary"], COUNTED),
-];
-
-/// The changes of a log and what undoes them are written to both outputs, also printed and counted.
-fn check_outputs(rt: &HostRuntime, name: &str, log: &[u8], undone: &[u8]) -> Result<(), Fail> {
-    check_both_outputs(rt, name, log, &["-B"], undone)?;
-    check_both_outputs(rt, name, log, &["--forward"], log)?;
-    check_printed(rt, name, log, &PRINTED)
-}
-
-/// The same, where undone is the log with the type of its rows event, at `at`, set to that of deletes.
-fn check_log(rt: &HostRuntime, name: &str, log: &[u8], at: usize) -> Result<(), Fail> {
-    let mut undone = log.to_vec(rt.alloc())?;
-    *undone.get_mut(at).ok_or("a short log")? = 25;
-    check_outputs(rt, name, log, undone.as_slice())
-}
 
 /// The log with that rows event.
 fn version_1(rt: &HostRuntime) -> Result<Vec<u8>, Fail> {
@@ -46,10 +25,129 @@ fn version_1(rt: &HostRuntime) -> Result<Vec<u8>, Fail> {
 #[test]
 fn rows_of_version_1_are_undone(rt: HostRuntime) -> Result<(), Fail> {
     let log = version_1(&rt)?;
-    check_log(&rt, "version-one", log.as_slice(), 200)
+    play_with(
+        &rt,
+        &[named("version_1", &log)],
+        "\
+file log version_1
+$ -B @log
+>+ version_1 200=25
+>* written
+$ -B -r @new @log
+same new @written
+remove new
+file old long
+$ -B -r @old @log
+same old @written
+$ --forward @log
+>+ version_1
+>* written
+$ --forward -r @new @log
+same new @written
+remove new
+file old long
+$ --forward -r @old @log
+same old @written
+$ -B --sql @log
+> BEGIN
+> ### DELETE FROM `d`.`t`
+> ### WHERE
+> ###   @1=X'05000000'
+> COMMIT
+>* written
+$ -B --sql -r @new @log
+same new @written
+remove new
+file old long
+$ -B --sql -r @old @log
+same old @written
+$ --forward --sql @log
+> BEGIN
+> ### INSERT INTO `d`.`t`
+> ### SET
+> ###   @1=X'05000000'
+> COMMIT
+>* written
+$ --forward --sql -r @new @log
+same new @written
+remove new
+file old long
+$ --forward --sql -r @old @log
+same old @written
+$ --summary @log
+> transactions 1
+> statements 1
+> `d`.`t` inserts 1 updates 0 deletes 0
+>* written
+$ --summary -r @new @log
+same new @written
+remove new
+file old long
+$ --summary -r @old @log
+same old @written",
+    )
 }
 
 #[test]
 fn a_log_of_an_old_server_is_undone(rt: HostRuntime) -> Result<(), Fail> {
-    check_log(&rt, "old-server", &OLD_SERVER, 187)
+    play(
+        &rt,
+        "\
+file log OLD_SERVER
+$ -B @log
+>+ OLD_SERVER 187=25
+>* written
+$ -B -r @new @log
+same new @written
+remove new
+file old long
+$ -B -r @old @log
+same old @written
+$ --forward @log
+>+ OLD_SERVER
+>* written
+$ --forward -r @new @log
+same new @written
+remove new
+file old long
+$ --forward -r @old @log
+same old @written
+$ -B --sql @log
+> BEGIN
+> ### DELETE FROM `d`.`t`
+> ### WHERE
+> ###   @1=X'05000000'
+> COMMIT
+>* written
+$ -B --sql -r @new @log
+same new @written
+remove new
+file old long
+$ -B --sql -r @old @log
+same old @written
+$ --forward --sql @log
+> BEGIN
+> ### INSERT INTO `d`.`t`
+> ### SET
+> ###   @1=X'05000000'
+> COMMIT
+>* written
+$ --forward --sql -r @new @log
+same new @written
+remove new
+file old long
+$ --forward --sql -r @old @log
+same old @written
+$ --summary @log
+> transactions 1
+> statements 1
+> `d`.`t` inserts 1 updates 0 deletes 0
+>* written
+$ --summary -r @new @log
+same new @written
+remove new
+file old long
+$ --summary -r @old @log
+same old @written",
+    )
 }

@@ -1,48 +1,63 @@
 //! Arguments that ask for nothing.
 
-use super::{check, check_refusal, run_arguments, run_given};
+use super::{play, run_arguments, run_given};
 use std::io;
+use std::process::Abort;
 use std::test::Fail;
-
-const CHOOSE_ONE: &str = "flashback: choose one of -B, --forward, --summary\n";
-
-const SQL_OF_SUMMARY: &str = "flashback: --sql goes with -B or --forward\n";
-
-/// Arguments that choose no mode, or several.
-static NOT_ONE_MODE: [&[&str]; 10] = [
-    &["a.binlog"],
-    &["-j", "4", "-r", "undo.binlog", "a.binlog"],
-    &["--sql", "a.binlog"],
-    &["-B", "--forward", "a.binlog"],
-    &["-B", "--summary", "a.binlog"],
-    &["--forward", "--summary", "a.binlog"],
-    &["-B", "--forward", "--summary", "a.binlog"],
-    &["--sql", "-B", "--forward", "a.binlog"],
-    &["-B", "--summary", "--sql", "a.binlog"],
-    &["--sql", "-B", "--forward", "--summary", "a.binlog"],
-];
 
 #[test]
 fn wants_exactly_one_mode(rt: HostRuntime) -> Result<(), Fail> {
-    for arguments in &NOT_ONE_MODE {
-        check_refusal(&rt, arguments, 2, CHOOSE_ONE)?;
-    }
-    Ok(())
+    play(
+        &rt,
+        "\
+$ a.binlog
+! flashback: choose one of -B, --forward, --summary
+= 2
+$ -j 4 -r undo.binlog a.binlog
+! flashback: choose one of -B, --forward, --summary
+= 2
+$ --sql a.binlog
+! flashback: choose one of -B, --forward, --summary
+= 2
+$ -B --forward a.binlog
+! flashback: choose one of -B, --forward, --summary
+= 2
+$ -B --summary a.binlog
+! flashback: choose one of -B, --forward, --summary
+= 2
+$ --forward --summary a.binlog
+! flashback: choose one of -B, --forward, --summary
+= 2
+$ -B --forward --summary a.binlog
+! flashback: choose one of -B, --forward, --summary
+= 2
+$ --sql -B --forward a.binlog
+! flashback: choose one of -B, --forward, --summary
+= 2
+$ -B --summary --sql a.binlog
+! flashback: choose one of -B, --forward, --summary
+= 2
+$ --sql -B --forward --summary a.binlog
+! flashback: choose one of -B, --forward, --summary
+= 2",
+    )
 }
-
-/// Arguments that ask for a summary as pseudo-SQL.
-static SUMMARIES: [&[&str]; 3] = [
-    &["--summary", "--sql", "a.binlog"],
-    &["--sql", "a.binlog", "--summary"],
-    &["--sql", "--summary", "-r", "undo.binlog", "a.binlog"],
-];
 
 #[test]
 fn a_summary_is_no_sql(rt: HostRuntime) -> Result<(), Fail> {
-    for arguments in &SUMMARIES {
-        check_refusal(&rt, arguments, 2, SQL_OF_SUMMARY)?;
-    }
-    Ok(())
+    play(
+        &rt,
+        "\
+$ --summary --sql a.binlog
+! flashback: --sql goes with -B or --forward
+= 2
+$ --sql a.binlog --summary
+! flashback: --sql goes with -B or --forward
+= 2
+$ --sql --summary -r undo.binlog a.binlog
+! flashback: --sql goes with -B or --forward
+= 2",
+    )
 }
 
 /// Arguments with control characters, and how the text begins that tells what is wrong.
@@ -76,71 +91,133 @@ fn wrong_arguments_are_told_without_control_characters(rt: HostRuntime) -> Resul
     Ok(())
 }
 
-/// Arguments that the parser refuses.
-static WRONG: [&[&str]; 10] = [
-    &[],
-    &["-B"],
-    &["-B", "--no-such-word", "a.binlog"],
-    &["-B", "a.binlog", "b.binlog"],
-    &["-B", "-B", "a.binlog"],
-    &["-B", "-d", "d", "-d", "e", "a.binlog"],
-    &["-B", "a.binlog", "-r"],
-    &["--summary"],
-    &["-B", "--sql", "--sql", "a.binlog"],
-    &["-B", "--sql=true", "a.binlog"],
-];
-
 #[test]
 fn refuses_wrong_arguments(rt: HostRuntime) -> Result<(), Fail> {
-    for arguments in &WRONG {
-        let wrong = run_arguments(&rt, arguments)?.is_wrong();
-        assert!(rt; wrong, "{arguments:?}");
-    }
-    Ok(())
+    play(
+        &rt,
+        "\
+$
+!~ error: 
+= 2
+$ -B
+!~ error: 
+= 2
+$ -B --no-such-word a.binlog
+!~ error: 
+= 2
+$ -B a.binlog b.binlog
+!~ error: 
+= 2
+$ -B -B a.binlog
+!~ error: 
+= 2
+$ -B -d d -d e a.binlog
+!~ error: 
+= 2
+$ -B a.binlog -r
+!~ error: 
+= 2
+$ --summary
+!~ error: 
+= 2
+$ -B --sql --sql a.binlog
+!~ error: 
+= 2
+$ -B --sql=true a.binlog
+!~ error: 
+= 2",
+    )
 }
 
 #[test]
 fn what_an_argument_may_hold_comes_before_the_count_of_modes(rt: HostRuntime) -> Result<(), Fail> {
-    let outcome = run_arguments(&rt, &["--no-such-word"])?;
-    assert!(rt; !outcome.is_refusal(2, CHOOSE_ONE));
-    Ok(())
-}
-
-/// Arguments that are no position.
-static NO_POSITIONS: [&str; 12] = [
-    "x",
-    "",
-    "+4",
-    "-1",
-    "-0",
-    " 4",
-    "4 ",
-    "4_0",
-    "0x10",
-    "4.0",
-    "4294967296",
-    "18446744073709551620",
-];
-
-/// The argument is refused as this option's value.
-fn check_no_position(rt: &HostRuntime, option: &str, argument: &str) -> Result<(), Fail> {
-    let outcome = run_arguments(rt, &["-B", option, argument, "a.binlog"])?;
-    check(outcome.is_wrong(), "outcome", &[option, argument])?;
-    check(
-        str::from_utf8(outcome.errors())?.contains("invalid value"),
-        "errors",
-        &[option, argument],
-    )?;
-    Ok(())
+    play(
+        &rt,
+        "\
+$ --no-such-word
+!~ error: unexpected argument '--no-such-word' found
+= 2",
+    )
 }
 
 #[test]
 fn refuses_wrong_positions(rt: HostRuntime) -> Result<(), Fail> {
-    for argument in &NO_POSITIONS {
-        check_no_position(&rt, "-j", argument)?;
-        check_no_position(&rt, "--stop-position", argument)?;
-    }
-    Ok(())
+    play(
+        &rt,
+        "\
+$ -B -j x a.binlog
+!~ error: invalid value 'x' for '--start-position <POS>': not a position: 
+= 2
+$ -B --stop-position x a.binlog
+!~ error: invalid value 'x' for '--stop-position <POS>': not a position: 
+= 2
+$ -B -j '' a.binlog
+!~ error: invalid value '' for '--start-position <POS>': not a position: 
+= 2
+$ -B --stop-position '' a.binlog
+!~ error: invalid value '' for '--stop-position <POS>': not a position: 
+= 2
+$ -B -j +4 a.binlog
+!~ error: invalid value '+4' for '--start-position <POS>': not a position: 
+= 2
+$ -B --stop-position +4 a.binlog
+!~ error: invalid value '+4' for '--stop-position <POS>': not a position: 
+= 2
+$ -B -j -1 a.binlog
+!~ error: invalid value '-1' for '--start-position <POS>': not a position: 
+= 2
+$ -B --stop-position -1 a.binlog
+!~ error: invalid value '-1' for '--stop-position <POS>': not a position: 
+= 2
+$ -B -j -0 a.binlog
+!~ error: invalid value '-0' for '--start-position <POS>': not a position: 
+= 2
+$ -B --stop-position -0 a.binlog
+!~ error: invalid value '-0' for '--stop-position <POS>': not a position: 
+= 2
+$ -B -j ' 4' a.binlog
+!~ error: invalid value ' 4' for '--start-position <POS>': not a position: 
+= 2
+$ -B --stop-position ' 4' a.binlog
+!~ error: invalid value ' 4' for '--stop-position <POS>': not a position: 
+= 2
+$ -B -j '4 ' a.binlog
+!~ error: invalid value '4 ' for '--start-position <POS>': not a position: 
+= 2
+$ -B --stop-position '4 ' a.binlog
+!~ error: invalid value '4 ' for '--stop-position <POS>': not a position: 
+= 2
+$ -B -j 4_0 a.binlog
+!~ error: invalid value '4_0' for '--start-position <POS>': not a position: 
+= 2
+$ -B --stop-position 4_0 a.binlog
+!~ error: invalid value '4_0' for '--stop-position <POS>': not a position: 
+= 2
+$ -B -j 0x10 a.binlog
+!~ error: invalid value '0x10' for '--start-position <POS>': not a position: 
+= 2
+$ -B --stop-position 0x10 a.binlog
+!~ error: invalid value '0x10' for '--stop-position <POS>': not a position: 
+= 2
+$ -B -j 4.0 a.binlog
+!~ error: invalid value '4.0' for '--start-position <POS>': not a position: 
+= 2
+$ -B --stop-position 4.0 a.binlog
+!~ error: invalid value '4.0' for '--stop-position <POS>': not a position: 
+= 2
+$ -B -j 4294967296 a.binlog
+!~ error: invalid value '4294967296' for '--start-position <POS>': not a position: 
+= 2
+$ -B --stop-position 4294967296 a.binlog
+!~ error: invalid value '4294967296' for '--stop-position <POS>': not a position: 
+= 2
+$ -B -j 18446744073709551620 a.binlog
+!~ error: invalid value '18446744073709551620' for '--start-position <POS>': not a position: 
+= 2
+$ -B --stop-position 18446744073709551620 a.binlog
+!~ error: invalid value '18446744073709551620' for '--stop-position <POS>': not a position: 
+= 2",
+    )
 }
 
 #[test]

@@ -1,0 +1,102 @@
+//! Scripts of runs of `binlog`.
+
+use crate::{run_in, this_process};
+use binlog_command::Process;
+use sample_logs::logs::insert_and_drop;
+use sample_logs::small::{INSERT_ONE_ROW, PLAIN, SUMMED};
+use sample_logs::summed::{CLOSED, CLOSED_PLAIN, IN_USE, IN_USE_PLAIN};
+use std::test::Fail;
+use testkit::runs::Outcome;
+use transcripts::{Named, Program};
+
+/// What is printed after each wrong command.
+const USAGE: &str = "
+Usage: binlog list [-d NAME] [-T NAME] [-j POS] [--stop-position POS]
+                   [--start-datetime TIME] [--stop-datetime TIME]
+                   [--utc | --time-zone NAME] [--json] LOG..
+       binlog undo [--later LOG].. [--anyway] [-j POS] [--stop-position POS]
+                   [-d NAME] [-T NAME]
+                   [--dry-run] [-r FILE [--force]] LOG
+       binlog redo [-j POS] [--stop-position POS] [-d NAME] [-T NAME]
+                   [--dry-run] [-r FILE [--force]] LOG
+       binlog plain [-r FILE [--force]] LOG
+       binlog split [--size BYTES] [-r FILE [--force]] LOG
+       binlog sql [--each-transaction] [--keep-times] [--size BYTES]
+                  [--rewrite-db FROM:TO].. [-r FILE [--force]] LOG
+
+For more information, try '--help'.
+";
+
+/// The same where `plain` was given.
+const PLAIN_USAGE: &str =
+    "\nUsage: binlog plain [-r FILE [--force]] LOG\n\nFor more information, try '--help'.\n";
+
+/// `binlog`, whose standard output is a terminal or not.
+#[derive(Clone, Copy)]
+struct Binlog {
+    writes_to_terminal: bool,
+}
+
+impl Program for Binlog {
+    fn name(&self) -> &'static str {
+        "binlog"
+    }
+
+    fn run(&self, rt: &HostRuntime, arguments: Vec<String>) -> Outcome {
+        let process = Process {
+            writes_to_terminal: self.writes_to_terminal,
+            ..this_process(rt)
+        };
+        run_in(rt, process, Ok(arguments))
+    }
+}
+
+/// A log with this name in scripts.
+pub fn named<'a>(name: &'a str, bytes: &'a [u8]) -> Named<'a> {
+    Named { name, bytes }
+}
+
+/// Plays a script, which can name these logs beside those below. `dropped` is a transaction that inserts a row, and a `DROP TABLE`;
+/// `usage` is what is printed behind the line on wrong arguments.
+fn play_by(
+    rt: &HostRuntime,
+    binlog: &Binlog,
+    given: &[Named<'_>],
+    script: &str,
+) -> Result<(), Fail> {
+    let dropped = insert_and_drop(rt)?;
+    let logs = [
+        named("dropped", &dropped),
+        named("usage", USAGE.as_bytes()),
+        named("plain_usage", PLAIN_USAGE.as_bytes()),
+        named("PLAIN", &PLAIN),
+        named("SUMMED", &SUMMED),
+        named("INSERT_ONE_ROW", &INSERT_ONE_ROW),
+        named("CLOSED", &CLOSED),
+        named("CLOSED_PLAIN", &CLOSED_PLAIN),
+        named("IN_USE", &IN_USE),
+        named("IN_USE_PLAIN", &IN_USE_PLAIN),
+    ];
+    Ok(transcripts::play(rt, binlog, given, logs.as_slice(), script)?)
+}
+
+/// Plays a script that can name these logs too.
+pub fn play_with(rt: &HostRuntime, given: &[Named<'_>], script: &str) -> Result<(), Fail> {
+    let binlog = Binlog {
+        writes_to_terminal: false,
+    };
+    play_by(rt, &binlog, given, script)
+}
+
+/// Plays a script.
+pub fn play(rt: &HostRuntime, script: &str) -> Result<(), Fail> {
+    play_with(rt, &[], script)
+}
+
+/// Plays a script, where standard output is a terminal.
+pub fn play_on_terminal(rt: &HostRuntime, script: &str) -> Result<(), Fail> {
+    let binlog = Binlog {
+        writes_to_terminal: true,
+    };
+    play_by(rt, &binlog, &[], script)
+}

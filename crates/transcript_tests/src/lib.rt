@@ -1,0 +1,5 @@
+//! Tests of scripts.
+#![tactic(auto)]
+
+#[cfg(test)]
+mod script_tests;

@@ -1,0 +1,38 @@
+//! Transcripts: runs of a program over files in a folder of their own, as a script.
+//!
+//! Each line of a script is one of these. `BYTES` is the name of a log, or `@NAME` for the bytes of a file, and then words that change
+//! them in turn: `..N` takes the first N bytes, `^N` flips the last bit of byte N, `N=B` sets byte N to B.
+//!
+//! | Line | Meaning |
+//! |---|---|
+//! | `file NAME BYTES` | there is a file of these bytes |
+//! | `log NAME PARTS` | there is a log of these events: `begin`, `commit`, `xid`, `query:TEXT`, `gtid:N`, `rotate:LOG`, `other:TYPE:LENGTH`; `map:ID:TABLE`, of a table in `d` of one integer; and `insert:ID:VALUES`, `delete:ID:VALUES`, `update:ID:VALUES` with values between commas, of an update in turn before and after |
+//! | `text NAME TEXT` | there is a file of this text, without a line feed |
+//! | `link NAME OLD` | the file OLD has a second name |
+//! | `folder NAME` | there is a folder |
+//! | `remove NAME` | the file is removed |
+//! | `$ WORDS` | a run with these arguments; one in apostrophes may have blanks, and an `@` before a name stands for the folder's path |
+//! | `= STATUS` | the run ends with this status, and with 0 if there is no such line |
+//! | `> TEXT` | it writes this line to standard output |
+//! | `! TEXT` | it writes this line to standard error |
+//! | `>+ BYTES` | it writes these bytes next to standard output |
+//! | `!+ BYTES` | it writes these bytes next to standard error |
+//! | `>~ TEXT` | it writes this text to standard output, among others |
+//! | `!~ TEXT` | its next line on standard error begins so: its first one, and then those behind; and the last ends with a line feed |
+//! | `>* NAME` | what it writes to standard output, whatever it is, is put into the file NAME |
+//! | `same NAME BYTES` | the file has these bytes |
+//! | `differ NAME BYTES` | it has others |
+//! | `none NAME` | there is no file of this name |
+//!
+//! An empty line means nothing, nor does one that begins with `# `. In what is written the folder's path is shown as `@`, too. A run writes nothing but what its lines say.
+#![tactic(auto)]
+
+mod parts;
+mod runs;
+mod stage;
+mod words;
+mod wrong;
+
+pub use runs::Program;
+pub use stage::{Named, play};
+pub use wrong::Wrong;
