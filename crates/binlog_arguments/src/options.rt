@@ -6,9 +6,8 @@ use crate::help::{
     SPLIT_USAGE, SQL_ABOUT, SQL_AFTER_HELP, SQL_USAGE, UNDO_ABOUT, UNDO_AFTER_HELP, UNDO_USAGE,
     USAGE,
 };
-use clap::builder::ValueParser;
-use clap::{Arg, ArgAction, Command};
-use console::{VERSION, flag, option};
+use clap::Command;
+use console::{Described, FLAG, Takes, VERSION, add_arguments};
 use std::alloc::{AllocError, Global};
 
 /// The name of the command `plain`.
@@ -102,59 +101,17 @@ pub fn all_arguments<'a>(alloc: Global) -> Result<Command<'a>, AllocError> {
         .subcommand(sql_arguments(alloc)?)
 }
 
-/// The command `plain`, with its options.
-fn plain_arguments<'a>(alloc: Global) -> Result<Command<'a>, AllocError> {
-    let command = Command::new(alloc, PLAIN)
-        .about(PLAIN_ABOUT)
-        .override_usage(PLAIN_USAGE)
-        .after_help(PLAIN_AFTER_HELP);
-    new_log_arguments(
-        alloc,
-        command,
-        "Write to FILE, which must not be there, unless it is a device or a pipe",
-    )
-}
-
-/// The command `split`, with its options.
-fn split_arguments<'a>(alloc: Global) -> Result<Command<'a>, AllocError> {
-    let command = Command::new(alloc, SPLIT)
-        .about(SPLIT_ABOUT)
-        .override_usage(SPLIT_USAGE)
-        .after_help(SPLIT_AFTER_HELP);
-    new_log_arguments(
-        alloc,
-        command.arg(size_argument(alloc))?,
-        "Write to FILE, which must not be there, unless it is a device or a pipe",
-    )
-}
-
-/// The option `--size`.
-fn size_argument<'a>(alloc: Global) -> Arg<'a> {
-    option(alloc, SIZE, "BYTES").help(
-        "The most bytes of a statement, headers included, from 1024 on; 8000000 if it isn't given",
-    )
-}
-
-/// The command `sql`, with its options.
-fn sql_arguments<'a>(alloc: Global) -> Result<Command<'a>, AllocError> {
-    let command = Command::new(alloc, SQL)
-        .about(SQL_ABOUT)
-        .override_usage(SQL_USAGE)
-        .after_help(SQL_AFTER_HELP);
-    let each = flag(alloc, EACH_TRANSACTION).help("Commit each transaction of LOG by itself");
-    let command = command.arg(each)?;
-    let times = flag(alloc, KEEP_TIMES).help("Leave the times of events as they are");
-    let command = command.arg(times)?;
-    let command = command.arg(size_argument(alloc))?;
-    let rewritten = option(alloc, REWRITTEN, "FROM:TO").help(
-        "Change tables of database TO where LOG has FROM; can be given several times",
-    );
-    let command = command.arg(rewritten.action(ArgAction::Append))?;
-    new_log_arguments(
-        alloc,
-        command,
-        "Write to FILE, which must not be there, unless it is a device or a pipe",
-    )
+/// The command `list`, with its options.
+fn list_arguments<'a>(alloc: Global) -> Result<Command<'a>, AllocError> {
+    let command = Command::new(alloc, LIST)
+        .about(LIST_ABOUT)
+        .override_usage(LIST_USAGE)
+        .after_help(LIST_AFTER_HELP);
+    let command = add_arguments(alloc, command, &LISTED)?;
+    let command = add_arguments(alloc, command, &UNITS)?;
+    let command = add_arguments(alloc, command, &SHOWN)?;
+    let command = add_arguments(alloc, command, &ZONES)?;
+    add_arguments(alloc, command, &ORDERS)
 }
 
 /// The command `undo`, with its options.
@@ -163,15 +120,12 @@ fn undo_arguments<'a>(alloc: Global) -> Result<Command<'a>, AllocError> {
         .about(UNDO_ABOUT)
         .override_usage(UNDO_USAGE)
         .after_help(UNDO_AFTER_HELP);
-    let anyway = flag(alloc, ANYWAY).help(
-        "Undo without looking at what came later, and overwrite it",
-    );
-    let command = command.arg(anyway)?;
-    let later = option(alloc, LATER, "LOG").help(
-        "Look at this later log of the server too; can be given several times",
-    );
-    let command = command.arg(later.action(ArgAction::Append).conflicts_with(ANYWAY)?)?;
-    part_arguments(alloc, command)
+    let command = add_arguments(alloc, command, &OF_UNDO)?;
+    let command = add_arguments(alloc, command, &PARTS)?;
+    let command = add_arguments(alloc, command, &UNITS)?;
+    let command = add_arguments(alloc, command, &ZONES)?;
+    let command = add_arguments(alloc, command, &WRITTEN)?;
+    add_arguments(alloc, command, &RESULTS)
 }
 
 /// The command `redo`, with its options.
@@ -180,148 +134,309 @@ fn redo_arguments<'a>(alloc: Global) -> Result<Command<'a>, AllocError> {
         .about(REDO_ABOUT)
         .override_usage(REDO_USAGE)
         .after_help(REDO_AFTER_HELP);
-    part_arguments(alloc, command)
+    let command = add_arguments(alloc, command, &PARTS)?;
+    let command = add_arguments(alloc, command, &UNITS)?;
+    let command = add_arguments(alloc, command, &ZONES)?;
+    let command = add_arguments(alloc, command, &WRITTEN)?;
+    add_arguments(alloc, command, &RESULTS)
 }
 
-/// Adds the options of `undo` and `redo` that they share, and their argument LOG.
-fn part_arguments<'a>(alloc: Global, command: Command<'a>) -> Result<Command<'a>, AllocError> {
-    let command = at_argument(alloc, selection_options(alloc, command)?)?;
-    let command = unit_arguments(alloc, command)?;
-    let command = sql_options(alloc, zone_arguments(alloc, command)?)?;
-    let as_log = flag(alloc, AS_LOG).help("Write a binary log, and no SQL");
-    let command = command.arg(as_log)?;
-    let dry_run = flag(alloc, DRY_RUN).help("Write nothing but the report");
-    let command = command.arg(dry_run)?;
-    new_log_arguments(
-        alloc,
-        command,
-        "Write to FILE, which must not be there, unless it is a device or a pipe",
-    )
+/// The command `plain`, with its options.
+fn plain_arguments<'a>(alloc: Global) -> Result<Command<'a>, AllocError> {
+    let command = Command::new(alloc, PLAIN)
+        .about(PLAIN_ABOUT)
+        .override_usage(PLAIN_USAGE)
+        .after_help(PLAIN_AFTER_HELP);
+    add_arguments(alloc, command, &RESULTS)
 }
 
-/// Adds the options that select a part of a log.
-fn selection_options<'a>(alloc: Global, command: Command<'a>) -> Result<Command<'a>, AllocError> {
-    let start = option(alloc, START, "POS").help("Start at the event that begins at POS");
-    let command = command.arg(start.short('j'))?;
-    let stop = option(alloc, STOP, "POS").help("Stop before the event that begins at POS");
-    let command = command.arg(stop)?;
-    let database = option(alloc, DATABASE, "NAME").help("Only tables of this database");
-    let command = command.arg(database.short('d'))?;
-    let table = option(alloc, TABLE, "[NAME.]NAME").help("Only this table");
-    command.arg(table.short('T'))
+/// The command `split`, with its options.
+fn split_arguments<'a>(alloc: Global) -> Result<Command<'a>, AllocError> {
+    let command = Command::new(alloc, SPLIT)
+        .about(SPLIT_ABOUT)
+        .override_usage(SPLIT_USAGE)
+        .after_help(SPLIT_AFTER_HELP);
+    let command = add_arguments(alloc, command, &SIZES)?;
+    add_arguments(alloc, command, &RESULTS)
 }
 
-/// Adds the options of the SQL of a part.
-fn sql_options<'a>(alloc: Global, command: Command<'a>) -> Result<Command<'a>, AllocError> {
-    let each = flag(alloc, EACH_TRANSACTION).help("Commit each transaction by itself");
-    let command = command.arg(each)?;
-    let times = flag(alloc, KEEP_TIMES).help("Leave the times of events as they are");
-    let command = command.arg(times.conflicts_with(AS_LOG)?)?;
-    let command = command.arg(size_argument(alloc))?;
-    let rewritten = option(alloc, REWRITTEN, "FROM:TO").help(
-        "Change tables of database TO where LOG has FROM; can be given several times",
-    );
-    command.arg(rewritten.action(ArgAction::Append).conflicts_with(AS_LOG)?)
+/// The command `sql`, with its options.
+fn sql_arguments<'a>(alloc: Global) -> Result<Command<'a>, AllocError> {
+    let command = Command::new(alloc, SQL)
+        .about(SQL_ABOUT)
+        .override_usage(SQL_USAGE)
+        .after_help(SQL_AFTER_HELP);
+    let command = add_arguments(alloc, command, &OF_SQL)?;
+    add_arguments(alloc, command, &RESULTS)
 }
 
-/// Adds the options of a command that makes a new log, and its argument LOG.
-fn new_log_arguments<'a>(
-    alloc: Global,
-    command: Command<'a>,
-    creating: &'a str,
-) -> Result<Command<'a>, AllocError> {
-    let file = option(alloc, RESULT_FILE, "FILE")
-        .value_parser(ValueParser::NonEmptyString)
-        .help(creating);
-    let command = command.arg(file.short('r'))?;
-    let force = flag(alloc, FORCE).help("With -r: replace FILE if it is there");
-    let command = command.arg(force)?;
-    let log = Arg::new(alloc, LOG).help("The binary log, a file");
-    command.arg(log.required(true))
-}
+/// Where a result goes, and the log.
+static RESULTS: [Described<'static>; 3] = [
+    Described {
+        name: RESULT_FILE,
+        short: Some('r'),
+        takes: Takes::FilledValue("FILE"),
+        help: "Write to FILE, which must not be there, unless it is a device or a pipe",
+        ..FLAG
+    },
+    Described {
+        name: FORCE,
+        help: "With -r: replace FILE if it is there",
+        ..FLAG
+    },
+    Described {
+        name: LOG,
+        takes: Takes::Argument,
+        help: "The binary log, a file",
+        ..FLAG
+    },
+];
 
-/// The command `list`, with its options.
-fn list_arguments<'a>(alloc: Global) -> Result<Command<'a>, AllocError> {
-    let command = Command::new(alloc, LIST)
-        .about(LIST_ABOUT)
-        .override_usage(LIST_USAGE)
-        .after_help(LIST_AFTER_HELP);
-    let command = range_arguments(alloc, table_arguments(alloc, command)?)?;
-    let command = unit_arguments(alloc, command)?;
-    let gtid = flag(alloc, SHOW_GTID).help("Print GTIDs too");
-    let command = command.arg(gtid)?;
-    let damaged = flag(alloc, SKIP_DAMAGED).help("Go on after an event whose checksum is wrong");
-    let command = zone_arguments(alloc, command.arg(damaged)?)?;
-    let sorted = option(alloc, SORT, "ORDER")
-        .value_parser(ValueParser::Names(&[BY_ROWS]))
-        .help("List the transactions of each log by how many rows they change, the most first");
-    let command = command.arg(sorted)?;
-    let json = flag(alloc, JSON).help("Write JSON, an object a line");
-    let command = command.arg(json)?;
-    let logs = Arg::new(alloc, LOG)
-        .help("The binary logs, files")
-        .num_args(1..);
-    command.arg(logs.required(true).action(ArgAction::Append))
-}
+/// The size of statements.
+static SIZES: [Described<'static>; 1] = [Described {
+    name: SIZE,
+    takes: Takes::Value("BYTES"),
+    help: "The most bytes of a statement, headers included, from 1024 on; 8000000 if it isn't given",
+    ..FLAG
+}];
 
-/// Adds the options that say in which time zone times are.
-fn zone_arguments<'a>(alloc: Global, command: Command<'a>) -> Result<Command<'a>, AllocError> {
-    let utc = flag(alloc, UTC).help("Read and print times in UTC");
-    let command = command.arg(utc)?;
-    let zone = option(alloc, TIME_ZONE, "NAME").help(
-        "Read and print times in this time zone, such as Europe/Berlin",
-    );
-    command.arg(zone.conflicts_with(UTC)?)
-}
+/// The options of `sql` alone.
+static OF_SQL: [Described<'static>; 4] = [
+    Described {
+        name: EACH_TRANSACTION,
+        help: "Commit each transaction of LOG by itself",
+        ..FLAG
+    },
+    Described {
+        name: KEEP_TIMES,
+        help: "Leave the times of events as they are",
+        ..FLAG
+    },
+    Described {
+        name: SIZE,
+        takes: Takes::Value("BYTES"),
+        help: "The most bytes of a statement, headers included, from 1024 on; 8000000 if it isn't given",
+        ..FLAG
+    },
+    Described {
+        name: REWRITTEN,
+        takes: Takes::Value("FROM:TO"),
+        help: "Change tables of database TO where LOG has FROM; can be given several times",
+        is_repeated: true,
+        ..FLAG
+    },
+];
 
-/// Adds the options that choose tables.
-fn table_arguments<'a>(alloc: Global, command: Command<'a>) -> Result<Command<'a>, AllocError> {
-    let database = option(alloc, DATABASE, "NAME").help(
-        "Only the transactions that change a table of this database",
-    );
-    let command = command.arg(database.short('d'))?;
-    let table = option(alloc, TABLE, "[NAME.]NAME").help(
-        "Only those that change this table; can be given several times",
-    );
-    let command = command.arg(table.short('T').action(ArgAction::Append))?;
-    let excluded = option(alloc, EXCLUDED_TABLE, "[NAME.]NAME").help(
-        "Don't count this table; can be given several times",
-    );
-    command.arg(excluded.action(ArgAction::Append))
-}
+/// The options of `undo` alone.
+static OF_UNDO: [Described<'static>; 2] = [
+    Described {
+        name: ANYWAY,
+        help: "Undo without looking at what came later, and overwrite it",
+        ..FLAG
+    },
+    Described {
+        name: LATER,
+        takes: Takes::Value("LOG"),
+        help: "Look at this later log of the server too; can be given several times",
+        is_repeated: true,
+        excludes: Some(ANYWAY),
+        ..FLAG
+    },
+];
 
-/// Adds the options that bound positions.
-fn range_arguments<'a>(alloc: Global, command: Command<'a>) -> Result<Command<'a>, AllocError> {
-    let start = option(alloc, START, "POS").help(
-        "Only the transactions that start at POS or after it",
-    );
-    let command = command.arg(start.short('j'))?;
-    let stop = option(alloc, STOP, "POS").help("Only those that start before POS");
-    command.arg(stop)
-}
+/// The options that select a part of a log.
+static PARTS: [Described<'static>; 5] = [
+    Described {
+        name: START,
+        short: Some('j'),
+        takes: Takes::Value("POS"),
+        help: "Start at the event that begins at POS",
+        ..FLAG
+    },
+    Described {
+        name: STOP,
+        takes: Takes::Value("POS"),
+        help: "Stop before the event that begins at POS",
+        ..FLAG
+    },
+    Described {
+        name: DATABASE,
+        short: Some('d'),
+        takes: Takes::Value("NAME"),
+        help: "Only tables of this database",
+        ..FLAG
+    },
+    Described {
+        name: TABLE,
+        short: Some('T'),
+        takes: Takes::Value("[NAME.]NAME"),
+        help: "Only this table",
+        ..FLAG
+    },
+    Described {
+        name: AT,
+        takes: Takes::Value("POS"),
+        help: "Only the transaction that starts at POS, or has its BEGIN there; can be given several times",
+        is_repeated: true,
+        ..FLAG
+    },
+];
 
-/// Adds the option that chooses transactions by where they start.
-fn at_argument<'a>(alloc: Global, command: Command<'a>) -> Result<Command<'a>, AllocError> {
-    let at = option(alloc, AT, "POS").help(
-        "Only the transaction that starts at POS, or has its BEGIN there; can be given several times",
-    );
-    command.arg(at.action(ArgAction::Append))
-}
+/// The options that choose transactions by thread, GTID and time.
+static UNITS: [Described<'static>; 4] = [
+    Described {
+        name: THREAD,
+        takes: Takes::Value("N"),
+        help: "Only the transactions of this thread of the server; can be given several times",
+        is_repeated: true,
+        ..FLAG
+    },
+    Described {
+        name: GTID,
+        takes: Takes::Value("GTID"),
+        help: "Only those with this GTID, or one of UUID:N-M; can be given several times",
+        is_repeated: true,
+        ..FLAG
+    },
+    Described {
+        name: START_TIME,
+        takes: Takes::Value("TIME"),
+        help: "Only those of TIME or later: YYYY-MM-DD hh:mm:ss",
+        ..FLAG
+    },
+    Described {
+        name: STOP_TIME,
+        takes: Takes::Value("TIME"),
+        help: "Only those before TIME: YYYY-MM-DD hh:mm:ss",
+        ..FLAG
+    },
+];
 
-/// Adds the options that choose transactions by thread, GTID and time.
-fn unit_arguments<'a>(alloc: Global, command: Command<'a>) -> Result<Command<'a>, AllocError> {
-    let thread = option(alloc, THREAD, "N").help(
-        "Only the transactions of this thread of the server; can be given several times",
-    );
-    let command = command.arg(thread.action(ArgAction::Append))?;
-    let gtid = option(alloc, GTID, "GTID").help(
-        "Only those with this GTID, or one of UUID:N-M; can be given several times",
-    );
-    let command = command.arg(gtid.action(ArgAction::Append))?;
-    let from = option(alloc, START_TIME, "TIME").help(
-        "Only those of TIME or later: YYYY-MM-DD hh:mm:ss",
-    );
-    let command = command.arg(from)?;
-    let to = option(alloc, STOP_TIME, "TIME").help("Only those before TIME: YYYY-MM-DD hh:mm:ss");
-    command.arg(to)
-}
+/// The options that say in which time zone times are.
+static ZONES: [Described<'static>; 2] = [
+    Described {
+        name: UTC,
+        help: "Read and print times in UTC",
+        ..FLAG
+    },
+    Described {
+        name: TIME_ZONE,
+        takes: Takes::Value("NAME"),
+        help: "Read and print times in this time zone, such as Europe/Berlin",
+        excludes: Some(UTC),
+        ..FLAG
+    },
+];
+
+/// The options that say how a part is written.
+static WRITTEN: [Described<'static>; 6] = [
+    Described {
+        name: EACH_TRANSACTION,
+        help: "Commit each transaction by itself",
+        ..FLAG
+    },
+    Described {
+        name: KEEP_TIMES,
+        help: "Leave the times of events as they are",
+        excludes: Some(AS_LOG),
+        ..FLAG
+    },
+    Described {
+        name: SIZE,
+        takes: Takes::Value("BYTES"),
+        help: "The most bytes of a statement, headers included, from 1024 on; 8000000 if it isn't given",
+        ..FLAG
+    },
+    Described {
+        name: REWRITTEN,
+        takes: Takes::Value("FROM:TO"),
+        help: "Change tables of database TO where LOG has FROM; can be given several times",
+        is_repeated: true,
+        excludes: Some(AS_LOG),
+        ..FLAG
+    },
+    Described {
+        name: AS_LOG,
+        help: "Write a binary log, and no SQL",
+        ..FLAG
+    },
+    Described {
+        name: DRY_RUN,
+        help: "Write nothing but the report",
+        ..FLAG
+    },
+];
+
+/// The options that choose which transactions are listed.
+static LISTED: [Described<'static>; 5] = [
+    Described {
+        name: DATABASE,
+        short: Some('d'),
+        takes: Takes::Value("NAME"),
+        help: "Only the transactions that change a table of this database",
+        ..FLAG
+    },
+    Described {
+        name: TABLE,
+        short: Some('T'),
+        takes: Takes::Value("[NAME.]NAME"),
+        help: "Only those that change this table; can be given several times",
+        is_repeated: true,
+        ..FLAG
+    },
+    Described {
+        name: EXCLUDED_TABLE,
+        takes: Takes::Value("[NAME.]NAME"),
+        help: "Don't count this table; can be given several times",
+        is_repeated: true,
+        ..FLAG
+    },
+    Described {
+        name: START,
+        short: Some('j'),
+        takes: Takes::Value("POS"),
+        help: "Only the transactions that start at POS or after it",
+        ..FLAG
+    },
+    Described {
+        name: STOP,
+        takes: Takes::Value("POS"),
+        help: "Only those that start before POS",
+        ..FLAG
+    },
+];
+
+/// The options that say what of them is shown.
+static SHOWN: [Described<'static>; 2] = [
+    Described {
+        name: SHOW_GTID,
+        help: "Print GTIDs too",
+        ..FLAG
+    },
+    Described {
+        name: SKIP_DAMAGED,
+        help: "Go on after an event whose checksum is wrong",
+        ..FLAG
+    },
+];
+
+/// The options that say in which order and form, and the logs.
+static ORDERS: [Described<'static>; 3] = [
+    Described {
+        name: SORT,
+        takes: Takes::OneOf("ORDER", &[BY_ROWS]),
+        help: "List the transactions of each log by how many rows they change, the most first",
+        ..FLAG
+    },
+    Described {
+        name: JSON,
+        help: "Write JSON, an object a line",
+        ..FLAG
+    },
+    Described {
+        name: LOG,
+        takes: Takes::Arguments,
+        help: "The binary logs, files",
+        ..FLAG
+    },
+];

@@ -1,5 +1,4 @@
-//! What the programs have in common at their edge: the lines on standard error, the options that have no value and
-//! those that have one, byte positions among their values, what the parser of arguments answers in place of matches, and
+//! What the programs have in common at their edge: the lines on standard error, the options of a command, byte positions among their values, what the parser of arguments answers in place of matches, and
 //! the seed of a run.
 #![tactic(auto)]
 
@@ -9,7 +8,7 @@ mod lines;
 mod positions;
 mod seed;
 
-pub use arguments::{Told, flag, option, read_error};
+pub use arguments::{Described, FLAG, Takes, Told, add_arguments, read_error};
 pub use escapes::{are_harmless, escaped_arguments};
 pub use lines::put_line;
 pub use positions::{POSITION, position_of, wrong_value};

@@ -1,7 +1,7 @@
 //! Every option that the program knows, and the help.
 
-use clap::{Arg, Command};
-use console::{VERSION, flag, option};
+use clap::Command;
+use console::{Described, FLAG, Takes, VERSION, add_arguments};
 use std::alloc::{AllocError, Global};
 
 /// The name of `-B`.
@@ -66,47 +66,70 @@ pub fn all_arguments<'a>(alloc: Global) -> Result<Command<'a>, AllocError> {
         .about(ABOUT)
         .override_usage(USAGE)
         .after_help(AFTER_HELP);
-    let log = Arg::new(alloc, LOG).help(
-        "The binary log, a file; it is read whole before anything is written",
-    );
-    let file = option(alloc, RESULT_FILE, "FILE").help(
-        "Create or empty FILE once LOG is accepted, and write to it",
-    );
-    selection_arguments(alloc, mode_arguments(alloc, command)?)?
-        .arg(file.short('r'))?
-        .arg(log.required(true))
+    add_arguments(alloc, command, &ALL)
 }
 
-/// Adds the options that choose a mode and its form.
-fn mode_arguments<'a>(alloc: Global, command: Command<'a>) -> Result<Command<'a>, AllocError> {
-    let undo = flag(alloc, FLASHBACK).help("Write the log that undoes the changes of LOG");
-    let forward = flag(alloc, FORWARD).help("Write a log of the changes as LOG makes them");
-    let summary = flag(alloc, SUMMARY).help("Count the changed rows of each table");
-    let sql = flag(alloc, SQL).help("With -B or --forward: write pseudo-SQL in place of a log");
-    command
-        .arg(undo.short('B'))?
-        .arg(forward)?
-        .arg(summary)?
-        .arg(sql)
-}
-
-/// Adds the options that select changes.
-fn selection_arguments<'a>(alloc: Global, command: Command<'a>) -> Result<Command<'a>, AllocError> {
-    let start = option(alloc, START, "POS").help(
-        "Begin at POS, an event's start or the end of LOG [default: 4]",
-    );
-    let stop = option(alloc, STOP, "POS").help(
-        "Leave out the events that start at POS or behind it",
-    );
-    let database = option(alloc, DATABASE, "NAME").help(
-        "Take only the changes of tables of this database",
-    );
-    let table = option(alloc, TABLE, "NAME").help(
-        "Take only the changes of tables of this name: -d shop -T orders, not -T shop.orders",
-    );
-    command
-        .arg(start.short('j'))?
-        .arg(stop)?
-        .arg(database.short('d'))?
-        .arg(table.short('T'))
-}
+/// The options, and the log, in the order of the help.
+static ALL: [Described<'static>; 10] = [
+    Described {
+        name: FLASHBACK,
+        short: Some('B'),
+        help: "Write the log that undoes the changes of LOG",
+        ..FLAG
+    },
+    Described {
+        name: FORWARD,
+        help: "Write a log of the changes as LOG makes them",
+        ..FLAG
+    },
+    Described {
+        name: SUMMARY,
+        help: "Count the changed rows of each table",
+        ..FLAG
+    },
+    Described {
+        name: SQL,
+        help: "With -B or --forward: write pseudo-SQL in place of a log",
+        ..FLAG
+    },
+    Described {
+        name: START,
+        short: Some('j'),
+        takes: Takes::Value("POS"),
+        help: "Begin at POS, an event's start or the end of LOG [default: 4]",
+        ..FLAG
+    },
+    Described {
+        name: STOP,
+        takes: Takes::Value("POS"),
+        help: "Leave out the events that start at POS or behind it",
+        ..FLAG
+    },
+    Described {
+        name: DATABASE,
+        short: Some('d'),
+        takes: Takes::Value("NAME"),
+        help: "Take only the changes of tables of this database",
+        ..FLAG
+    },
+    Described {
+        name: TABLE,
+        short: Some('T'),
+        takes: Takes::Value("NAME"),
+        help: "Take only the changes of tables of this name: -d shop -T orders, not -T shop.orders",
+        ..FLAG
+    },
+    Described {
+        name: RESULT_FILE,
+        short: Some('r'),
+        takes: Takes::Value("FILE"),
+        help: "Create or empty FILE once LOG is accepted, and write to it",
+        ..FLAG
+    },
+    Described {
+        name: LOG,
+        takes: Takes::Argument,
+        help: "The binary log, a file; it is read whole before anything is written",
+        ..FLAG
+    },
+];
