@@ -5,6 +5,8 @@ use binlog_command::Process;
 use sample_logs::logs::insert_and_drop;
 use sample_logs::small::{INSERT_ONE_ROW, PLAIN, SUMMED};
 use sample_logs::summed::{CLOSED, CLOSED_PLAIN, IN_USE, IN_USE_PLAIN};
+use std::alloc::AllocError;
+use std::process::ExitCode;
 use std::test::Fail;
 use testkit::runs::Outcome;
 use transcripts::{Named, Program};
@@ -56,17 +58,11 @@ pub fn named<'a>(name: &'a str, bytes: &'a [u8]) -> Named<'a> {
     Named { name, bytes }
 }
 
-/// Plays a script, which can name these logs beside those below. `dropped` is a transaction that inserts a row, and a `DROP TABLE`;
-/// `usage` is what is printed behind the line on wrong arguments.
-fn play_by(
-    rt: &HostRuntime,
-    binlog: &Binlog,
-    given: &[Named<'_>],
-    script: &str,
-) -> Result<(), Fail> {
-    let dropped = insert_and_drop(rt)?;
-    let logs = [
-        named("dropped", &dropped),
+/// The logs that each script can name. `dropped` is a transaction that inserts a row, and a `DROP TABLE`; `usage` is what is printed
+/// after the line on wrong arguments.
+fn logs_with(dropped: &[u8]) -> [Named<'_>; 10] {
+    [
+        named("dropped", dropped),
         named("usage", USAGE.as_bytes()),
         named("plain_usage", PLAIN_USAGE.as_bytes()),
         named("PLAIN", &PLAIN),
@@ -76,21 +72,32 @@ fn play_by(
         named("CLOSED_PLAIN", &CLOSED_PLAIN),
         named("IN_USE", &IN_USE),
         named("IN_USE_PLAIN", &IN_USE_PLAIN),
-    ];
-    Ok(transcripts::play(rt, binlog, given, logs.as_slice(), script)?)
+    ]
 }
 
-/// Plays a script that can name these logs too.
-pub fn play_with(rt: &HostRuntime, given: &[Named<'_>], script: &str) -> Result<(), Fail> {
+/// Plays the scripts of the files that the arguments name, which can name these logs too.
+pub fn play_files(rt: &HostRuntime, given: &[Named<'_>]) -> Result<ExitCode, AllocError> {
     let binlog = Binlog {
         writes_to_terminal: false,
     };
-    play_by(rt, &binlog, given, script)
+    let dropped = insert_and_drop(rt)?;
+    let logs = logs_with(&dropped);
+    Ok(transcripts::play_files(rt, &binlog, given, logs.as_slice()))
+}
+
+/// Plays a script.
+fn play_by(rt: &HostRuntime, binlog: &Binlog, script: &str) -> Result<(), Fail> {
+    let dropped = insert_and_drop(rt)?;
+    let logs = logs_with(&dropped);
+    Ok(transcripts::play(rt, binlog, &[], logs.as_slice(), script)?)
 }
 
 /// Plays a script.
 pub fn play(rt: &HostRuntime, script: &str) -> Result<(), Fail> {
-    play_with(rt, &[], script)
+    let binlog = Binlog {
+        writes_to_terminal: false,
+    };
+    play_by(rt, &binlog, script)
 }
 
 /// Plays a script, where standard output is a terminal.
@@ -98,5 +105,5 @@ pub fn play_on_terminal(rt: &HostRuntime, script: &str) -> Result<(), Fail> {
     let binlog = Binlog {
         writes_to_terminal: true,
     };
-    play_by(rt, &binlog, &[], script)
+    play_by(rt, &binlog, script)
 }

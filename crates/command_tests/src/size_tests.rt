@@ -2,21 +2,8 @@
 
 use command_runs::large_logs::long_texts;
 use command_runs::run_log;
-use command_runs::scripts::play;
 use std::process::Abort;
 use std::test::Fail;
-
-#[test]
-fn the_help_has_the_sizes(rt: HostRuntime) -> Result<(), Fail> {
-    play(
-        &rt,
-        "\
-$ split --help
->~ The most bytes of a statement, headers included, from 1024 on; 8000000 if it isn't given
-$ sql --help
->~ The most bytes of a statement, headers included, from 1024 on; 8000000 if it isn't given",
-    )
-}
 
 /// How many statements a log has as SQL.
 fn statements(rt: &HostRuntime, log: &[u8]) -> Result<usize, Fail> {

@@ -1,7 +1,6 @@
-//! Runs of `sql`. The lines that are expected were made from the bytes of the log by another program.
+//! Runs of `sql`.
 
 use crate::split_tests::whole;
-use command_runs::scripts::{named, play, play_with};
 use command_runs::{path_of, run_log};
 use console::VERSION;
 use sample_logs::builder::{BEGIN, COMMIT, Part, XID, build, insert, map_of};
@@ -11,138 +10,7 @@ use std::process::Abort;
 use std::test::Fail;
 use testkit::runs::Outcome;
 
-/// Up to the format description.
-const HEAD: &str = "\
--- flashback 0.1.0
-SET @undo_errors = 0;
-BINLOG '
-AAAAAA8BAAAAdAAAAHgAAAAAAAQANS42LjUxAAAAAAAAAAAAAAAAAAAAAAAAAAAAAAAAAAAAAAAA
-AAAAAAAAAAAAAAAAAAAAAAAAEzgNAAgAEgAEBAQEEgAAXAAEGggAAAAICAgCAAAACgoKGRkAAAAA
-AAA=
-';
-/*!50700 SET @@SESSION.GTID_NEXT='AUTOMATIC' */;
-";
-
-/// The statement of the log, at the time of the run.
-const ROWS: &str = "\
-BINLOG '
-BAMCARMBAAAAJQAAAMQAAAAAAAEAAAAAAAEAAWQAAXQAAQMAAQQDAgEeAQAAACQAAADoAAAAAAAB
-AAAAAAABAAIAAf/+BQAAAA==
-';
-SET @undo_errors = @undo_errors + @@error_count;
-";
-
-/// The same, at the time that it has in the log.
-const KEPT: &str = "\
-BINLOG '
-AAAAABMBAAAAJQAAAMQAAAAAAAEAAAAAAAEAAWQAAXQAAQMAAQAAAAAeAQAAACQAAADoAAAAAAAB
-AAAAAAABAAIAAf/+BQAAAA==
-';
-SET @undo_errors = @undo_errors + @@error_count;
-";
-
-/// The same as the first, of a table of schema `other`.
-const RENAMED: &str = "\
-BINLOG '
-BAMCARMBAAAAKQAAAMgAAAAAAAEAAAAAAAEABW90aGVyAAF0AAEDAAEEAwIBHgEAAAAkAAAA7AAA
-AAAAAQAAAAAAAQACAAH//gUAAAA=
-';
-SET @undo_errors = @undo_errors + @@error_count;
-";
-
-/// The statement of a log that is cut at 1,024 bytes: its map has 38, its rows events have 531 and 456.
-const CUT: &str = "\
-BINLOG '
-AAAAABMBAAAAJgAAAMUAAAAAAAEAAAAAAAEAAWQAAnQyAAEDAAEAAAAAHgEAAAATAgAA2AIAAAAA
-AQAAAAAAAQACAAH//gUAAAD+BQAAAP4FAAAA/gUAAAD+BQAAAP4FAAAA/gUAAAD+BQAAAP4FAAAA
-/gUAAAD+BQAAAP4FAAAA/gUAAAD+BQAAAP4FAAAA/gUAAAD+BQAAAP4FAAAA/gUAAAD+BQAAAP4F
-AAAA/gUAAAD+BQAAAP4FAAAA/gUAAAD+BQAAAP4FAAAA/gUAAAD+BQAAAP4FAAAA/gUAAAD+BQAA
-AP4FAAAA/gUAAAD+BQAAAP4FAAAA/gUAAAD+BQAAAP4FAAAA/gUAAAD+BQAAAP4FAAAA/gUAAAD+
-BQAAAP4FAAAA/gUAAAD+BQAAAP4FAAAA/gUAAAD+BQAAAP4FAAAA/gUAAAD+BQAAAP4FAAAA/gUA
-AAD+BQAAAP4FAAAA/gUAAAD+BQAAAP4FAAAA/gUAAAD+BQAAAP4FAAAA/gUAAAD+BQAAAP4FAAAA
-/gUAAAD+BQAAAP4FAAAA/gUAAAD+BQAAAP4FAAAA/gUAAAD+BQAAAP4FAAAA/gUAAAD+BQAAAP4F
-AAAA/gUAAAD+BQAAAP4FAAAA/gUAAAD+BQAAAP4FAAAA/gUAAAD+BQAAAP4FAAAA/gUAAAD+BQAA
-AP4FAAAA/gUAAAD+BQAAAP4FAAAA/gUAAAD+BQAAAP4FAAAA/gUAAAD+BQAAAP4FAAAA/gUAAAA=
-';
-SET @undo_errors = @undo_errors + @@error_count;
-BINLOG '
-AAAAABMBAAAAJgAAAP4CAAAAAAEAAAAAAAEAAWQAAnQyAAEDAAEAAAAAHgEAAADIAQAAxgQAAAAA
-AQAAAAAAAQACAAH//gYAAAD+BgAAAP4GAAAA/gYAAAD+BgAAAP4GAAAA/gYAAAD+BgAAAP4GAAAA
-/gYAAAD+BgAAAP4GAAAA/gYAAAD+BgAAAP4GAAAA/gYAAAD+BgAAAP4GAAAA/gYAAAD+BgAAAP4G
-AAAA/gYAAAD+BgAAAP4GAAAA/gYAAAD+BgAAAP4GAAAA/gYAAAD+BgAAAP4GAAAA/gYAAAD+BgAA
-AP4GAAAA/gYAAAD+BgAAAP4GAAAA/gYAAAD+BgAAAP4GAAAA/gYAAAD+BgAAAP4GAAAA/gYAAAD+
-BgAAAP4GAAAA/gYAAAD+BgAAAP4GAAAA/gYAAAD+BgAAAP4GAAAA/gYAAAD+BgAAAP4GAAAA/gYA
-AAD+BgAAAP4GAAAA/gYAAAD+BgAAAP4GAAAA/gYAAAD+BgAAAP4GAAAA/gYAAAD+BgAAAP4GAAAA
-/gYAAAD+BgAAAP4GAAAA/gYAAAD+BgAAAP4GAAAA/gYAAAD+BgAAAP4GAAAA/gYAAAD+BgAAAP4G
-AAAA/gYAAAD+BgAAAP4GAAAA/gYAAAD+BgAAAP4GAAAA/gYAAAA=
-';
-SET @undo_errors = @undo_errors + @@error_count;
-";
-
-/// How a transaction ends.
-const END: &str = "\
-SET @undo_end = IF(@undo_errors = 0, 'COMMIT', 'ROLLBACK');
-PREPARE undo_end FROM @undo_end;
-EXECUTE undo_end;
-DEALLOCATE PREPARE undo_end;
-";
-
 const LAST: &str = "SELECT @undo_end AS ended_with, @undo_errors AS errors;\n";
-
-#[test]
-fn a_log_is_printed_as_sql(rt: HostRuntime) -> Result<(), Fail> {
-    play_with(
-        &rt,
-        &[
-            named("head", HEAD.as_bytes()),
-            named("rows", ROWS.as_bytes()),
-            named("kept", KEPT.as_bytes()),
-            named("renamed", RENAMED.as_bytes()),
-            named("end", END.as_bytes()),
-            named("last", LAST.as_bytes()),
-        ],
-        "\
-file log INSERT_ONE_ROW
-$ sql @log
->+ head
-> BEGIN;
->+ rows
->+ end
->+ last
-$ sql --keep-times @log
->+ head
-> BEGIN;
->+ kept
->+ end
->+ last
-$ sql --each-transaction @log
->+ head
-> SET @undo_end = 'COMMIT';
-> BEGIN;
->+ rows
->+ end
->+ last
-$ sql --rewrite-db d:other @log
->+ head
-> BEGIN;
->+ renamed
->+ end
->+ last
-# the first of a schema counts
-$ sql --rewrite-db d:other --rewrite-db d:y @log
->+ head
-> BEGIN;
->+ renamed
->+ end
->+ last
-$ sql --size 1024 @log
->+ head
-> BEGIN;
->+ rows
->+ end
->+ last",
-    )
-}
 
 /// Runs `sql` over a log, to standard output or to a file, with each pair of databases, and checks that it refuses the log with this
 /// line, and that it makes no file.
@@ -278,101 +146,6 @@ fn statements_are_cut(rt: HostRuntime) -> Result<(), Fail> {
     Ok(())
 }
 
-#[test]
-fn a_cut_log_is_printed(rt: HostRuntime) -> Result<(), Fail> {
-    let log = whole(&rt, b"t2")?;
-    play_with(
-        &rt,
-        &[
-            named("cut_in_two", &log),
-            named("head", HEAD.as_bytes()),
-            named("cut", CUT.as_bytes()),
-            named("end", END.as_bytes()),
-            named("last", LAST.as_bytes()),
-        ],
-        "\
-file log cut_in_two
-$ sql --keep-times --size 1024 @log
->+ head
-> BEGIN;
->+ cut
->+ end
->+ last",
-    )
-}
-
-#[test]
-fn sizes_below_the_least_are_wrong(rt: HostRuntime) -> Result<(), Fail> {
-    play(
-        &rt,
-        "\
-$ sql --size 0 a
-! error: invalid value '0' for '--size <BYTES>': not a number of bytes: decimal digits, 1024 to 4294967295
-!+ usage
-= 2
-$ sql --size 1 a
-! error: invalid value '1' for '--size <BYTES>': not a number of bytes: decimal digits, 1024 to 4294967295
-!+ usage
-= 2
-$ sql --size 1023 a
-! error: invalid value '1023' for '--size <BYTES>': not a number of bytes: decimal digits, 1024 to 4294967295
-!+ usage
-= 2
-$ sql --size 8MB a
-! error: invalid value '8MB' for '--size <BYTES>': not a number of bytes: decimal digits, 1024 to 4294967295
-!+ usage
-= 2",
-    )
-}
-
-#[test]
-fn sql_is_written_to_a_file(rt: HostRuntime) -> Result<(), Fail> {
-    play(
-        &rt,
-        "\
-file log INSERT_ONE_ROW
-$ sql @log
->* printed
-$ sql -r @result @log
-same result @printed
-$ sql -r @result @log
-! binlog: the result file is there: @result: give another name, or --force
-= 1
-same result @printed
-text result another
-$ sql -r @result --force @log
-same result @printed",
-    )
-}
-
-#[test]
-fn logs_that_are_not_printed_are_told(rt: HostRuntime) -> Result<(), Fail> {
-    play(
-        &rt,
-        "\
-file log dropped
-$ sql @log
-! binlog: Statement at 259: the log can't be undone as a whole: cut the log that flashback writes of a range
-= 1
-file log IN_USE
-$ sql @log
-! binlog: Statement at 567: the log can't be undone as a whole: cut the log that flashback writes of a range
-= 1
-file log SUMMED ..142
-$ sql @log
-! binlog: CutEvent at 120: the log ends inside an event, or is damaged: copy it from the server again
-= 1
-file log INSERT_ONE_ROW ..200
-$ sql @log
-! binlog: CutEvent at 196: the log ends inside an event, or is damaged: copy it from the server again
-= 1
-text log no log
-$ sql @log
-! binlog: NotABinlog at 0: the file is no binary log, or an encrypted one: give a binary log
-= 1",
-    )
-}
-
 /// The name of a table that would end a text is in the base64 alone.
 #[test]
 fn names_are_in_the_base64_alone(rt: HostRuntime) -> Result<(), Fail> {
@@ -384,38 +157,6 @@ fn names_are_in_the_base64_alone(rt: HostRuntime) -> Result<(), Fail> {
     assert_eq!(rt; count(&outcome, "BINLOG '\n")?, 2);
     assert_eq!(rt; count(&outcome, "'")?, 10);
     Ok(())
-}
-
-#[test]
-fn wrong_schemas_end_in_two(rt: HostRuntime) -> Result<(), Fail> {
-    play(
-        &rt,
-        "\
-$ sql --rewrite-db shop a
-! error: invalid value 'shop' for '--rewrite-db <FROM:TO>': not two names of databases with a colon between them, such as shop:scratch, of 1 to 255 bytes each
-!+ usage
-= 2
-$ sql --rewrite-db :x a
-! error: invalid value ':x' for '--rewrite-db <FROM:TO>': not two names of databases with a colon between them, such as shop:scratch, of 1 to 255 bytes each
-!+ usage
-= 2
-$ sql --rewrite-db x: a
-! error: invalid value 'x:' for '--rewrite-db <FROM:TO>': not two names of databases with a colon between them, such as shop:scratch, of 1 to 255 bytes each
-!+ usage
-= 2
-$ sql --rewrite-db : a
-! error: invalid value ':' for '--rewrite-db <FROM:TO>': not two names of databases with a colon between them, such as shop:scratch, of 1 to 255 bytes each
-!+ usage
-= 2
-$ sql --rewrite-db '' a
-! error: invalid value '' for '--rewrite-db <FROM:TO>': not two names of databases with a colon between them, such as shop:scratch, of 1 to 255 bytes each
-!+ usage
-= 2
-$ sql --rewrite-db a:xxxxxxxxxxxxxxxxxxxxxxxxxxxxxxxxxxxxxxxxxxxxxxxxxxxxxxxxxxxxxxxxxxxxxxxxxxxxxxxxxxxxxxxxxxxxxxxxxxxxxxxxxxxxxxxxxxxxxxxxxxxxxxxxxxxxxxxxxxxxxxxxxxxxxxxxxxxxxxxxxxxxxxxxxxxxxxxxxxxxxxxxxxxxxxxxxxxxxxxxxxxxxxxxxxxxxxxxxxxxxxxxxxxxxxxxxxxxxxxxxxxxxxxxxxxxxxxx a
-! error: invalid value 'a:xxxxxxxxxxxxxxxxxxxxxxxxxxxxxxxxxxxxxxxxxxxxxxxxxxxxxxxxxxxxxxxxxxxxxxxxxxxxxxxxxxxxxxxxxxxxxxxxxxxxxxxxxxxxxxxxxxxxxxxxxxxxxxxxxxxxxxxxxxxxxxxxxxxxxxxxxxxxxxxxxxxxxxxxxxxxxxxxxxxxxxxxxxxxxxxxxxxxxxxxxxxxxxxxxxxxxxxxxxxxxxxxxxxxxxxxxxxxxxxxxxxxxxxxxxxxxxxx' for '--rewrite-db <FROM:TO>': not two names of databases with a colon between them, such as shop:scratch, of 1 to 255 bytes each
-!+ usage
-= 2",
-    )
 }
 
 /// The first line has the version of the programs.

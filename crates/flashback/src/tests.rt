@@ -6,6 +6,7 @@ mod logs;
 mod refused_memory;
 mod result_files;
 mod selections;
+mod small_logs;
 mod versions;
 mod writers;
 mod wrong_arguments;
@@ -20,7 +21,7 @@ use std::process::{Abort, ExitCode};
 use std::test::Fail;
 use std::{fs, io};
 use testkit::runs::Outcome;
-use transcripts::{Named, Program};
+use transcripts::{Named, Program, Wrong};
 use writers::Broken;
 
 /// Where the rows event of `INSERT_ONE_ROW` has its type.
@@ -85,9 +86,9 @@ fn named<'a>(name: &'a str, bytes: &'a [u8]) -> Named<'a> {
     Named { name, bytes }
 }
 
-/// Plays a script, which can name these logs beside those below. `dropped` is a transaction that inserts a row, and a `DROP TABLE`;
-/// `long` is no log, and has more bytes than the others.
-fn play_with(rt: &HostRuntime, given: &[Named<'_>], script: &str) -> Result<(), Fail> {
+/// Plays a script. `dropped` is a transaction that inserts a row, and a `DROP TABLE`; `long` is no log, and has more bytes than the
+/// others.
+fn play(rt: &HostRuntime, script: &str) -> Result<(), Wrong> {
     let dropped = insert_and_drop(rt)?;
     let logs = [
         named("dropped", &dropped),
@@ -95,63 +96,34 @@ fn play_with(rt: &HostRuntime, given: &[Named<'_>], script: &str) -> Result<(), 
         named("INSERT_ONE_ROW", &INSERT_ONE_ROW),
         named("OLD_SERVER", &OLD_SERVER),
     ];
-    Ok(transcripts::play(rt, &Flashback, given, logs.as_slice(), script)?)
+    transcripts::play(rt, &Flashback, &[], logs.as_slice(), script)
 }
 
-/// Plays a script.
-fn play(rt: &HostRuntime, script: &str) -> Result<(), Fail> {
-    play_with(rt, &[], script)
-}
-
-#[test]
-fn undoes_an_insert(rt: HostRuntime) -> Result<(), Fail> {
-    play(
-        &rt,
-        "\
-file log INSERT_ONE_ROW
-$ -B @log
->+ INSERT_ONE_ROW 200=32",
-    )
-}
+/// Scripts, each of which begins with a line `## NAME`.
+const SCRIPTS: [&str; 7] = [
+    both_outputs::SCRIPTS,
+    file_names::SCRIPTS,
+    result_files::SCRIPTS,
+    selections::SCRIPTS,
+    small_logs::SCRIPTS,
+    versions::SCRIPTS,
+    wrong_arguments::SCRIPTS,
+];
 
 #[test]
-fn refuses_logs(rt: HostRuntime) -> Result<(), Fail> {
-    play(
-        &rt,
-        "\
-text log 
-$ -B @log
-! flashback: NotABinlog at 0
-= 1
-file log INSERT_ONE_ROW ..3
-$ -B @log
-! flashback: NotABinlog at 0
-= 1",
-    )
-}
-
-#[test]
-fn names_a_log_that_cannot_be_opened(rt: HostRuntime) -> Result<(), Fail> {
-    play(
-        &rt,
-        "\
-$ -B @absent
-! flashback: cannot open the log
-= 1",
-    )
-}
-
-#[test]
-fn names_a_log_that_cannot_be_read(rt: HostRuntime) -> Result<(), Fail> {
-    play(
-        &rt,
-        "\
-# a folder is opened as a file, and every read of it fails
-folder logs
-$ --flashback @logs
-! flashback: read failed
-= 1",
-    )
+fn scripts_do_what_they_say(rt: HostRuntime) -> Result<(), Fail> {
+    let mut count = 0usize;
+    for scripts in SCRIPTS {
+        for script in scripts.split("\n## ").skip(1) {
+            let (name, lines) = script.split_once('\n').unwrap_or((script, ""));
+            if let Err(wrong) = play(&rt, lines) {
+                return Err(Fail::new(format_args!("{name}: {wrong:?}")));
+            }
+            count = count.saturating_add(1);
+        }
+    }
+    assert_eq!(rt; count, 30);
+    Ok(())
 }
 
 /// The options as the help names them.
@@ -209,18 +181,6 @@ fn the_help_is_written(rt: HostRuntime) -> Result<(), Fail> {
     let text = text_of(&rt, "--help")?;
     check_help(&rt, text.as_str());
     Ok(())
-}
-
-#[test]
-fn the_version_is_written(rt: HostRuntime) -> Result<(), Fail> {
-    play(
-        &rt,
-        "\
-$ -V
->~ flashback 0.1.0 
-$ --version
->~ flashback 0.1.0 ",
-    )
 }
 
 /// The run with these arguments fails at its first write, and prints that.

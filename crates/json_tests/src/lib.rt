@@ -7,5 +7,3 @@ mod changed_log_tests;
 mod json_form_tests;
 #[cfg(test)]
 mod json_lines;
-#[cfg(test)]
-mod json_tests;

@@ -6,9 +6,7 @@ use blog_list::{Style, list};
 use blog_request::{GlobalIds, Wanted};
 use list_calls::lists::TEXT;
 use list_calls::sources::source_of;
-use sample_logs::builder::{ANONYMOUS_GTID, BEGIN, GTID, Part, XID, build};
-use sample_logs::summed::IN_USE_PLAIN;
-use server_logs::tagged;
+use sample_logs::builder::{BEGIN, Part, XID, build};
 use std::process::Abort;
 use std::test::Fail;
 
@@ -65,77 +63,6 @@ fn check(
 ) -> Result<(), Fail> {
     assert_eq!(rt; list_of(rt, bytes, texts)?.as_str(), lines);
     Ok(())
-}
-
-#[test]
-fn ids_choose_units(rt: HostRuntime) -> Result<(), Fail> {
-    let third =
-        "       670        943  2026-11-21 03:02:00          16  283c105d-e730-11f1-97ff-02fc00000001:10  `shop`.`items` inserts 1\n";
-    let fourth =
-        "       943       1294  2026-11-21 03:03:00          16  283c105d-e730-11f1-97ff-02fc00000001:11  `shop`.`orders` inserts 1\n";
-    let last =
-        "      1760       1925  2026-11-21 03:06:00          16  283c105d-e730-11f1-97ff-02fc00000001:14  Statement at 1833: truncate table t2\n";
-    let one = format!(in rt.alloc(); "{third}units 1, not undoable 0, rows 1\n")?;
-    let text = "283c105d-e730-11f1-97ff-02fc00000001:10";
-    check(&rt, &IN_USE_PLAIN, &[text], one.as_str())?;
-    let two = format!(in rt.alloc(); "{third}{fourth}units 2, not undoable 0, rows 2\n")?;
-    let text = "283C105D-E730-11F1-97FF-02FC00000001:10-11";
-    check(&rt, &IN_USE_PLAIN, &[text], two.as_str())?;
-    let end = format!(in rt.alloc(); "{last}units 1, not undoable 1, rows 0\n")?;
-    let text = "283c105d-e730-11f1-97ff-02fc00000001:14-20";
-    check(&rt, &IN_USE_PLAIN, &[text], end.as_str())?;
-    let both = format!(in rt.alloc(); "{third}{last}units 2, not undoable 1, rows 1\n")?;
-    let texts = [
-        "283c105d-e730-11f1-97ff-02fc00000001:14",
-        "283c105d-e730-11f1-97ff-02fc00000001:10",
-    ];
-    check(&rt, &IN_USE_PLAIN, &texts, both.as_str())
-}
-
-const NONE: &str = "units 0, not undoable 0, rows 0\n";
-
-#[test]
-fn ids_of_others_choose_no_unit(rt: HostRuntime) -> Result<(), Fail> {
-    for text in [
-        "283c105d-e730-11f1-97ff-02fc00000002:1-20",
-        "283c105d-e730-11f1-97ff-02fc00000001:1-7",
-        "283c105d-e730-11f1-97ff-02fc00000001:15-20",
-        "283c105d-e730-11f1-97ff-02fc00000001:tag1:1-20",
-        "00000000-0000-0000-0000-000000000000:1-20",
-    ] {
-        check(&rt, &IN_USE_PLAIN, &[text], NONE)?;
-    }
-    Ok(())
-}
-
-#[test]
-fn an_id_with_a_tag_chooses_its_unit(rt: HostRuntime) -> Result<(), Fail> {
-    let line =
-        "       198        464  2026-11-26 00:52:14          18  9dc90577-e933-11f1-9db2-02fc00000001:tag1:1  `d`.`t` inserts 1
-units 1, not undoable 0, rows 1
-";
-    check(&rt, &tagged::TAGGED, &[], line)?;
-    let text = "9dc90577-e933-11f1-9db2-02fc00000001:tag1:1-4";
-    check(&rt, &tagged::TAGGED, &[text], line)?;
-    for text in [
-        "9dc90577-e933-11f1-9db2-02fc00000001:1-9",
-        "9dc90577-e933-11f1-9db2-02fc00000001:tag:1-9",
-        "9dc90577-e933-11f1-9db2-02fc00000001:tag11:1-9",
-        "9dc90577-e933-11f1-9db2-02fc00000001:tag1:2-9",
-    ] {
-        check(&rt, &tagged::TAGGED, &[text], NONE)?;
-    }
-    Ok(())
-}
-
-#[test]
-fn units_whose_id_is_not_known_are_not_chosen(rt: HostRuntime) -> Result<(), Fail> {
-    let bytes = build(
-        &rt,
-        &[GTID, BEGIN, XID, ANONYMOUS_GTID, BEGIN, XID, BEGIN, XID],
-    )?;
-    let text = "00000000-0000-0000-0000-000000000000:1-18446744073709551615";
-    check(&rt, &bytes, &[text], NONE)
 }
 
 /// A Gtid event of this server, number and tag.

@@ -2,6 +2,6 @@
 #![tactic(auto)]
 
 #[cfg(test)]
-mod list_tests;
+mod seed_tests;
 #[cfg(test)]
 mod time_tests;

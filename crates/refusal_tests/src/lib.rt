@@ -1,12 +1,11 @@
-//! Tests that cross the crates: runs from readers to writers, refused logs, memory that runs out, large logs, and rows events of version 1.
+//! Tests that cross the crates: cut logs, memory that runs out, large logs, and rows events of version 1. Refused logs are scripts in
+//! `log_scripts`.
 #![tactic(auto)]
 
 #[cfg(test)]
 mod damage_tests;
 #[cfg(test)]
 mod event_refusal_tests;
-#[cfg(test)]
-mod fault_tests;
 #[cfg(test)]
 mod large_run_tests;
 #[cfg(test)]
@@ -17,7 +16,5 @@ mod memory_tests;
 mod refusing_calls;
 #[cfg(test)]
 mod short_reads;
-#[cfg(test)]
-mod smallest_log_tests;
 #[cfg(test)]
 mod version_one_tests;

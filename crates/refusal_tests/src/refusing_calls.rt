@@ -5,12 +5,10 @@ use blog_flash::{Mode, RunFault, Watched, run};
 use blog_trans::Selection;
 use log_calls::calls::{flashback, forward};
 use log_calls::index_view::fault_of;
-use sample_logs::builder::with_bytes;
 use std::alloc::AllocError;
 use std::io;
 use std::io::Write;
 use std::process::Abort;
-use std::test::Fail;
 
 /// The index of a log and both ways of writing it refuse it with this fault, and so does a run, without a call of the
 /// writer; all of them take it where there is none.
@@ -30,29 +28,6 @@ pub fn check_fault<R: AllocGlobal + Abort>(
 
 /// A log that was built, unless memory was refused.
 pub type Built = Result<Vec<u8>, AllocError>;
-
-/// A built log, all of which is selected, is refused with this fault.
-pub fn check_built<R: AllocGlobal + Abort>(rt: &R, log: Built, fault: Fault) {
-    let log = log.expect(rt, "memory for a log");
-    check_fault(rt, &log, &Selection::all(), Some(fault));
-}
-
-/// Bytes of a log that are set to others, by their positions, and the fault of the log with them.
-pub type Edited = (&'static [(usize, u8)], Fault);
-
-/// A log is refused with each of these edits in turn.
-pub fn check_edited<R: AllocGlobal + Abort>(
-    rt: &R,
-    log: Built,
-    cases: &[Edited],
-) -> Result<(), Fail> {
-    let log = log?;
-    for (edits, fault) in cases {
-        let edited = with_bytes(rt, &log, edits)?;
-        check_fault(rt, &edited, &Selection::all(), Some(*fault));
-    }
-    Ok(())
-}
 
 /// A writer of which each call fails.
 #[derive(Drop)]

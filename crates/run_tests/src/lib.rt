@@ -1,4 +1,4 @@
-//! Tests of reading and writing, of the answers to small logs, of what is printed of them, and of runs over devices that fail.
+//! Tests of reading and writing, and of runs over devices that fail. Answers to small logs are scripts in `log_scripts`.
 #![tactic(auto)]
 
 #[cfg(test)]

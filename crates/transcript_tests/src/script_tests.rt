@@ -175,7 +175,7 @@ fn logs_are_made_of_words(rt: HostRuntime) -> Result<(), Fail> {
         given.as_slice(),
         &[],
         "\
-log log gtid:9 begin map:1:t insert:1:5 xid 'query:DROP TABLE t' begin map:2:u delete:2:5,6 map:3:v update:3:5,6 commit rotate:a.000043 other:40:9
+log log gtid:9 begin map:1:t insert:1:5 xid 'query:DROP TABLE t' begin map:2:u delete:2:5,6 map:3:\\x76 update:3:5,6 commit rotate:a\\x2e000043 other:40:9
 same log built",
     )?)
 }
@@ -184,7 +184,7 @@ same log built",
 const BEGINNING: &str =
     "file abc abc\n$ a 3\n> echo\n> a\n> 3\n! the status isn't 0\n! but another\n= 3\n";
 
-static WRONG: [&'static str; 26] = [
+static WRONG: [&'static str; 32] = [
     "= 2",
     "= x",
     "> b",
@@ -209,6 +209,12 @@ static WRONG: [&'static str; 26] = [
     "log a map:t",
     "log a gtid:x",
     "log a other:40",
+    "log a map:1:\\x",
+    "log a query:\\xG0",
+    "text no/folder t",
+    "link a b",
+    "folder abc",
+    ">* no/file",
     "other",
     "$ 1",
 ];

@@ -6,7 +6,7 @@
 //! | Line | Meaning |
 //! |---|---|
 //! | `file NAME BYTES` | there is a file of these bytes |
-//! | `log NAME PARTS` | there is a log of these events: `begin`, `commit`, `xid`, `query:TEXT`, `gtid:N`, `rotate:LOG`, `other:TYPE:LENGTH`; `map:ID:TABLE`, of a table in `d` of one integer; and `insert:ID:VALUES`, `delete:ID:VALUES`, `update:ID:VALUES` with values between commas, of an update in turn before and after |
+//! | `log NAME PARTS` | there is a log of these events: `begin`, `commit`, `xid`, `query:TEXT`, `gtid:N`, `rotate:LOG`, `other:TYPE:LENGTH` with zeros, `event:TYPE:FLAGS:BODY`; `map:ID:TABLE`, of a table in `d` of one integer; and `insert:ID:VALUES`, `delete:ID:VALUES`, `update:ID:VALUES` with values between commas, of an update in turn before and after, with `+old` of version 1, and with `+open` if another follows in the statement. In TEXT, LOG, BODY and TABLE `\xHH` is the byte of these two hexadecimal digits. `server:5.5` first: the log of such a server |
 //! | `text NAME TEXT` | there is a file of this text, without a line feed |
 //! | `link NAME OLD` | the file OLD has a second name |
 //! | `folder NAME` | there is a folder |
@@ -24,15 +24,18 @@
 //! | `differ NAME BYTES` | it has others |
 //! | `none NAME` | there is no file of this name |
 //!
-//! An empty line means nothing, nor does one that begins with `# `. In what is written the folder's path is shown as `@`, too. A run writes nothing but what its lines say.
+//! An empty line means nothing, nor does one that begins with `# `. In what is written the folder's path is shown as `@`, too. Where the
+//! lines of a run look at one of its two outputs only by `>`, `!`, `>+` and `!+`, or not at all, it writes nothing else there.
 #![tactic(auto)]
 
+mod files;
 mod parts;
 mod runs;
 mod stage;
 mod words;
 mod wrong;
 
+pub use files::play_files;
 pub use runs::Program;
 pub use stage::{Named, play};
 pub use wrong::Wrong;

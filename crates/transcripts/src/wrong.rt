@@ -20,7 +20,7 @@ pub enum Wrong {
     Line(String),
     /// It names a log that isn't there.
     Log(String),
-    /// It changes bytes by a word that says none, or past the end.
+    /// A word of it changes bytes past the end, or isn't what such a word has to be.
     Change,
     /// The system answers this.
     System(io::Error),

@@ -1,13 +1,8 @@
 //! Runs that write the same bytes to standard output and to a result file, or to neither.
 
-use super::play;
-use std::test::Fail;
-
-#[test]
-fn prints_each_mode(rt: HostRuntime) -> Result<(), Fail> {
-    play(
-        &rt,
-        "\
+/// Scripts, each behind its name.
+pub(super) const SCRIPTS: &str = "
+## prints_each_mode
 file log INSERT_ONE_ROW
 $ -B --sql @log
 > BEGIN
@@ -95,15 +90,9 @@ same new @written
 remove new
 file old long
 $ --summary -T d -r @old @log
-same old @written",
-    )
-}
+same old @written
 
-#[test]
-fn pseudo_sql_goes_by_the_log(rt: HostRuntime) -> Result<(), Fail> {
-    play(
-        &rt,
-        "\
+## pseudo_sql_goes_by_the_log
 # a log that deletes the row
 file log INSERT_ONE_ROW 200=32
 $ -B --sql @log
@@ -131,6 +120,5 @@ same new @written
 remove new
 file old long
 $ --forward --sql -r @old @log
-same old @written",
-    )
-}
+same old @written
+";

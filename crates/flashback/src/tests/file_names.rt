@@ -1,50 +1,10 @@
 //! Which files a run opens, and which it leaves alone.
 
-use super::{check, check_done, play};
+use super::{check, check_done};
 use sample_logs::small::INSERT_ONE_ROW;
 use std::path::PathBuf;
 use std::test::Fail;
 use std::{env, fs, io, process};
-
-#[test]
-fn a_folder_is_no_log(rt: HostRuntime) -> Result<(), Fail> {
-    play(
-        &rt,
-        "\
-# it is opened as a file, and every read of it fails
-folder logs
-$ -B -r @result @logs
-! flashback: read failed
-= 1
-none result
-file kept long
-$ -B -r @kept @logs
-! flashback: read failed
-= 1
-same kept long",
-    )
-}
-
-#[test]
-fn a_file_has_no_log_below_it(rt: HostRuntime) -> Result<(), Fail> {
-    play(
-        &rt,
-        "\
-file log INSERT_ONE_ROW
-$ -B @log/x
-! flashback: cannot open the log
-= 1
-$ -B -r @result @log/x
-! flashback: cannot open the log
-= 1
-none result
-file kept long
-$ -B -r @kept @log/x
-! flashback: cannot open the log
-= 1
-same kept long",
-    )
-}
 
 /// A path in the folder for temporary files, of a name with a blank before it and behind it.
 fn blank_path(rt: &HostRuntime, name: &str) -> io::Result<PathBuf> {
@@ -74,31 +34,50 @@ fn blanks_belong_to_names(rt: HostRuntime) -> Result<(), Fail> {
     Ok(())
 }
 
-#[test]
-fn a_log_with_blanks_is_another_log(rt: HostRuntime) -> Result<(), Fail> {
-    play(
-        &rt,
-        "\
+/// Scripts, each behind its name.
+pub(super) const SCRIPTS: &str = "
+## a_folder_is_no_log
+# it is opened as a file, and every read of it fails
+folder logs
+$ -B -r @result @logs
+! flashback: read failed
+= 1
+none result
+file kept long
+$ -B -r @kept @logs
+! flashback: read failed
+= 1
+same kept long
+
+## a_file_has_no_log_below_it
+file log INSERT_ONE_ROW
+$ -B @log/x
+! flashback: cannot open the log
+= 1
+$ -B -r @result @log/x
+! flashback: cannot open the log
+= 1
+none result
+file kept long
+$ -B -r @kept @log/x
+! flashback: cannot open the log
+= 1
+same kept long
+
+## a_log_with_blanks_is_another_log
 file log INSERT_ONE_ROW
 $ -B ' @log'
 ! flashback: cannot open the log
 = 1
 $ -B '@log '
 ! flashback: cannot open the log
-= 1",
-    )
-}
+= 1
 
-#[test]
-fn a_file_with_a_blank_is_another_file(rt: HostRuntime) -> Result<(), Fail> {
-    play(
-        &rt,
-        "\
+## a_file_with_a_blank_is_another_file
 # there is no folder of one blank
 file log INSERT_ONE_ROW
 $ -B -r ' @result' @log
 ! flashback: cannot create the result file
 = 1
-none result",
-    )
-}
+none result
+";

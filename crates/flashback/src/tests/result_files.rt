@@ -1,6 +1,6 @@
 //! Runs whose output goes to a file.
 
-use super::{check_done, path_of, play};
+use super::{check_done, path_of};
 use sample_logs::small::INSERT_ONE_ROW;
 use std::fs;
 use std::fs::Permissions;
@@ -8,24 +8,6 @@ use std::os::unix::fs::{MetadataExt, PermissionsExt};
 use std::path::Path;
 use std::process::Abort;
 use std::test::Fail;
-
-#[test]
-fn an_accepted_log_fills_the_file(rt: HostRuntime) -> Result<(), Fail> {
-    play(
-        &rt,
-        "\
-file log INSERT_ONE_ROW
-$ -B @log
->+ INSERT_ONE_ROW 200=32
->* written
-$ -B -r @new @log
-same new @written
-remove new
-file old long
-$ -B -r @old @log
-same old @written",
-    )
-}
 
 /// Undoes the log of this path in a file. Returns the permissions of the file.
 fn mode_of_result(rt: &HostRuntime, log: &str, file: &Path) -> Result<u32, Fail> {
@@ -46,22 +28,26 @@ fn a_new_file_is_for_its_owner_alone(rt: HostRuntime) -> Result<(), Fail> {
     Ok(())
 }
 
-#[test]
-fn the_log_may_be_the_file(rt: HostRuntime) -> Result<(), Fail> {
-    play(
-        &rt,
-        "\
+/// Scripts, each behind its name.
+pub(super) const SCRIPTS: &str = "
+## an_accepted_log_fills_the_file
+file log INSERT_ONE_ROW
+$ -B @log
+>+ INSERT_ONE_ROW 200=32
+>* written
+$ -B -r @new @log
+same new @written
+remove new
+file old long
+$ -B -r @old @log
+same old @written
+
+## the_log_may_be_the_file
 file log INSERT_ONE_ROW
 $ -B -r @log @log
-same log INSERT_ONE_ROW 200=32",
-    )
-}
+same log INSERT_ONE_ROW 200=32
 
-#[test]
-fn a_refused_log_leaves_the_file_alone(rt: HostRuntime) -> Result<(), Fail> {
-    play(
-        &rt,
-        "\
+## a_refused_log_leaves_the_file_alone
 text log no log
 $ -B @log
 ! flashback: NotABinlog at 0
@@ -74,27 +60,15 @@ file old long
 $ -B -r @old @log
 ! flashback: NotABinlog at 0
 = 1
-same old long",
-    )
-}
+same old long
 
-#[test]
-fn a_log_that_cannot_be_opened_leaves_the_file_alone(rt: HostRuntime) -> Result<(), Fail> {
-    play(
-        &rt,
-        "\
+## a_log_that_cannot_be_opened_leaves_the_file_alone
 $ -B -r @result @absent
 ! flashback: cannot open the log
 = 1
-none result",
-    )
-}
+none result
 
-#[test]
-fn a_file_that_cannot_be_created_is_told(rt: HostRuntime) -> Result<(), Fail> {
-    play(
-        &rt,
-        "\
+## a_file_that_cannot_be_created_is_told
 file log INSERT_ONE_ROW
 text no_log no log
 $ -B -r @absent/undo.binlog @log
@@ -102,15 +76,9 @@ $ -B -r @absent/undo.binlog @log
 = 1
 $ -B -r @absent/undo.binlog @no_log
 ! flashback: NotABinlog at 0
-= 1",
-    )
-}
+= 1
 
-#[test]
-fn a_folder_is_no_result_file(rt: HostRuntime) -> Result<(), Fail> {
-    play(
-        &rt,
-        "\
+## a_folder_is_no_result_file
 file log INSERT_ONE_ROW
 text no_log no log
 folder logs
@@ -119,18 +87,11 @@ $ -B -r @logs @log
 = 1
 $ -B -r @logs @no_log
 ! flashback: NotABinlog at 0
-= 1",
-    )
-}
+= 1
 
-#[test]
-fn a_full_device_is_a_failed_write(rt: HostRuntime) -> Result<(), Fail> {
-    play(
-        &rt,
-        "\
+## a_full_device_is_a_failed_write
 file log INSERT_ONE_ROW
 $ -B -r /dev/full @log
 ! flashback: write failed
-= 1",
-    )
-}
+= 1
+";

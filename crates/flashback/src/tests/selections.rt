@@ -1,13 +1,8 @@
 //! Parts of a log, and other logs than one inserting transaction.
 
-use super::play;
-use std::test::Fail;
-
-#[test]
-fn each_selection_has_its_output(rt: HostRuntime) -> Result<(), Fail> {
-    play(
-        &rt,
-        "\
+/// Scripts, each behind its name.
+pub(super) const SCRIPTS: &str = "
+## each_selection_has_its_output
 file log INSERT_ONE_ROW
 $ -B -j 0 @log
 >+ INSERT_ONE_ROW 200=32
@@ -134,15 +129,9 @@ same new @written
 remove new
 file old long
 $ -B -j 160 --stop-position 100 -r @old @log
-same old @written",
-    )
-}
+same old @written
 
-#[test]
-fn each_selection_has_its_fault(rt: HostRuntime) -> Result<(), Fail> {
-    play(
-        &rt,
-        "\
+## each_selection_has_its_fault
 file log INSERT_ONE_ROW
 $ -B -j 159 @log
 ! flashback: OutOfPlace at 159
@@ -203,15 +192,9 @@ file old long
 $ --forward --stop-position 232 -r @old @log
 ! flashback: Unended at 232
 = 1
-same old long",
-    )
-}
+same old long
 
-#[test]
-fn a_cut_log_leaves_the_file_alone(rt: HostRuntime) -> Result<(), Fail> {
-    play(
-        &rt,
-        "\
+## a_cut_log_leaves_the_file_alone
 file log INSERT_ONE_ROW ..258
 $ -B @log
 ! flashback: CutEvent at 232
@@ -224,15 +207,9 @@ file old long
 $ -B -r @old @log
 ! flashback: CutEvent at 232
 = 1
-same old long",
-    )
-}
+same old long
 
-#[test]
-fn a_stop_leaves_out_what_cannot_be_undone(rt: HostRuntime) -> Result<(), Fail> {
-    play(
-        &rt,
-        "\
+## a_stop_leaves_out_what_cannot_be_undone
 # an event that can't be undone is at 259
 file log dropped
 $ -B @log
@@ -255,15 +232,9 @@ same new @written
 remove new
 file old long
 $ -B --stop-position 259 -r @old @log
-same old @written",
-    )
-}
+same old @written
 
-#[test]
-fn other_tables_are_not_judged(rt: HostRuntime) -> Result<(), Fail> {
-    play(
-        &rt,
-        "\
+## other_tables_are_not_judged
 # the type of the column can't be undone
 file log INSERT_ONE_ROW 193=6
 $ -B @log
@@ -286,6 +257,5 @@ same new @written
 remove new
 file old long
 $ -B -d e -r @old @log
-same old @written",
-    )
-}
+same old @written
+";

@@ -1,64 +1,9 @@
 //! Arguments that ask for nothing.
 
-use super::{play, run_arguments, run_given};
+use super::{run_arguments, run_given};
 use std::io;
 use std::process::Abort;
 use std::test::Fail;
-
-#[test]
-fn wants_exactly_one_mode(rt: HostRuntime) -> Result<(), Fail> {
-    play(
-        &rt,
-        "\
-$ a.binlog
-! flashback: choose one of -B, --forward, --summary
-= 2
-$ -j 4 -r undo.binlog a.binlog
-! flashback: choose one of -B, --forward, --summary
-= 2
-$ --sql a.binlog
-! flashback: choose one of -B, --forward, --summary
-= 2
-$ -B --forward a.binlog
-! flashback: choose one of -B, --forward, --summary
-= 2
-$ -B --summary a.binlog
-! flashback: choose one of -B, --forward, --summary
-= 2
-$ --forward --summary a.binlog
-! flashback: choose one of -B, --forward, --summary
-= 2
-$ -B --forward --summary a.binlog
-! flashback: choose one of -B, --forward, --summary
-= 2
-$ --sql -B --forward a.binlog
-! flashback: choose one of -B, --forward, --summary
-= 2
-$ -B --summary --sql a.binlog
-! flashback: choose one of -B, --forward, --summary
-= 2
-$ --sql -B --forward --summary a.binlog
-! flashback: choose one of -B, --forward, --summary
-= 2",
-    )
-}
-
-#[test]
-fn a_summary_is_no_sql(rt: HostRuntime) -> Result<(), Fail> {
-    play(
-        &rt,
-        "\
-$ --summary --sql a.binlog
-! flashback: --sql goes with -B or --forward
-= 2
-$ --sql a.binlog --summary
-! flashback: --sql goes with -B or --forward
-= 2
-$ --sql --summary -r undo.binlog a.binlog
-! flashback: --sql goes with -B or --forward
-= 2",
-    )
-}
 
 /// Arguments with control characters, and how the text begins that tells what is wrong.
 static WITH_CONTROLS: [(&[&str], &str); 4] = [
@@ -92,10 +37,59 @@ fn wrong_arguments_are_told_without_control_characters(rt: HostRuntime) -> Resul
 }
 
 #[test]
-fn refuses_wrong_arguments(rt: HostRuntime) -> Result<(), Fail> {
-    play(
-        &rt,
-        "\
+fn refuses_arguments_that_the_system_does_not_give(rt: HostRuntime) {
+    let outcome = run_given(&rt, Err(io::Error::from(io::ErrorKind::InvalidData)));
+    assert!(rt; outcome.is_refusal(2, "flashback: the arguments are not UTF-8\n"));
+    let outcome = run_given(&rt, Err(io::Error::from(io::ErrorKind::OutOfMemory)));
+    assert!(rt; outcome.is_refusal(1, "flashback: OutOfMemory\n"));
+}
+
+/// Scripts, each behind its name.
+pub(super) const SCRIPTS: &str = "
+## wants_exactly_one_mode
+$ a.binlog
+! flashback: choose one of -B, --forward, --summary
+= 2
+$ -j 4 -r undo.binlog a.binlog
+! flashback: choose one of -B, --forward, --summary
+= 2
+$ --sql a.binlog
+! flashback: choose one of -B, --forward, --summary
+= 2
+$ -B --forward a.binlog
+! flashback: choose one of -B, --forward, --summary
+= 2
+$ -B --summary a.binlog
+! flashback: choose one of -B, --forward, --summary
+= 2
+$ --forward --summary a.binlog
+! flashback: choose one of -B, --forward, --summary
+= 2
+$ -B --forward --summary a.binlog
+! flashback: choose one of -B, --forward, --summary
+= 2
+$ --sql -B --forward a.binlog
+! flashback: choose one of -B, --forward, --summary
+= 2
+$ -B --summary --sql a.binlog
+! flashback: choose one of -B, --forward, --summary
+= 2
+$ --sql -B --forward --summary a.binlog
+! flashback: choose one of -B, --forward, --summary
+= 2
+
+## a_summary_is_no_sql
+$ --summary --sql a.binlog
+! flashback: --sql goes with -B or --forward
+= 2
+$ --sql a.binlog --summary
+! flashback: --sql goes with -B or --forward
+= 2
+$ --sql --summary -r undo.binlog a.binlog
+! flashback: --sql goes with -B or --forward
+= 2
+
+## refuses_wrong_arguments
 $
 !~ error: 
 = 2
@@ -125,26 +119,14 @@ $ -B --sql --sql a.binlog
 = 2
 $ -B --sql=true a.binlog
 !~ error: 
-= 2",
-    )
-}
+= 2
 
-#[test]
-fn what_an_argument_may_hold_comes_before_the_count_of_modes(rt: HostRuntime) -> Result<(), Fail> {
-    play(
-        &rt,
-        "\
+## what_an_argument_may_hold_comes_before_the_count_of_modes
 $ --no-such-word
 !~ error: unexpected argument '--no-such-word' found
-= 2",
-    )
-}
+= 2
 
-#[test]
-fn refuses_wrong_positions(rt: HostRuntime) -> Result<(), Fail> {
-    play(
-        &rt,
-        "\
+## refuses_wrong_positions
 $ -B -j x a.binlog
 !~ error: invalid value 'x' for '--start-position <POS>': not a position: 
 = 2
@@ -216,14 +198,5 @@ $ -B -j 18446744073709551620 a.binlog
 = 2
 $ -B --stop-position 18446744073709551620 a.binlog
 !~ error: invalid value '18446744073709551620' for '--stop-position <POS>': not a position: 
-= 2",
-    )
-}
-
-#[test]
-fn refuses_arguments_that_the_system_does_not_give(rt: HostRuntime) {
-    let outcome = run_given(&rt, Err(io::Error::from(io::ErrorKind::InvalidData)));
-    assert!(rt; outcome.is_refusal(2, "flashback: the arguments are not UTF-8\n"));
-    let outcome = run_given(&rt, Err(io::Error::from(io::ErrorKind::OutOfMemory)));
-    assert!(rt; outcome.is_refusal(1, "flashback: OutOfMemory\n"));
-}
+= 2
+";
