@@ -312,18 +312,18 @@ RefusesTime value (Wrong text) = IsSome value
 RefusesTime value NotText = ⊥
 RefusesTime value OutOfMemory = ⊤
 
--- a position, a thread or a global transaction id is wrong, or a time or the name of a zone may be
-abbrev pub HasWrongValue : Found → Type 0
-HasWrongValue found = IsWrongPosition (first_value found (codes "start-position")) ⊎ IsWrongPosition (first_value found (codes "stop-position"))
-    ⊎ IsSome (first_value found (codes "start-datetime")) ⊎ IsSome (first_value found (codes "stop-datetime"))
-    ⊎ IsSome (first_value found (codes "time-zone")) ⊎ HasWrongNumber (all_values found (codes "thread"))
-    ⊎ HasWrongIds (all_values found (codes "gtid"))
+-- why a start and a stop aren't asked for, by position and by time
+abbrev pub RefusesRange : {A : Type 0} → Found → ArgumentsFault A → Type 0
+RefusesRange found fault = RefusesPosition (first_value found (codes "start-position")) fault ⊎ RefusesPosition (first_value found (codes "stop-position")) fault
 
--- why no list is asked for: that, or memory was refused
+abbrev pub RefusesTimes : {A : Type 0} → Found → ArgumentsFault A → Type 0
+RefusesTimes found fault = RefusesTime (first_value found (codes "start-datetime")) fault ⊎ RefusesTime (first_value found (codes "stop-datetime")) fault
+
+-- why no list is asked for: a position, a thread or a global transaction id is wrong, or a time or the name of a zone may be, or memory was
+-- refused
 abbrev pub RefusesList : {A : Type 0} → Found → ArgumentsFault A → Type 0
-RefusesList found (Wrong text) = HasWrongValue found
-RefusesList found NotText = ⊥
-RefusesList found OutOfMemory = ⊤
+RefusesList found fault = RefusesTime (first_value found (codes "time-zone")) fault ⊎ RefusesRange found fault ⊎ RefusesTimes found fault
+    ⊎ RefusesNumbers (all_values found (codes "thread")) fault ⊎ RefusesIds (all_values found (codes "gtid")) fault
 
 -- changes as they are in a log, as SQL
 abbrev pub as_sql : ℕ → SqlOptions → Writing
@@ -339,14 +339,13 @@ RefusesSql found fault = RefusesSize (first_value found (codes "size")) fault �
 
 -- why no transactions are chosen: a position, a thread or a global transaction id is wrong, or a time may be, or memory was refused
 abbrev pub RefusesUnits : {A : Type 0} → Found → ArgumentsFault A → Type 0
-RefusesUnits found fault = RefusesNumbers (all_values found (codes "at")) fault ⊎ RefusesTime (first_value found (codes "start-datetime")) fault ⊎ RefusesTime (first_value found (codes "stop-datetime")) fault
+RefusesUnits found fault = RefusesNumbers (all_values found (codes "at")) fault ⊎ RefusesTimes found fault
     ⊎ RefusesNumbers (all_values found (codes "thread")) fault ⊎ RefusesIds (all_values found (codes "gtid")) fault
 
 -- why no part of a log is asked for: a position, the number of bytes or a pair of schemas is wrong, the name of a zone may be, no transactions
 -- are chosen for such a reason, or memory was refused
 abbrev pub RefusesPart : {A : Type 0} → Found → ArgumentsFault A → Type 0
-RefusesPart found fault = RefusesPosition (first_value found (codes "start-position")) fault
-    ⊎ RefusesPosition (first_value found (codes "stop-position")) fault ⊎ RefusesSql found fault
+RefusesPart found fault = RefusesRange found fault ⊎ RefusesSql found fault
     ⊎ RefusesTime (first_value found (codes "time-zone")) fault ⊎ RefusesUnits found fault
 
 -- the parser found the command of this name

@@ -6,7 +6,7 @@ ghost use Rattle.console.specs.Positions.{IsPositionOf};
 ghost use Rattle.jiff.specs.Words.{plain_zone};
 ghost use Rattle.blog_choice.specs.Choice.{read_name};
 ghost use Rattle.blog_choice.specs.code.Views.{name_value};
-ghost use Rattle.binlog_arguments.specs.Request.{AreIds, AreNumbers, HasTask, IsWrong, IsListTask, IsTimeOf, IsZoneAsked, RefusesIds, RefusesList, RefusesNumbers, RefusesTime, all_values, form_of, is_given, sorting_of};
+ghost use Rattle.binlog_arguments.specs.Request.{AreIds, AreNumbers, AreTimes, HasTask, IsWrong, IsListTask, IsTimeOf, IsZoneAsked, RefusesIds, RefusesList, RefusesNumbers, RefusesRange, RefusesTime, RefusesTimes, all_values, form_of, is_given, sorting_of};
 ghost use Rattle.binlog_arguments.specs.declared.arguments.ArgumentsFault.TheVariants.{OutOfMemory};
 
 use crate::arguments::{ArgumentsFault, is_given, read_number};
@@ -100,18 +100,22 @@ pub(crate) fn read_list<'a, R: Files + Env + AllocGlobal, A: Allocator + Copy>(
     ensures refused { IfErr result (RefusesList (found_of found.now)) }
 {
     let zone = read_zone(rt, alloc, command, found)?;
-    let clock = zone.time_zone();
+    let range = read_range(alloc, command, found)?;
+    let times = read_times(alloc, command, found, zone.time_zone())?;
+    let names = read_names(alloc, found)?;
+    let threads = read_numbers(alloc, command, found, THREAD, "N", THREAD_ID)?;
+    let gtids = read_gtids(alloc, command, found)?;
     Ok(ListTask {
-        logs: read_paths(alloc, found, LOG)?,
-        start: read_number(alloc, command, found, START, "POS", POSITION)?,
-        stop: read_number(alloc, command, found, STOP, "POS", POSITION)?,
-        from_time: read_time(alloc, command, found, START_TIME, clock, Side::Start)?,
-        to_time: read_time(alloc, command, found, STOP_TIME, clock, Side::Stop)?,
-        threads: read_numbers(alloc, command, found, THREAD, "N", THREAD_ID)?,
-        gtids: read_gtids(alloc, command, found)?,
+        logs: names.logs,
+        start: range.start,
+        stop: range.stop,
+        from_time: times.from,
+        to_time: times.to,
+        threads,
+        gtids,
         database: found.get_str(DATABASE).map(str::as_bytes),
-        tables: read_tables(alloc, found, TABLE)?,
-        excluded: read_tables(alloc, found, EXCLUDED_TABLE)?,
+        tables: names.tables,
+        excluded: names.excluded,
         form: read_form(found),
         show_gtids: is_given(found, SHOW_GTID),
         sorting: read_sorting(found),
@@ -120,6 +124,83 @@ pub(crate) fn read_list<'a, R: Files + Env + AllocGlobal, A: Allocator + Copy>(
             skip_damaged: is_given(found, SKIP_DAMAGED),
         },
         zone,
+    })
+}
+
+/// A range of positions.
+#[derive(Clone, Copy, Debug)]
+pub(crate) struct Range {
+    /// From this one on.
+    pub(crate) start: Option<u32>,
+    /// Up to this one, and without it.
+    pub(crate) stop: Option<u32>,
+}
+
+/// The range of positions that the arguments ask for.
+pub(crate) fn read_range<'a, A: Allocator + Copy>(
+    alloc: A,
+    command: &mut Command<'a>,
+    found: &ArgMatches<'a>,
+) -> Result<Range, ArgumentsFault<A>>
+    ensures start { IfOk result (λ range. IsPositionOf (first_value (found_of found.now) (codes "start-position")) range.start) }
+    ensures stop { IfOk result (λ range. IsPositionOf (first_value (found_of found.now) (codes "stop-position")) range.stop) }
+    ensures wrong { IfErr result (RefusesRange (found_of found.now)) }
+{
+    Ok(Range {
+        start: read_number(alloc, command, found, START, "POS", POSITION)?,
+        stop: read_number(alloc, command, found, STOP, "POS", POSITION)?,
+    })
+}
+
+/// A range of times, in seconds since 1970 in UTC.
+#[derive(Clone, Copy, Debug)]
+pub(crate) struct Times {
+    /// From this one on.
+    pub(crate) from: Option<u32>,
+    /// Up to this one, and without it.
+    pub(crate) to: Option<u32>,
+}
+
+/// The range of times that the arguments ask for, by the clock of a zone.
+pub(crate) fn read_times<'a, A: Allocator + Copy>(
+    alloc: A,
+    command: &mut Command<'a>,
+    found: &ArgMatches<'a>,
+    zone: TimeZone<'_>,
+) -> Result<Times, ArgumentsFault<A>>
+    ensures found { IfOk result (λ times. AreTimes (found_of found.now) times.from times.to (plain_zone zone.entry)) }
+    ensures wrong { IfErr result (RefusesTimes (found_of found.now)) }
+{
+    Ok(Times {
+        from: read_time(alloc, command, found, START_TIME, zone, Side::Start)?,
+        to: read_time(alloc, command, found, STOP_TIME, zone, Side::Stop)?,
+    })
+}
+
+/// What `list` names.
+#[derive(Drop)]
+struct Names<'a, A: Allocator> {
+    /// The paths of logs.
+    logs: Vec<&'a str, A>,
+    /// The chosen tables.
+    tables: Vec<TableName<'a>, A>,
+    /// Tables that aren't chosen.
+    excluded: Vec<TableName<'a>, A>,
+}
+
+/// The logs and tables that the arguments of `list` name.
+fn read_names<'a, A: Allocator + Copy>(
+    alloc: A,
+    found: &ArgMatches<'a>,
+) -> Result<Names<'a, A>, AllocError>
+    ensures logs { IfOk result (λ names. map (λ path. path.now) names.logs.items ≡ all_values (found_of found.now) (codes "LOG")) }
+    ensures tables { IfOk result (λ names. map name_value names.tables.items ≡ map read_name (all_values (found_of found.now) (codes "table"))) }
+    ensures excluded { IfOk result (λ names. map name_value names.excluded.items ≡ map read_name (all_values (found_of found.now) (codes "exclude-table"))) }
+{
+    Ok(Names {
+        logs: read_paths(alloc, found, LOG)?,
+        tables: read_tables(alloc, found, TABLE)?,
+        excluded: read_tables(alloc, found, EXCLUDED_TABLE)?,
     })
 }
 

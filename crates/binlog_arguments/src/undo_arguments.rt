@@ -7,9 +7,9 @@ ghost use Rattle.blog_sql.specs.Changed.{HaveShortNames};
 ghost use Rattle.blog_trans.specs.Selection.{selection_of};
 ghost use Rattle.binlog_arguments.specs.Request.{HasPartWriting, IsPart, IsPartTask, RefusesPart, later_paths, looks_later};
 
-use crate::arguments::{ArgumentsFault, is_given, read_number};
-use crate::list_arguments::{read_paths, read_zone};
-use crate::options::{ANYWAY, AS_LOG, DATABASE, DRY_RUN, LATER, START, STOP, TABLE};
+use crate::arguments::{ArgumentsFault, is_given};
+use crate::list_arguments::{read_paths, read_range, read_zone};
+use crate::options::{ANYWAY, AS_LOG, DATABASE, DRY_RUN, LATER, TABLE};
 use crate::sql_arguments::{SqlTask, read_sql};
 use crate::unit_choice::{UnitChoice, read_unit_choice};
 use crate::zones::Zone;
@@ -18,7 +18,6 @@ use blog_row::Order;
 use blog_run::Writing;
 use blog_trans::Selection;
 use clap::{ArgMatches, Command};
-use console::POSITION;
 use std::alloc::{AllocError, Allocator};
 use std::rt::{Env, Files};
 
@@ -75,14 +74,13 @@ pub(crate) fn read_part<'a, R: Files + Env + AllocGlobal, A: Allocator + Copy>(
     ensures names { IfOk result (λ task. HaveShortNames task.sql.schemas.items) }
     ensures refused { IfErr result (RefusesPart (found_of found.now)) }
 {
-    let start = read_number(alloc, command, found, START, "POS", POSITION)?;
-    let stop = read_number(alloc, command, found, STOP, "POS", POSITION)?;
+    let range = read_range(alloc, command, found)?;
     let sql = read_sql(alloc, command, found)?;
     let zone = read_zone(rt, alloc, command, found)?;
     let units = read_unit_choice(alloc, command, found, zone.time_zone())?;
     Ok(PartTask {
         sql,
-        part: part_of(found, start, stop),
+        part: part_of(found, range.start, range.stop),
         units,
         order,
         as_log: is_given(found, AS_LOG),

@@ -1,15 +1,14 @@
 //! Which transactions the arguments of `undo` and `redo` choose.
 
-ghost use Rattle.std.specs.Prelude.{◌≡◌, IfErr, IfOk};
+ghost use Rattle.std.specs.Prelude.{◌≡◌, IfErr, IfOk, codes, map};
 ghost use Rattle.clap.specs.Words.{found_of};
 ghost use Rattle.jiff.specs.Words.{plain_zone};
-ghost use Rattle.binlog_arguments.specs.Request.{HasUnits, IsUnitChoice, RefusesUnits, chooses_units};
+ghost use Rattle.binlog_arguments.specs.Request.{AreIds, HasUnits, IsUnitChoice, RefusesIds, RefusesUnits, all_values, chooses_units};
 
 use crate::arguments::ArgumentsFault;
-use crate::list_arguments::{THREAD_ID, read_gtids, read_numbers, read_paths, read_time};
-use crate::options::{AT, GTID, START_TIME, STOP_TIME, THREAD};
+use crate::list_arguments::{THREAD_ID, read_gtids, read_numbers, read_paths, read_times};
+use crate::options::{AT, GTID, THREAD};
 use blog_choice::TableChoice;
-use blog_list::Side;
 use blog_request::{GlobalIds, Wanted};
 use clap::{ArgMatches, Command};
 use console::POSITION;
@@ -79,12 +78,40 @@ pub(crate) fn read_unit_choice<'a, A: Allocator + Copy>(
     ensures asked { IfOk result (IsUnitChoice (found_of found.now) (plain_zone zone.entry)) }
     ensures refused { IfErr result (RefusesUnits (found_of found.now)) }
 {
+    let times = read_times(alloc, command, found, zone)?;
+    let at = read_numbers(alloc, command, found, AT, "POS", POSITION)?;
+    let threads = read_numbers(alloc, command, found, THREAD, "N", THREAD_ID)?;
+    let ids = read_asked_ids(alloc, command, found)?;
     Ok(UnitChoice {
-        at: read_numbers(alloc, command, found, AT, "POS", POSITION)?,
-        from_time: read_time(alloc, command, found, START_TIME, zone, Side::Start)?,
-        to_time: read_time(alloc, command, found, STOP_TIME, zone, Side::Stop)?,
-        threads: read_numbers(alloc, command, found, THREAD, "N", THREAD_ID)?,
+        at,
+        from_time: times.from,
+        to_time: times.to,
+        threads,
+        gtids: ids.gtids,
+        gtid_texts: ids.texts,
+    })
+}
+
+/// Global transaction ids that are asked for.
+#[derive(Drop)]
+struct AskedIds<'a, A: Allocator> {
+    gtids: Vec<GlobalIds<'a>, A>,
+    /// As they were given.
+    texts: Vec<&'a str, A>,
+}
+
+/// The global transaction ids that the arguments ask for, in order.
+fn read_asked_ids<'a, A: Allocator + Copy>(
+    alloc: A,
+    command: &mut Command<'a>,
+    found: &ArgMatches<'a>,
+) -> Result<AskedIds<'a, A>, ArgumentsFault<A>>
+    ensures gtids { IfOk result (λ ids. AreIds (all_values (found_of found.now) (codes "gtid")) ids.gtids.items) }
+    ensures texts { IfOk result (λ ids. map (λ text. text.now) ids.texts.items ≡ all_values (found_of found.now) (codes "gtid")) }
+    ensures refused { IfErr result (RefusesIds (all_values (found_of found.now) (codes "gtid"))) }
+{
+    Ok(AskedIds {
         gtids: read_gtids(alloc, command, found)?,
-        gtid_texts: read_paths(alloc, found, GTID)?,
+        texts: read_paths(alloc, found, GTID)?,
     })
 }
