@@ -109,9 +109,9 @@ fn a_line_that_cannot_be_printed_is_dropped(rt: HostRuntime) -> Result<(), Fail>
             &mut output,
             &mut errors,
         );
-        assert_eq!(rt; status, ExitCode::FAILURE);
+        assert!(rt; status == ExitCode::FAILURE);
         assert!(rt; output.device().is_empty());
-        assert_eq!(rt; errors.device().calls, 1);
+        assert!(rt; errors.device().calls == 1);
     }
     Ok(())
 }
@@ -128,7 +128,7 @@ fn a_long_line_is_cut(rt: HostRuntime) -> Result<(), Fail> {
         line.push('a')?;
     }
     line.push('\n')?;
-    assert_eq!(rt; line.len(), 4608);
+    assert!(rt; line.len() == 4608);
     assert!(rt; outcome.is_refusal(1, line.as_str()));
     Ok(())
 }
@@ -145,7 +145,7 @@ fn a_long_line_is_cut_between_characters(rt: HostRuntime) -> Result<(), Fail> {
         line.push('\u{E9}')?;
     }
     line.push('\n')?;
-    assert_eq!(rt; outcome.errors(), line.as_bytes());
+    assert!(rt; outcome.errors() == line.as_bytes());
     Ok(())
 }
 
@@ -155,7 +155,7 @@ fn a_line_has_no_control_characters(rt: HostRuntime) -> Result<(), Fail> {
     let outcome = run_arguments(&rt, &["plain", name])?;
     let line =
         "binlog: cannot open the log not/there\\nbinlog: done\\r\\x1b[2J\\x7f\\xc2\\x9b\\t\\\\: No such file or directory (os error 2): see its name and its folder\n";
-    assert_eq!(rt; str::from_utf8(outcome.errors()).ok(), Some(line));
+    assert!(rt; str::from_utf8(outcome.errors()).ok() == Some(line));
     Ok(())
 }
 

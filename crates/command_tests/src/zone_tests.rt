@@ -18,17 +18,11 @@ const FILE: &[u8] =
 /// Checks the zone's name and what its clock shows.
 fn check_zone(rt: &(impl Abort), zone: &Zone, name: &str) {
     let clock = zone.time_zone();
-    assert_eq!(rt; clock.iana_name(), Some(name));
-    assert_eq!(rt;
-        time_text(clock, 1_792_886_400).as_str(),
-        "2026-10-25 02:00:00"
-    );
-    assert_eq!(rt;
-        time_text(clock, 1_792_890_000).as_str(),
-        "2026-10-25 02:00:00"
-    );
+    assert!(rt; clock.iana_name() == Some(name));
+    assert!(rt; time_text(clock, 1_792_886_400).as_str() == "2026-10-25 02:00:00");
+    assert!(rt; time_text(clock, 1_792_890_000).as_str() == "2026-10-25 02:00:00");
     let skipped = seconds_of("2026-03-29 02:30:00", clock, Side::Start);
-    assert_eq!(rt; skipped, Err(TimeFault::Skipped));
+    assert!(rt; skipped == Err(TimeFault::Skipped));
 }
 
 #[test]
@@ -65,10 +59,10 @@ fn zones_are_read_from_their_files(rt: HostRuntime) -> Result<(), Fail> {
 
 #[test]
 fn zones_have_clocks(rt: HostRuntime) -> Result<(), Fail> {
-    assert_eq!(rt; Zone::Utc.time_zone(), TimeZone::UTC);
+    assert!(rt; Zone::Utc.time_zone() == TimeZone::UTC);
     let rule = jiff_tz::posix::TimeZone::parse(b"CET-1CEST,M3.5.0,M10.5.0/3")?;
     let zone = Zone::Rule(rule);
     let shown = time_text(zone.time_zone(), 1_792_890_000);
-    assert_eq!(rt; shown.as_str(), "2026-10-25 02:00:00");
+    assert!(rt; shown.as_str() == "2026-10-25 02:00:00");
     Ok(())
 }

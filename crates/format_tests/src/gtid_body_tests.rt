@@ -42,7 +42,7 @@ static GREATEST: [u8; 83] = [
 
 /// A body that can't be read.
 fn check_unread(rt: &impl Abort, body: &[u8]) {
-    assert_eq!(rt; tagged_id(body), None, "{} bytes", body.len());
+    assert!(rt; tagged_id(body) == None, "{} bytes", body.len());
     assert!(rt;
         gtid_body(body).as_slice() == [0; 25].as_slice(),
         "{} bytes",
@@ -65,7 +65,7 @@ fn reads_what_a_server_wrote(rt: HostRuntime) {
         number: 1,
         tag: b"tag1",
     };
-    assert_eq!(rt; tagged_id(&WRITTEN), Some(id));
+    assert!(rt; tagged_id(&WRITTEN) == Some(id));
     let written = [
         0x00, 0x9D, 0xC9, 0x05, 0x77, 0xE9, 0x33, 0x11, 0xF1, 0x9D, 0xB2, 0x02, 0xFC, 0x00, 0x00,
         0x00, 0x01, 0x01, 0x00, 0x00, 0x00, 0x00, 0x00, 0x00, 0x00, 0x2A, 0x74, 0x61, 0x67, 0x31,
@@ -91,14 +91,14 @@ fn reads_the_least_and_the_greatest(rt: HostRuntime) {
         number: 1,
         tag: b"",
     };
-    assert_eq!(rt; tagged_id(&SHORTEST), Some(least));
+    assert!(rt; tagged_id(&SHORTEST) == Some(least));
     let greatest = TaggedId {
         flags: 255,
         server: [255; 16],
         number: 0x7FFF_FFFF_FFFF_FFFF,
         tag: b"zzzzzzzzzzzzzzzzzzzzzzzzzzzzzzzz",
     };
-    assert_eq!(rt; tagged_id(&GREATEST), Some(greatest));
+    assert!(rt; tagged_id(&GREATEST) == Some(greatest));
     let mut written = [0x7A; 58];
     written[..24].copy_from_slice(&[0xFF; 24]);
     written[24] = 0x7F;
@@ -173,7 +173,7 @@ fn reads_each_field(rt: HostRuntime) {
             tag,
         };
         let body = changed(&rt, WRITTEN, place, byte);
-        assert_eq!(rt; tagged_id(&body), Some(id), "{byte} at {place}");
+        assert!(rt; tagged_id(&body) == Some(id), "{byte} at {place}");
         let len = if tag.is_empty() { 25 } else { 30 };
         assert!(rt; gtid_body(&body).len() == len, "{byte} at {place}");
     }
@@ -247,10 +247,10 @@ fn reads_integers_of_each_length(rt: HostRuntime) -> Result<(), Fail> {
         let body = with_integer(&rt, bytes)?;
         let read = tagged_id(&body).map(|id| (id.number, id.tag));
         let wanted = (value % 2 == 0).then_some((value / 2, b"a".as_slice()));
-        assert_eq!(rt; read, wanted, "{value}");
+        assert!(rt; read == wanted, "{value}");
         let (_, front) = bytes.split_last().ok_or("an integer of no bytes")?;
         let cut = with_integer(&rt, front)?;
-        assert_eq!(rt; tagged_id(&cut), None, "{value} without its last byte");
+        assert!(rt; tagged_id(&cut) == None, "{value} without its last byte");
     }
     Ok(())
 }

@@ -439,7 +439,7 @@ static PARTIAL: [(RowsKind, &[u8], &[u8]); 6] = [
 fn refuses_bad_bodies(rt: HostRuntime) {
     for (kind, map, body) in &BAD {
         let refused = event_of(&rt, *kind, map, body).err();
-        assert_eq!(rt; refused, Some(RowFault::BadBody), "at {body:?}");
+        assert!(rt; refused == Some(RowFault::BadBody), "at {body:?}");
     }
 }
 
@@ -447,7 +447,7 @@ fn refuses_bad_bodies(rt: HostRuntime) {
 fn refuses_partial_images(rt: HostRuntime) {
     for (kind, map, body) in &PARTIAL {
         let refused = event_of(&rt, *kind, map, body).err();
-        assert_eq!(rt; refused, Some(RowFault::PartialImage), "at {body:?}");
+        assert!(rt; refused == Some(RowFault::PartialImage), "at {body:?}");
     }
 }
 

@@ -95,15 +95,15 @@ fn check_changed(
 #[test]
 fn changed_plain_logs_are_listed(rt: HostRuntime) -> Result<(), Fail> {
     let all = IN_USE_PLAIN.len().wrapping_sub(FIRST);
-    assert_eq!(rt; check_changed(&rt, &IN_USE_PLAIN, true)?, all);
+    assert!(rt; check_changed(&rt, &IN_USE_PLAIN, true)? == all);
     let all = ALTER_BETWEEN.len().wrapping_sub(FIRST);
-    assert_eq!(rt; check_changed(&rt, &ALTER_BETWEEN, true)?, all);
+    assert!(rt; check_changed(&rt, &ALTER_BETWEEN, true)? == all);
     Ok(())
 }
 
 #[test]
 fn changed_logs_with_checksums_are_listed(rt: HostRuntime) -> Result<(), Fail> {
     let all = CLOSED.len().wrapping_sub(FIRST);
-    assert_eq!(rt; check_changed(&rt, &CLOSED, false)?, all);
+    assert!(rt; check_changed(&rt, &CLOSED, false)? == all);
     Ok(())
 }

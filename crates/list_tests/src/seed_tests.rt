@@ -13,7 +13,7 @@ fn list_of(rt: &(impl AllocGlobal + Abort), style: &Style<'_>) -> Result<Vec<u8>
     let mut output = Watched::new(Vec::new(rt.alloc()));
     let source = source_of(rt, &MULTI_TABLE)?;
     let answer = list(rt.alloc(), rt.alloc(), &source, &ALL, style, &mut output);
-    assert_eq!(rt; answer, Ok(None));
+    assert!(rt; answer == Ok(None));
     Ok(output.device().to_vec(rt.alloc())?)
 }
 
@@ -22,7 +22,7 @@ fn lists_are_the_same_by_each_seed(rt: HostRuntime) -> Result<(), Fail> {
     for style in [TEXT, JSON] {
         let fixed = list_of(&rt, &style)?;
         let seeded = list_of(&rt, &Style { seed: 7, ..style })?;
-        assert_eq!(rt; seeded.as_slice(), fixed.as_slice());
+        assert!(rt; seeded.as_slice() == fixed.as_slice());
     }
     Ok(())
 }

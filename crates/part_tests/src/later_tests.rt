@@ -50,7 +50,7 @@ fn check_failed_read<'l, R: AllocGlobal + Abort>(
         Err(PartFault::LaterLog(1, OpeningFault::Run(RunFault::Read))) => {}
         _ => return Err("the read wasn't missed".into()),
     }
-    assert_eq!(rt; writer.device().calls, 0);
+    assert!(rt; writer.device().calls == 0);
     Ok(())
 }
 

@@ -43,7 +43,7 @@ fn check_parts<R: AllocGlobal + Abort>(
 {
     let places = places(rt, log)?;
     let positions = crate::place_tests::places(rt, copy)?;
-    assert_eq!(rt; places.len(), positions.len());
+    assert!(rt; places.len() == positions.len());
     for (start, from) in places.iter().zip(positions.iter()) {
         for (stop, to) in places.iter().zip(positions.iter()) {
             let (came, text, _) = part_of(rt, log, &between(*start, Some(*stop)), writing)?;
@@ -114,17 +114,17 @@ fn parts_start_where_an_event_does(rt: HostRuntime) -> Result<(), Fail> {
     for start in 0..end.wrapping_add(20) {
         let came = undone(&rt, &CLOSED, &between(start, None))?;
         let is_place = start <= 4 || places.contains(&start);
-        assert_eq!(rt; came != Came::NoEventAt(start), is_place);
+        assert!(rt; (came != Came::NoEventAt(start)) == is_place);
         // the part is empty, wherever it starts
         for stop in [0, 4, start] {
             let part = between(start, Some(stop.min(start)));
             let came = undone(&rt, &CLOSED, &part)?;
-            assert_eq!(rt; came, Came::NothingSelected);
+            assert!(rt; came == Came::NothingSelected);
         }
     }
     let came = undone(&rt, &CLOSED, &between(end, None))?;
-    assert_eq!(rt; came, Came::NothingSelected);
+    assert!(rt; came == Came::NothingSelected);
     let came = undone(&rt, &CLOSED, &between(u32::MAX, None))?;
-    assert_eq!(rt; came, Came::NoEventAt(u32::MAX));
+    assert!(rt; came == Came::NoEventAt(u32::MAX));
     Ok(())
 }

@@ -48,7 +48,7 @@ const STOP: u32 = 1215;
 fn damage_in_front_of_the_stop_is_found(rt: HostRuntime) -> Result<(), Fail> {
     let part = between(START, Some(STOP));
     let (came, wanted, _) = part_of(&rt, &CLOSED, &part, &UNDO)?;
-    assert_eq!(rt; came, Came::Done);
+    assert!(rt; came == Came::Done);
     for at in 126..CLOSED.len() {
         let log = changed(&rt, at)?;
         let (begins, _) = event_with(&CLOSED, at as u32).ok_or("no event")?;
@@ -101,7 +101,7 @@ fn cut_logs_are_refused(rt: HostRuntime) -> Result<(), Fail> {
 fn the_first_fault_is_told(rt: HostRuntime) -> Result<(), Fail> {
     let statement = Came::Log(Fault::Statement { pos: 567 });
     let came = undone(&rt, &IN_USE, &between(198, None))?;
-    assert_eq!(rt; came, statement);
+    assert!(rt; came == statement);
     let later = Came::Log(Fault::Statement { pos: 1447 });
     for (at, wanted, wanted_later) in [
         (300_usize, None, None),
@@ -114,14 +114,14 @@ fn the_first_fault_is_told(rt: HostRuntime) -> Result<(), Fail> {
         let (begins, _) = event_with(&IN_USE, at as u32).ok_or("no event")?;
         let damage = Came::Sums(SumFault::WrongSum { pos: begins });
         let came = undone(&rt, &log, &between(198, None))?;
-        assert_eq!(rt; came, wanted.unwrap_or(damage));
+        assert!(rt; came == wanted.unwrap_or(damage));
         // nothing is known behind the damage
         let came = undone(&rt, &log, &between(995, None))?;
-        assert_eq!(rt; came, wanted_later.unwrap_or(damage));
+        assert!(rt; came == wanted_later.unwrap_or(damage));
     }
     // the change of the definition is behind the stop
     let came = undone(&rt, &IN_USE, &between(198, Some(490)))?;
-    assert_eq!(rt; came, Came::Done);
+    assert!(rt; came == Came::Done);
     Ok(())
 }
 
@@ -182,7 +182,7 @@ fn refuse_each<'l, R: AllocGlobal + Abort>(
             Err(_) => return Err("another fault".into()),
         }
         assert!(rt; alloc.has_refused());
-        assert_eq!(rt; writer.device().calls, 0);
+        assert!(rt; writer.device().calls == 0);
     }
     Err("more requests than are tried".into())
 }
@@ -236,7 +236,7 @@ fn a_failed_read_writes_nothing(rt: HostRuntime) -> Result<(), Fail> {
             Err(PartFault::Run(RunFault::Read)) => {}
             _ => return Err("the read wasn't missed".into()),
         }
-        assert_eq!(rt; writer.device().calls, 0);
+        assert!(rt; writer.device().calls == 0);
     }
     Ok(())
 }

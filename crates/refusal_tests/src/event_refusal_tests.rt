@@ -46,17 +46,17 @@ fn is_refused<R: AllocGlobal + Abort>(
         Appending::Opened => (open_event(&mut file, HEADER, 3).err(), &[0; 3]),
     };
     if alloc.has_refused() {
-        assert_eq!(rt; fault, Some(Fault::OutOfMemory));
-        assert_eq!(rt; file.as_slice(), front());
-        assert_eq!(rt; file.capacity(), capacity);
+        assert!(rt; fault == Some(Fault::OutOfMemory));
+        assert!(rt; file.as_slice() == front());
+        assert!(rt; file.capacity() == capacity);
     } else {
         let event = Part::Other {
             kind: 5,
             flags: 0,
             body,
         };
-        assert_eq!(rt; fault, None);
-        assert_eq!(rt; file.as_slice(), build(rt, &[event])?.as_slice());
+        assert!(rt; fault == None);
+        assert!(rt; file.as_slice() == build(rt, &[event])?.as_slice());
     }
     Ok(alloc.has_refused())
 }
@@ -68,7 +68,7 @@ fn requests_of<R: AllocGlobal + Abort>(rt: &R, appending: Appending) -> Result<u
         // The first request is for the file itself.
         let alloc = Refusing::new(&heap, number + 2);
         let refused = is_refused(rt, &alloc, appending)?;
-        assert_eq!(rt; heap.used(), 0);
+        assert!(rt; heap.used() == 0);
         if !refused {
             return Ok(number);
         }

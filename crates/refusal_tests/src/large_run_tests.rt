@@ -149,7 +149,7 @@ fn check_runs<R: AllocGlobal + Abort>(
     summary: &[u8],
 ) -> Result<(), Fail> {
     let log = inserts(rt, tables)?;
-    assert_eq!(rt; log.len(), len);
+    assert!(rt; log.len() == len);
     check_written(rt, &log, MOST, Mode::Flashback, &deletes(rt, tables)?);
     check_written(rt, &log, MOST, Mode::Forward, &log);
     let text = printed_deletes(rt, tables)?;

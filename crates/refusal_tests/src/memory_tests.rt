@@ -116,7 +116,7 @@ fn fault_of_answer<R: AllocGlobal + Abort>(
 ) -> Option<Fault> {
     match answer(alloc, log, mode, &Selection::all()) {
         Ok(answered) => {
-            assert_eq!(rt; answered.as_slice(), text);
+            assert!(rt; answered.as_slice() == text);
             None
         }
         Err(fault) => Some(fault),
@@ -135,7 +135,7 @@ fn fault_of_prepare<R: AllocGlobal + Abort>(
     assert!(rt; !reader.failed());
     match prepared {
         Ok(prepared) => {
-            assert_eq!(rt; prepared.as_slice(), text);
+            assert!(rt; prepared.as_slice() == text);
             None
         }
         Err(RunFault::Log(fault)) => Some(fault),
@@ -157,12 +157,12 @@ fn fault_of_run<R: AllocGlobal + Abort>(
     assert!(rt; !reader.failed() && !writer.failed());
     match ran {
         Ok(()) => {
-            assert_eq!(rt; writer.device().taken.as_slice(), text);
+            assert!(rt; writer.device().taken.as_slice() == text);
             assert!(rt; writer.device().calls > 1);
             None
         }
         Err(RunFault::Log(fault)) => {
-            assert_eq!(rt; writer.device().calls, 0);
+            assert!(rt; writer.device().calls == 0);
             Some(fault)
         }
         Err(fault) => panic!(rt; "{fault:?}"),
@@ -225,12 +225,12 @@ fn requests_of<R: AllocGlobal + Abort>(rt: &R, log: &[u8], call: Call<'_>) -> Re
     for number in 0..MOST_REQUESTS {
         let alloc = Refusing::new(&heap, number + 1);
         let fault = fault_of(rt, &alloc, log, call);
-        assert_eq!(rt; heap.used(), 0);
+        assert!(rt; heap.used() == 0);
         if !alloc.has_refused() {
-            assert_eq!(rt; fault, None);
+            assert!(rt; fault == None);
             return Ok(number);
         }
-        assert_eq!(rt; fault, Some(Fault::OutOfMemory), "request {}", number + 1);
+        assert!(rt; fault == Some(Fault::OutOfMemory), "request {}", number + 1);
     }
     Err("more requests than are tried".into())
 }
@@ -248,7 +248,7 @@ fn check_mode<R: AllocGlobal + Abort>(
     assert!(rt; answered >= LEAST_REQUESTS, "{mode:?}: {answered}");
     // The log is read into memory, and to write takes none.
     assert!(rt; prepared > answered, "{mode:?}: {prepared} and {answered}");
-    assert_eq!(rt; ran, prepared, "{mode:?}");
+    assert!(rt; ran == prepared, "{mode:?}");
     Ok(())
 }
 
@@ -287,12 +287,12 @@ fn heaps_too_small<R: AllocGlobal + Abort>(rt: &R, log: &[u8], text: &[u8]) -> R
         let heap = LocalHeap::new(rt.alloc(), units * UNIT)?;
         match answer(&heap, log, Mode::Flashback, &Selection::all()) {
             Ok(answered) => {
-                assert_eq!(rt; answered.as_slice(), text);
+                assert!(rt; answered.as_slice() == text);
                 return Ok(units);
             }
-            Err(fault) => assert_eq!(rt; fault, Fault::OutOfMemory),
+            Err(fault) => assert!(rt; fault == Fault::OutOfMemory),
         }
-        assert_eq!(rt; heap.used(), 0);
+        assert!(rt; heap.used() == 0);
     }
     Err("no heap is large enough".into())
 }

@@ -18,9 +18,9 @@ pub fn check_fault<R: AllocGlobal + Abort>(
     sel: &Selection<'_>,
     fault: Option<Fault>,
 ) {
-    assert_eq!(rt; fault_of(rt, bytes, sel), fault, "of the index");
-    assert_eq!(rt; flashback(rt.alloc(), bytes, sel).err(), fault, "undone");
-    assert_eq!(rt; forward(rt.alloc(), bytes, sel).err(), fault, "forward");
+    assert!(rt; fault_of(rt, bytes, sel) == fault, "of the index");
+    assert!(rt; flashback(rt.alloc(), bytes, sel).err() == fault, "undone");
+    assert!(rt; forward(rt.alloc(), bytes, sel).err() == fault, "forward");
     if let Some(fault) = fault {
         check_run(rt, bytes, sel, fault);
     }
@@ -48,6 +48,6 @@ fn check_run<R: AllocGlobal + Abort>(rt: &R, bytes: &[u8], sel: &Selection<'_>, 
     let mut reader = Watched::new(bytes);
     let mut writer = Watched::new(Unwritten);
     let ran = run(rt.alloc(), &mut reader, Mode::Flashback, sel, &mut writer);
-    assert_eq!(rt; ran, Err(RunFault::Log(fault)));
+    assert!(rt; ran == Err(RunFault::Log(fault)));
     assert!(rt; !reader.failed() && !writer.failed());
 }

@@ -63,9 +63,9 @@ fn a_statement_may_have_both_versions(rt: HostRuntime) -> Result<(), Fail> {
     let log = both_versions(&rt, &[0xAA, 0xBB])?;
     let all = Selection::all();
     let written = forward(rt.alloc(), &log, &all)?;
-    assert_eq!(rt; written.as_slice(), normal.as_slice());
+    assert!(rt; written.as_slice() == normal.as_slice());
     let written = flashback(rt.alloc(), &log, &all)?;
-    assert_eq!(rt; written.as_slice(), undone.as_slice());
+    assert!(rt; written.as_slice() == undone.as_slice());
     Ok(())
 }
 
@@ -100,7 +100,7 @@ fn check_lengths<R: AllocGlobal + Abort>(
 ) -> Result<(), Fail> {
     let inserted = with_lengths(rt, count, insert(1, &[5]).old())?;
     let deleted = with_bytes(rt, &inserted, &[(at, 25)])?;
-    assert_eq!(rt; (inserted.len(), inserted.get(at)), (len, Some(&23)));
+    assert!(rt; (inserted.len(), inserted.get(at)) == (len, Some(&23)));
     check_undone(rt, &inserted, &deleted);
     Ok(())
 }

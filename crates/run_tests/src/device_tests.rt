@@ -72,13 +72,13 @@ fn run_marked<R: AllocGlobal + Abort>(
     };
     check_mark(rt, reader.failed(), reader.device().failed_calls);
     check_mark(rt, writer.failed(), writer.device().failed_calls);
-    assert_eq!(rt; reader.failed(), answer == Err(RunFault::Read));
-    assert_eq!(rt; writer.failed(), answer == Err(RunFault::Write));
+    assert!(rt; reader.failed() == (answer == Err(RunFault::Read)));
+    assert!(rt; writer.failed() == (answer == Err(RunFault::Write)));
     answer
 }
 
 fn check_mark(rt: &impl Abort, failed: bool, failed_calls: u64) {
-    assert_eq!(rt; failed, failed_calls != 0);
+    assert!(rt; failed == (failed_calls != 0));
     assert!(rt; failed_calls < 2, "a failed call was tried again");
 }
 
@@ -95,11 +95,11 @@ fn check_run<R: AllocGlobal + Abort>(
     let (step, failure) = writer;
     let mut writer = Watched::new(SlowWriter::new(rt, step, failure));
     let answer = run_marked(rt, &mut reader, &mut writer, logs.chunk_len);
-    assert_eq!(rt; answer, wanted.answer);
-    assert_eq!(rt; reader.device().calls, wanted.reads);
-    assert_eq!(rt; writer.device().calls, wanted.writes);
+    assert!(rt; answer == wanted.answer);
+    assert!(rt; reader.device().calls == wanted.reads);
+    assert!(rt; writer.device().calls == wanted.writes);
     let taken = logs.undone.get(..wanted.taken);
-    assert_eq!(rt; Some(writer.device().taken.as_slice()), taken);
+    assert!(rt; Some(writer.device().taken.as_slice()) == taken);
 }
 
 // The same of the half that reads: it gives the output, or Read.
@@ -109,13 +109,13 @@ fn check_prepare<R: AllocGlobal + Abort>(rt: &R, logs: &Logs, reader: Habit, wan
     let prepared = prepare(rt.alloc(), &mut reader, Mode::Flashback, &Selection::all());
     let answer = match prepared {
         Ok(text) => {
-            assert_eq!(rt; text.as_slice(), logs.undone.as_slice());
+            assert!(rt; text.as_slice() == logs.undone.as_slice());
             Ok(())
         }
         Err(fault) => Err(fault),
     };
-    assert_eq!(rt; answer, wanted.answer);
-    assert_eq!(rt; reader.device().calls, wanted.reads);
+    assert!(rt; answer == wanted.answer);
+    assert!(rt; reader.device().calls == wanted.reads);
     check_mark(rt, reader.failed(), reader.device().failed_calls);
 }
 
@@ -137,7 +137,7 @@ fn check_writer<R: AllocGlobal + Abort>(rt: &R, logs: &Logs, writer: Habit, want
 #[test]
 fn the_logs_have_their_lengths(rt: HostRuntime) -> Result<(), Fail> {
     let logs = two_transactions(&rt)?;
-    assert_eq!(rt; (logs.log.len(), logs.undone.len()), (499, 411));
+    assert!(rt; (logs.log.len(), logs.undone.len()) == (499, 411));
     Ok(())
 }
 
@@ -308,8 +308,8 @@ fn a_refused_log_leaves_the_writer_alone(rt: HostRuntime) -> Result<(), Fail> {
     let mut writer = Watched::new(SlowWriter::new(&rt, ALL, Failure::Never));
     let refused = RunFault::Log(Fault::NotABinlog { pos: 0 });
     let answer = run_marked(&rt, &mut reader, &mut writer, Some(1));
-    assert_eq!(rt; answer, Err(refused));
-    assert_eq!(rt; reader.device().calls, 7);
-    assert_eq!(rt; writer.device().calls, 0);
+    assert!(rt; answer == Err(refused));
+    assert!(rt; reader.device().calls == 7);
+    assert!(rt; writer.device().calls == 0);
     Ok(())
 }

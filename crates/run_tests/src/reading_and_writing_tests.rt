@@ -20,7 +20,7 @@ type Habit = (usize, Failure);
 
 // The mark tells whether a call failed, and no call came after that one.
 fn check_mark(rt: &impl Abort, failed: bool, failed_calls: u64) {
-    assert_eq!(rt; failed, failed_calls != 0);
+    assert!(rt; failed == (failed_calls != 0));
     assert!(rt; failed_calls < 2, "a failed call was tried again");
 }
 
@@ -35,13 +35,13 @@ fn check_read<R: AllocGlobal + Abort>(
     let mut reader = Watched::new(SlowReader::new(TEXT, step, failure));
     let answer = match read_log(rt.alloc(), &mut reader) {
         Ok(bytes) => {
-            assert_eq!(rt; bytes.as_slice(), TEXT);
+            assert!(rt; bytes.as_slice() == TEXT);
             Ok(())
         }
         Err(fault) => Err(fault),
     };
-    assert_eq!(rt; answer, wanted);
-    assert_eq!(rt; reader.device().calls, calls);
+    assert!(rt; answer == wanted);
+    assert!(rt; reader.device().calls == calls);
     check_mark(rt, reader.failed(), reader.device().failed_calls);
 }
 
@@ -55,9 +55,9 @@ fn check_put<R: AllocGlobal + Abort>(
 ) {
     let (step, failure) = writer;
     let mut writer = Watched::new(SlowWriter::new(rt, step, failure));
-    assert_eq!(rt; put(&mut writer, TEXT), wanted);
-    assert_eq!(rt; writer.device().calls, calls);
-    assert_eq!(rt; Some(writer.device().taken.as_slice()), TEXT.get(..taken));
+    assert!(rt; put(&mut writer, TEXT) == wanted);
+    assert!(rt; writer.device().calls == calls);
+    assert!(rt; Some(writer.device().taken.as_slice()) == TEXT.get(..taken));
     check_mark(rt, writer.failed(), writer.device().failed_calls);
 }
 
@@ -98,13 +98,13 @@ fn reading_stops_one_byte_past_the_limit(rt: HostRuntime) -> Result<(), Fail> {
     let bytes = read_up_to(rt.alloc(), &mut Watched::new(reader), 13)
         .ok()
         .ok_or("refused")?;
-    assert_eq!(rt; bytes.as_slice(), b"thirteen byte".as_slice());
+    assert!(rt; bytes.as_slice() == b"thirteen byte".as_slice());
 
     let reader = SlowReader::new(b"thirteen bytes and more", 1, Failure::Never);
     let mut reader = Watched::new(reader);
     let fault = read_up_to(rt.alloc(), &mut reader, 13).err().ok_or("read")?;
-    assert_eq!(rt; fault, RunFault::Log(Fault::TooLong { pos: 0 }));
-    assert_eq!(rt; reader.device().calls, 14);
+    assert!(rt; fault == RunFault::Log(Fault::TooLong { pos: 0 }));
+    assert!(rt; reader.device().calls == 14);
     assert!(rt; !reader.failed());
     Ok(())
 }
@@ -170,10 +170,10 @@ fn check_put_nothing<R: AllocGlobal + Abort>(
     wanted: Result<(), RunFault>,
 ) {
     let mut writer = Watched::new(SlowWriter::new(rt, ALL, failure));
-    assert_eq!(rt; put(&mut writer, b""), wanted);
-    assert_eq!(rt; writer.device().calls, 1);
+    assert!(rt; put(&mut writer, b"") == wanted);
+    assert!(rt; writer.device().calls == 1);
     assert!(rt; writer.device().taken.is_empty());
-    assert_eq!(rt; writer.failed(), wanted.is_err());
+    assert!(rt; writer.failed() == wanted.is_err());
     check_mark(rt, writer.failed(), writer.device().failed_calls);
 }
 
@@ -191,15 +191,15 @@ fn a_watched_device_answers_its_own_errors(rt: HostRuntime) -> Result<(), Fail> 
     for kind in KINDS {
         let mut reader = Watched::new(SlowReader::new(TEXT, 1, Failure::At(1, kind)));
         let error = reader.read(&mut [0; 4]).err().ok_or("read")?;
-        assert_eq!(rt; error.kind(), kind);
+        assert!(rt; error.kind() == kind);
 
         let mut writer = Watched::new(SlowWriter::new(&rt, ALL, Failure::At(1, kind)));
         let error = writer.write(TEXT).err().ok_or("written")?;
-        assert_eq!(rt; error.kind(), kind);
+        assert!(rt; error.kind() == kind);
 
         let mut writer = Watched::new(SlowWriter::new(&rt, ALL, Failure::AtFlush(kind)));
         let error = writer.flush().err().ok_or("flushed")?;
-        assert_eq!(rt; error.kind(), kind);
+        assert!(rt; error.kind() == kind);
     }
     Ok(())
 }
@@ -210,17 +210,17 @@ fn bytes_of_several_reads_go_through_memory(rt: HostRuntime) -> Result<(), Fail>
     bytes.resize(150_000, b'.')?;
     let mut reader = Watched::new(bytes.as_slice());
     let read = read_log(rt.alloc(), &mut reader).ok().ok_or("refused")?;
-    assert_eq!(rt; read.as_slice(), bytes.as_slice());
+    assert!(rt; read.as_slice() == bytes.as_slice());
 
     let mut limited = Watched::new(bytes.as_slice());
     let read = read_up_to(rt.alloc(), &mut limited, 150_000)
         .ok()
         .ok_or("refused")?;
-    assert_eq!(rt; read.as_slice(), bytes.as_slice());
+    assert!(rt; read.as_slice() == bytes.as_slice());
 
     let mut writer = Watched::new(Vec::new(rt.alloc()));
-    assert_eq!(rt; put(&mut writer, &read), Ok(()));
-    assert_eq!(rt; writer.device().as_slice(), bytes.as_slice());
+    assert!(rt; put(&mut writer, &read) == Ok(()));
+    assert!(rt; writer.device().as_slice() == bytes.as_slice());
     assert!(rt; !reader.failed() && !limited.failed() && !writer.failed());
     Ok(())
 }
@@ -233,11 +233,11 @@ fn a_chunk_is_written_where_more_does_not_fit(rt: HostRuntime) -> Result<(), Fai
     let from = make_room(&mut writer, &mut chunk, 100, room)
         .ok()
         .ok_or("not written")?;
-    assert_eq!(rt; from, 116);
-    assert_eq!(rt; writer.device().taken.as_slice(), TEXT);
+    assert!(rt; from == 116);
+    assert!(rt; writer.device().taken.as_slice() == TEXT);
     assert!(rt; chunk.is_empty());
 
-    assert_eq!(rt; make_room(&mut writer, &mut chunk, from, room), Ok(116));
-    assert_eq!(rt; writer.device().calls, 1);
+    assert!(rt; make_room(&mut writer, &mut chunk, from, room) == Ok(116));
+    assert!(rt; writer.device().calls == 1);
     Ok(())
 }

@@ -14,7 +14,7 @@ fn check_split<R: AllocGlobal + Abort>(
     cut: &[u8],
 ) -> Result<(), Fail> {
     let text = split(rt, log, limit).ok().ok_or("the log is not split")?;
-    assert_eq!(rt; text.as_slice(), cut);
+    assert!(rt; text.as_slice() == cut);
     Ok(())
 }
 

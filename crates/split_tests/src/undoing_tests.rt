@@ -26,8 +26,8 @@ fn check<R: AllocGlobal + Abort>(
         sql: None,
     };
     let done = write_changes(rt.alloc(), &mut writer, log, sel, 0, &writing);
-    assert_eq!(rt; done, Ok(()));
-    assert_eq!(rt; writer.device().as_slice(), cut.as_slice(), "at {limit}");
+    assert!(rt; done == Ok(()));
+    assert!(rt; writer.device().as_slice() == cut.as_slice(), "at {limit}");
     Ok(())
 }
 

@@ -36,14 +36,14 @@ fn each_chunk_is_written(rt: HostRuntime) -> Result<(), Fail> {
             1,
             chunk_len,
         );
-        assert_eq!(rt; done, Ok(()));
-        assert_eq!(rt; writer.device().taken.as_slice(), cut.as_slice());
+        assert!(rt; done == Ok(()));
+        assert!(rt; writer.device().taken.as_slice() == cut.as_slice());
         assert!(rt; !writer.failed());
     }
     let mut writer = Watched::new(SlowWriter::new(&rt, ALL, Failure::Never));
     let done = write_changes(rt.alloc(), &mut writer, &log, &Selection::all(), 0, &SINGLE);
-    assert_eq!(rt; done, Ok(()));
-    assert_eq!(rt; writer.device().taken.as_slice(), cut.as_slice());
+    assert!(rt; done == Ok(()));
+    assert!(rt; writer.device().taken.as_slice() == cut.as_slice());
     Ok(())
 }
 
@@ -56,7 +56,7 @@ fn a_failed_write_is_answered(rt: HostRuntime) -> Result<(), Fail> {
         let failure = Failure::At(call, io::ErrorKind::Other);
         let mut writer = Watched::new(SlowWriter::new(&rt, ALL, failure));
         let done = write_cut(rt.alloc(), &mut writer, &index, Order::Forward, 1, 0);
-        assert_eq!(rt; done, Err(SplitRunFault::Write));
+        assert!(rt; done == Err(SplitRunFault::Write));
         let taken = writer.device().taken.as_slice();
         assert!(rt; cut.starts_with(taken));
         assert!(rt; taken.len() < cut.len());
@@ -70,7 +70,7 @@ fn a_failed_write_of_changes_is_answered(rt: HostRuntime) -> Result<(), Fail> {
     let log = two_tables(&rt)?;
     let mut writer = Watched::new(SlowWriter::new(&rt, ALL, Failure::At(1, io::ErrorKind::Other)));
     let done = write_changes(rt.alloc(), &mut writer, &log, &Selection::all(), 0, &SINGLE);
-    assert_eq!(rt; done, Err(WritingFault::Write));
+    assert!(rt; done == Err(WritingFault::Write));
     assert!(rt; writer.failed());
     Ok(())
 }
@@ -81,8 +81,8 @@ fn of_a_refused_log_nothing_is_written(rt: HostRuntime) -> Result<(), Fail> {
     let all = Selection::all();
     let done = write_changes(rt.alloc(), &mut writer, b"no log", &all, 0, &SINGLE);
     let fault = Fault::NotABinlog { pos: 0 };
-    assert_eq!(rt; done, Err(WritingFault::Log(fault)));
-    assert_eq!(rt; writer.device().calls, 0);
+    assert!(rt; done == Err(WritingFault::Log(fault)));
+    assert!(rt; writer.device().calls == 0);
     Ok(())
 }
 
@@ -120,10 +120,10 @@ fn many_pieces<R: AllocGlobal>(rt: &R) -> Result<Vec<u8>, AllocError> {
 fn a_statement_of_many_maps_is_split(rt: HostRuntime) -> Result<(), Fail> {
     let log = many_maps(&rt)?;
     let cut = split(&rt, &log, 1).ok();
-    assert_eq!(rt; cut, Some(many_pieces(&rt)?));
+    assert!(rt; cut == Some(many_pieces(&rt)?));
     let whole = split(&rt, &log, 1_000_000).ok();
     let normal = forward(rt.alloc(), &log, &Selection::all())?;
-    assert_eq!(rt; whole, Some(normal));
+    assert!(rt; whole == Some(normal));
     Ok(())
 }
 
@@ -156,6 +156,6 @@ fn two_pieces<R: AllocGlobal>(rt: &R) -> Result<Vec<u8>, AllocError> {
 fn maps_count_in_the_size_of_a_piece(rt: HostRuntime) -> Result<(), Fail> {
     // The rows events alone have 72,000 bytes.
     let cut = split(&rt, &many_maps(&rt)?, 100_000).ok();
-    assert_eq!(rt; cut, Some(two_pieces(&rt)?));
+    assert!(rt; cut == Some(two_pieces(&rt)?));
     Ok(())
 }

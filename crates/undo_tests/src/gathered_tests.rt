@@ -45,9 +45,9 @@ fn check(
 ) -> Result<(), Fail> {
     let normal = forward(rt.alloc(), bytes, &Selection::all())?;
     let gathered = gathered(rt, ranges)?;
-    assert_eq!(rt; gathered.len(), normal.len());
+    assert!(rt; gathered.len() == normal.len());
     let index = gathered.index(rt.alloc(), 7)?;
-    assert_eq!(rt; index.log().bytes(), normal.as_slice());
+    assert!(rt; index.log().bytes() == normal.as_slice());
     Ok(())
 }
 
@@ -71,9 +71,9 @@ fn ranges_come_in_the_order_that_is_given(rt: HostRuntime) -> Result<(), Fail> {
     let forward = in_order.index(rt.alloc(), 0)?;
     let exchanged = gathered(&rt, &[second, first])?;
     let backward = exchanged.index(rt.alloc(), 0)?;
-    assert_eq!(rt; forward.log().bytes().len(), backward.log().bytes().len());
+    assert!(rt; forward.log().bytes().len() == backward.log().bytes().len());
     assert!(rt; forward.log().bytes() != backward.log().bytes());
-    assert_eq!(rt; (backward.transactions(), backward.tables()), (2, 1));
+    assert!(rt; (backward.transactions(), backward.tables()) == (2, 1));
     Ok(())
 }
 
@@ -97,6 +97,6 @@ fn logs_with_other_tables_are_gathered(rt: HostRuntime) -> Result<(), Fail> {
     let tables = two_tables(&rt)?;
     let gathered = gathered(&rt, &[(&MULTI_TABLE, all), (&tables, all)])?;
     let index = gathered.index(rt.alloc(), 3)?;
-    assert_eq!(rt; (index.transactions(), index.tables()), (2, 4));
+    assert!(rt; (index.transactions(), index.tables()) == (2, 4));
     Ok(())
 }

@@ -30,7 +30,7 @@ fn copied_insert(rt: &impl AllocGlobal) -> Result<Vec<u8>, Fail> {
 fn events_of_a_server_are_copied_with_new_log_positions(rt: HostRuntime) -> Result<(), Fail> {
     let normal = copied_insert(&rt)?;
     let written = forward(rt.alloc(), &INSERT, &Selection::all())?;
-    assert_eq!(rt; written.as_slice(), normal.as_slice());
+    assert!(rt; written.as_slice() == normal.as_slice());
     Ok(())
 }
 
@@ -38,6 +38,6 @@ fn events_of_a_server_are_copied_with_new_log_positions(rt: HostRuntime) -> Resu
 fn the_undone_events_of_a_server_have_new_log_positions(rt: HostRuntime) -> Result<(), Fail> {
     let undone = with_bytes(&rt, &copied_insert(&rt)?, &[(238, 32)])?;
     let written = flashback(rt.alloc(), &INSERT, &Selection::all())?;
-    assert_eq!(rt; written.as_slice(), undone.as_slice());
+    assert!(rt; written.as_slice() == undone.as_slice());
     Ok(())
 }

@@ -28,7 +28,7 @@ fn front_ends(alloc: Global, written: &[u8]) -> Result<Vec<usize>, Fail> {
 /// A log is its own normal form.
 fn check_normal<R: AllocGlobal + Abort>(rt: &R, log: &[u8]) -> Result<(), Fault> {
     let normal = forward(rt.alloc(), log, &Selection::all())?;
-    assert_eq!(rt; normal.as_slice(), log);
+    assert!(rt; normal.as_slice() == log);
     Ok(())
 }
 
@@ -61,7 +61,7 @@ fn check_front<'b, R: AllocGlobal + Abort>(
     check_normal(rt, front)?;
     let source = changes_of(rt.alloc(), log, sel)?;
     let undoing = changes_of(rt.alloc(), front, &all)?;
-    assert_eq!(rt; undoing.len(), count);
+    assert!(rt; undoing.len() == count);
     let kept = source.len().checked_sub(count).ok_or("too many")?;
     check_tables(rt, &source, &undoing, &source[..kept])?;
     Ok(())
@@ -76,8 +76,8 @@ fn check_stops<'b, R: AllocGlobal + Abort>(
 ) -> Result<(), Fail> {
     let source = changes_of(rt.alloc(), log, sel)?;
     let ends = front_ends(rt.alloc(), written)?;
-    assert_eq!(rt; ends.len(), source.len() + 1);
-    assert_eq!(rt; ends.last(), Some(&written.len()));
+    assert!(rt; ends.len() == source.len() + 1);
+    assert!(rt; ends.last() == Some(&written.len()));
     for (count, end) in ends.iter().enumerate() {
         let front = written.get(..*end).ok_or("too short")?;
         check_front(rt, log, sel, front, count)?;
@@ -131,7 +131,7 @@ fn logs_of_a_server_are_undone(rt: HostRuntime) -> Result<(), Fail> {
 /// The tables have as many copies of each row of one column, by its value.
 fn check_counts<R: AllocGlobal + Abort>(rt: &R, tables: &Tables<'_, '_>, counts: &[(u8, u64)]) {
     let found = tables.counts(rt.alloc()).expect(rt, "memory for counts");
-    assert_eq!(rt; found.as_slice(), counts);
+    assert!(rt; found.as_slice() == counts);
 }
 
 /// The rows of two transactions, and of what undoes them, one after the other.
@@ -142,7 +142,7 @@ fn check_in_turn<'b, R: AllocGlobal + Abort>(
 ) -> Result<(), Fail> {
     let source = changes_of(rt.alloc(), log, &Selection::all())?;
     let undoing = changes_of(rt.alloc(), written, &Selection::all())?;
-    assert_eq!(rt; undoing.len(), 2);
+    assert!(rt; undoing.len() == 2);
     let mut tables = Tables::least(rt.alloc(), &source)?;
     check_counts(rt, &tables, &[(8, 1)]);
     tables.apply(&source)?;
@@ -159,7 +159,7 @@ fn two_transactions_are_undone_in_turn(rt: HostRuntime) -> Result<(), Fail> {
     let log = two_transactions(&rt)?;
     let written = flashback(rt.alloc(), &log, &Selection::all())?;
     let ends = front_ends(rt.alloc(), &written)?;
-    assert_eq!(rt; ends.as_slice(), [120, 259, 411].as_slice());
+    assert!(rt; ends.as_slice() == [120, 259, 411].as_slice());
     check_in_turn(&rt, &log, &written)
 }
 
@@ -168,6 +168,6 @@ fn a_delete_of_a_row_that_is_not_there_fails(rt: HostRuntime) -> Result<(), Fail
     let log = two_transactions(&rt)?;
     let changes = changes_of(rt.alloc(), &log, &Selection::all())?;
     let applied = Tables::new(rt.alloc()).apply(&changes);
-    assert_eq!(rt; applied, Err(ReplayFault::MissingRow));
+    assert!(rt; applied == Err(ReplayFault::MissingRow));
     Ok(())
 }

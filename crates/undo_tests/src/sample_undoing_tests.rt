@@ -57,8 +57,8 @@ fn check_texts<R: AllocGlobal + Abort>(
     normal: &[u8],
     undone: &[u8],
 ) -> Result<(), Fail> {
-    assert_eq!(rt; forward(rt.alloc(), log, sel)?.as_slice(), normal);
-    assert_eq!(rt; flashback(rt.alloc(), log, sel)?.as_slice(), undone);
+    assert!(rt; forward(rt.alloc(), log, sel)?.as_slice() == normal);
+    assert!(rt; flashback(rt.alloc(), log, sel)?.as_slice() == undone);
     Ok(())
 }
 

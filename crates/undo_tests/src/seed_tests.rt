@@ -66,9 +66,6 @@ fn answers_are_the_same_by_each_seed(rt: HostRuntime) -> Result<(), Fail> {
         &rt,
         "an accepted log",
     );
-    assert_eq!(&rt;
-        summary.iter().filter(|byte| **byte == b'\n').count(),
-        TABLES as usize + 2
-    );
+    assert!(&rt; (summary.iter().filter(|byte| **byte == b'\n').count()) == TABLES as usize + 2);
     Ok(())
 }

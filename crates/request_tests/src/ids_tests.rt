@@ -28,7 +28,7 @@ fn check_read(
         first,
         last,
     };
-    assert_eq!(rt; GlobalIds::read(text.as_bytes()), Some(ids), "{rest}");
+    assert!(rt; GlobalIds::read(text.as_bytes()) == Some(ids), "{rest}");
     Ok(())
 }
 
@@ -60,7 +60,7 @@ fn a_server_is_read_in_either_case(rt: HostRuntime) -> Result<(), Fail> {
         "283c105D-E730-11f1-97fF-02Fc00000001:9",
     ] {
         let ids = GlobalIds::read(text.as_bytes()).expect(&rt, "ids");
-        assert_eq!(rt; ids.server, BYTES);
+        assert!(rt; ids.server == BYTES);
     }
     Ok(())
 }
@@ -73,7 +73,7 @@ fn check_refused(
 ) -> Result<(), Fail> {
     for rest in endings {
         let text = format!(in rt.alloc(); "{server}{rest}")?;
-        assert_eq!(rt; GlobalIds::read(text.as_bytes()), None, "{text}");
+        assert!(rt; GlobalIds::read(text.as_bytes()) == None, "{text}");
     }
     Ok(())
 }

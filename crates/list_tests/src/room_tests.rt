@@ -22,7 +22,7 @@ fn line_of(
     let mut output = Watched::new(Vec::new(rt.alloc()));
     let source = source_of(rt, &bytes)?;
     let answer = list(rt.alloc(), rt.alloc(), &source, &ALL, style, &mut output);
-    assert_eq!(rt; answer, Ok(None));
+    assert!(rt; answer == Ok(None));
     let text = str::from_utf8(output.device().as_slice())?;
     let line = text.split('\n').nth(1).expect(rt, "a line");
     assert!(rt; line.starts_with("       120 "), "{line}");
@@ -40,9 +40,9 @@ fn beside_a_wide_heading_there_is_less_room(rt: HostRuntime) -> Result<(), Fail>
         ..TEXT
     };
     let line = line_of(&rt, &[event_of(37)], &style)?;
-    assert_eq!(rt;
-        line.as_str(),
-        "       120        139  1970-01-01 01:00:00                                  UnknownEvent at 120: a change of view in .."
+    assert!(rt;
+        line.as_str()
+            == "       120        139  1970-01-01 01:00:00                                  UnknownEvent at 120: a change of view in .."
     );
     Ok(())
 }
@@ -64,33 +64,41 @@ const AWKWARD: [&str; 8] = [
     "\\\u{1F469}\u{200D}\u{1F469}",
 ];
 
+/// Checks that the lines of a unit and of a statement with these names are narrow.
+fn check_narrow<'n>(
+    rt: &(impl AllocGlobal + Abort),
+    first: &'n str,
+    second: &'n str,
+) -> Result<(), Fail> {
+    let parts = [
+        BEGIN,
+        map_of(1, first.as_bytes()),
+        insert(1, &[5]),
+        map_of(2, second.as_bytes()),
+        update(2, &[5, 6, 7, 8]),
+        map_of(3, b"other"),
+        delete(3, &[5]),
+        map_of(4, b"another_one"),
+        delete(4, &[5]),
+        XID,
+    ];
+    let line = line_of(rt, &parts, &TEXT)?;
+    assert!(rt; is_narrow(line.as_str()), "{line}");
+    let text = format!(in rt.alloc(); "DROP TABLE {first}{second}{first}{second}{first}{second}")?;
+    let query = Part::Query {
+        status: &[],
+        text: text.as_bytes(),
+    };
+    let line = line_of(rt, &[query], &TEXT)?;
+    assert!(rt; is_narrow(line.as_str()), "{line}");
+    Ok(())
+}
+
 #[test]
 fn lines_have_at_most_119_columns(rt: HostRuntime) -> Result<(), Fail> {
     for first in AWKWARD {
         for second in AWKWARD {
-            let parts = [
-                BEGIN,
-                map_of(1, first.as_bytes()),
-                insert(1, &[5]),
-                map_of(2, second.as_bytes()),
-                update(2, &[5, 6, 7, 8]),
-                map_of(3, b"other"),
-                delete(3, &[5]),
-                map_of(4, b"another_one"),
-                delete(4, &[5]),
-                XID,
-            ];
-            let line = line_of(&rt, &parts, &TEXT)?;
-            assert!(rt; is_narrow(line.as_str()), "{line}");
-            let text = format!(in rt.alloc();
-                "DROP TABLE {first}{second}{first}{second}{first}{second}"
-            )?;
-            let query = Part::Query {
-                status: &[],
-                text: text.as_bytes(),
-            };
-            let line = line_of(&rt, &[query], &TEXT)?;
-            assert!(rt; is_narrow(line.as_str()), "{line}");
+            check_narrow(&rt, first, second)?;
         }
     }
     Ok(())

@@ -43,7 +43,7 @@ fn a_read_that_fails_ends_the_list(rt: HostRuntime) -> Result<(), Fail> {
         &mut None,
         &mut output,
     );
-    assert_eq!(rt; listed, Err((1, ListFault::Run(RunFault::Read))));
-    assert_eq!(rt; str::from_utf8(output.device().as_slice())?, lines);
+    assert!(rt; listed == Err((1, ListFault::Run(RunFault::Read))));
+    assert!(rt; str::from_utf8(output.device().as_slice())? == lines);
     Ok(())
 }

@@ -47,10 +47,7 @@ fn a_refused_request_is_reported(rt: HostRuntime) -> Result<(), Fail> {
         match look(&alloc, &wanted, &log) {
             Ok(reasons) => {
                 let text = text_of(&rt, &reasons.reason())?;
-                assert_eq!(rt;
-                    text.as_str(),
-                    "no table: shop.orders shop.items shop.ordrss"
-                );
+                assert!(rt; text.as_str() == "no table: shop.orders shop.items shop.ordrss");
                 if !alloc.has_refused() {
                     assert!(rt; refused >= 20);
                     return Ok(());

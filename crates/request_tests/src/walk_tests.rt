@@ -165,10 +165,10 @@ fn check_unit(
     told: &Told<'_>,
 ) -> Result<(), Fail> {
     let (first, last, answer) = *told;
-    assert_eq!(rt; unit.facts.start, start_of(rt, parts, first)?);
-    assert_eq!(rt; unit.facts.stop, start_of(rt, parts, last)?);
+    assert!(rt; unit.facts.start == start_of(rt, parts, first)?);
+    assert!(rt; unit.facts.stop == start_of(rt, parts, last)?);
     match (answer, &unit.groups) {
-        (Answer::Rows(rows), Ok(groups)) => assert_eq!(rt; rows_of(groups), rows),
+        (Answer::Rows(rows), Ok(groups)) => assert!(rt; rows_of(groups) == rows),
         (Answer::Refused(name, part), Err(fault)) => check_told(rt, parts, name, part, *fault)?,
         _ => panic!(rt; "another answer"),
     }
@@ -186,7 +186,7 @@ fn check_told(
     let pos = start_of(rt, parts, part)?;
     let line = format!(in rt.alloc(); "{name} at {pos}")?;
     let told = format!(in rt.alloc(); "{fault}")?;
-    assert_eq!(rt; told.as_str(), line.as_str());
+    assert!(rt; told.as_str() == line.as_str());
     Ok(())
 }
 

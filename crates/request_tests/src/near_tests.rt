@@ -168,9 +168,9 @@ fn names_that_are_no_text_are_handed_out(rt: HostRuntime) -> Result<(), Fail> {
         return Err("a table is found".into());
     };
     let first = near.first().ok_or("no near table")?;
-    assert_eq!(rt; first.schema(), b"d\xFF".as_slice());
-    assert_eq!(rt; first.table(), name);
-    assert_eq!(rt; near.len(), 1);
+    assert!(rt; first.schema() == b"d\xFF".as_slice());
+    assert!(rt; first.table() == name);
+    assert!(rt; near.len() == 1);
     Ok(())
 }
 
