@@ -43,6 +43,13 @@ def mistake_in_two(schema):
     yield ["BEGIN", f"DELETE FROM {orders} WHERE id BETWEEN 41 AND 60", f"DELETE FROM {notes} WHERE text = 'note 3' LIMIT 15", "COMMIT"]
 
 
+def mistake_beside_statements(schema):
+    """Some of several equal notes, in two transactions, with statements about another table between and after them: all of one client."""
+    notes, archive = names_in(schema, "notes", "archive")
+    return [f"DELETE FROM {notes} WHERE text = 'note 3' LIMIT 15", f"CREATE TABLE {archive} (id INT)", f"ALTER TABLE {archive} ADD COLUMN name INT",
+            f"DELETE FROM {notes} WHERE text = 'note 2' LIMIT 15", f"DROP TABLE {archive}"]
+
+
 def right_changes(schema):
     """What others do since, in rows of the same tables that the mistake leaves alone."""
     customers, orders, lines, notes = names_in(schema, *TABLES)
@@ -113,6 +120,22 @@ class MistakeInTwo:
             self.part = self.choices[0]
 
 
+class MistakeOfOneClient:
+    """A server on which one client made a mistake, and gave statements about another table."""
+
+    def __init__(self, server, programs, changes):
+        server.query(joined(setup(SHOP)))
+        server.next_log()
+        server.query(joined(mistake_beside_statements(SHOP)))
+        server.query(joined(changes))
+        self.log, self.later = server.next_log(), []
+        if server.kind is not MARIADB:
+            lines = [json.loads(line) for line in programs.command("list", self.log, "--json").splitlines()]
+            threads = {line["thread"] for line in lines if any(table["deletes"] == 15 for table in line.get("tables", ()))}
+            self.thread = [word for thread in threads for word in ("--thread", str(thread))]
+            self.part = "-T", f"{SHOP}.notes", *self.thread
+
+
 def try_later(server, programs, report, kept):
     changes = list(right_changes(SHOP))
     with report.trial("5: a mistake is undone after right changes: the tables are as without it"):
@@ -124,6 +147,12 @@ def try_later(server, programs, report, kept):
         texts = {programs.command("undo", made.log, *choice, "--keep-times") for choice in made.choices}
         hold(len(texts) <= 1, "the SQL differs by how the transactions are chosen")
         hold_as_without(server, programs, kept, "two", made)
+    with report.trial("5: the client of a mistake gave statements about another table, too: -T passes them over"):
+        made = MistakeOfOneClient(server, programs, changes)
+        if server.kind is not MARIADB:
+            told = programs.refusal("undo", made.log, *made.thread)
+            hold(told.startswith("binlog: Statement at "), f"without -T it says {told}")
+        hold_as_without(server, programs, kept, "beside", made)
     with report.trial("5: --anyway: later changes of these rows are overwritten"):
         hold_overwritten(server, programs, kept)
     if server.kind is not MARIADB:

@@ -1,6 +1,6 @@
 -- Chosen units, whose groups are gathered one after the other.
 use Rattle.std.proofs.Common.{◌≡◌, ◌⊎◌, ◌<◌, ℕ, Bool, true, false, ◌&&◌, List, [], ◌∷◌, ◌++◌, length, map, Option, Some, None, Result, Ok, Err, refl, sym, ap, ap₂, subst, ◌∙◌, inl, inr, append_assoc, append-nil}
-use Rattle.std.specs.Prelude.{filter, ⊤}
+use Rattle.std.specs.Prelude.{filter, is_some, not, ⊤}
 use Rattle.std.specs.List.{AllByRecursion}
 use Rattle.std.proofs.lemmas.Bool.{cond-false, cond-true, false≢true}
 use Rattle.std.proofs.lemmas.List.{map-append}
@@ -12,6 +12,7 @@ use Rattle.blog_gathered.specs.code.GatheredView.{Adds as AddsRange, IsGathered,
 use Rattle.blog_gathered.specs.declared.fault.GatherFault.TheVariants as gather
 use Rattle.blog_gathered.specs.declared.gathered.Gathered.{Gathered}
 use Rattle.blog_later.specs.Among.{chosen_of}
+use Rattle.blog_later.specs.Later.{leaves_alone}
 use Rattle.blog_later.specs.code.LeavingView.{HasLeft}
 use Rattle.blog_request.specs.Wanted.{is_before}
 use Rattle.blog_request.specs.declared.wanted.Wanted.{Wanted}
@@ -20,8 +21,8 @@ use Rattle.blog_trans.specs.Acceptance.{IsAccepted, IsRefusal, fault}
 use Rattle.blog_trans.specs.Changes.{Change, changes}
 use Rattle.blog_trans.specs.Selection.{Selection, all}
 use Rattle.blog_units.specs.Units.{Facts, range_of_unit}
-use Rattle.undo_run.specs.Units.{AreAccepted, IsFirstRefused, IsUnitAccepted, RefusesChosen, chosen_range, chosen_units, is_chosen, kept_log, units_of_part}
-use Rattle.undo_run.specs.code.Steps.{Adds, Chooses, Gathers, HasChosen, IsKept, RefusesFor, chosen_changes}
+use Rattle.undo_run.specs.Units.{AreAccepted, IsFirstRefused, IsUnitAccepted, RefusesChosen, chosen_range, chosen_units, is_chosen, is_left_out, is_meant, kept_log, tables_in, units_of_part}
+use Rattle.undo_run.specs.code.Steps.{Adds, Chooses, Gathers, HandsGroups, HasChosen, IsKept, RefusesFor, chosen_changes}
 use Rattle.undo_run.specs.declared.chosen.Chosen.{Chosen}
 use Rattle.undo_run.specs.declared.fault.PartFault.{PartFault}
 use Rattle.undo_run.specs.declared.fault.PartFault.TheVariants.{Run, Sums, NoEventAt, NoUnitAt, NoUnitWithGtid, Log, NothingSelected, LaterLog, ChangedSince, UnknownSince, TooLong, NoSchema}
@@ -108,9 +109,9 @@ second-of : (x y : Bool) → (x && y) ≡ true → y ≡ true
 second-of true y e = e
 second-of false y e = absurd (false≢true e)
 
--- one that is chosen begins before the stop
-pub chosen-before : (w : Wanted) (at handed : List ℕ) (u : Facts) → is_chosen w at handed u ≡ true → is_before u.start w.stop ≡ true
-chosen-before w at handed u is = second-of _ _ (first-of _ _ (first-of _ _ (first-of _ _ (first-of _ _ (first-of _ _ is)))))
+-- one that is asked for begins before the stop
+pub meant-before : (w : Wanted) (at handed : List ℕ) (u : Facts) → is_meant w at handed u ≡ true → is_before u.start w.stop ≡ true
+meant-before w at handed u is = second-of _ _ (first-of _ _ (first-of _ _ (first-of _ _ (first-of _ _ (first-of _ _ is)))))
 
 pub record AreChosen {A : Type 0} (looks : Bool) (p : Facts → Bool) (sel : Selection) (handed : List ℕ) (chosen : Chosen A) (marks : List Bool) (left : List Facts) : Type 0 where
   pub done : List Facts
@@ -165,6 +166,30 @@ pub damaged-after : {A : Type 0} (B : Type 0) (looks : Bool) (p : Facts → Bool
 damaged-after B looks p sel handed end chosen marks left damage f s none is =
     let (has, marked) = all-chosen looks p sel handed chosen marks left s none in (is, inl (kept-accepted sel handed (chosen_units p sel handed) chosen.gathered has.kept))
 
+-- ---- one that is asked for
+
+-- it is chosen where it is accepted, or isn't left out
+pub meant-chosen : (w : Wanted) (at : List ℕ) (sel : Selection) (handed : List ℕ) (u : Facts) → is_meant w at handed u ≡ true → is_left_out sel handed u ≡ false → is_chosen w at sel handed u ≡ true
+meant-chosen w at sel handed u is kept = ap₂ (λ (a b : Bool). a && not b) is kept
+
+pub not-meant : (w : Wanted) (at : List ℕ) (sel : Selection) (handed : List ℕ) (u : Facts) → is_meant w at handed u ≡ false → is_chosen w at sel handed u ≡ false
+not-meant w at sel handed u isnt = ap (λ (a : Bool). a && not (is_left_out sel handed u)) isnt
+
+pub accepted-kept : (sel : Selection) (handed : List ℕ) (u : Facts) → IsUnitAccepted sel handed u → is_left_out sel handed u ≡ false
+accepted-kept sel handed u accepted = ap (λ (f : Option Fault). is_some f && (u.whole && leaves_alone (tables_in sel) handed u)) accepted
+
+and-false : (a b : Bool) → b ≡ false → (a && b) ≡ false
+and-false true b e = e
+and-false false b e = refl
+
+pub concerned-kept : (sel : Selection) (handed : List ℕ) (u : Facts) → (u.whole && leaves_alone (tables_in sel) handed u) ≡ false → is_left_out sel handed u ≡ false
+concerned-kept sel handed u concerns = and-false (is_some (fault handed (range_of_unit sel u))) _ concerns
+
+-- a statement that leaves the tables alone isn't
+pub left-out : (w : Wanted) (at : List ℕ) (sel : Selection) (handed : List ℕ) (u : Facts) (inner : Fault) → fault handed (range_of_unit sel u) ≡ Some inner → (u.whole && leaves_alone (tables_in sel) handed u) ≡ true → is_chosen w at sel handed u ≡ false
+left-out w at sel handed u inner refused alone =
+    and-false (is_meant w at handed u) _ (ap not (ap (λ (f : Option Fault). is_some f && (u.whole && leaves_alone (tables_in sel) handed u)) refused ∙ alone))
+
 -- ---- one that is refused
 
 chosen-split : (p : Facts → Bool) (sel : Selection) (handed : List ℕ) (done left rest : List Facts) (u : Facts) → done ++ left ≡ units_of_part sel handed → left ≡ u ∷ rest → p u ≡ true
@@ -184,20 +209,23 @@ first-refused looks p sel handed chosen marks left rest u inner s first is refus
   refused = refused;
 }
 
-pub refused-for : {A : Type 0} (looks : Bool) (p : Facts → Bool) (sel : Selection) (handed : List ℕ) (end : ℕ) (damage : Option SumFault) (inner : Fault) (cause : PartFault A) → IsFirstRefused p sel handed inner
-    → RefusesFor handed end damage inner cause → Chooses looks p sel handed end damage (Err cause)
-refused-for looks p sel handed end damage inner (Sums f) first (is, ends) = (is, inr (inner, first, ends))
-refused-for looks p sel handed end damage inner (Log f) first (own, placed) = inl (inner, first, own, placed)
-refused-for looks p sel handed end damage inner (Run f) first none = absurd none
-refused-for looks p sel handed end damage inner (NoEventAt pos) first none = absurd none
-refused-for looks p sel handed end damage inner (NoUnitAt place) first none = absurd none
-refused-for looks p sel handed end damage inner (NoUnitWithGtid gtid) first none = absurd none
-refused-for looks p sel handed end damage inner (LaterLog n f) first none = absurd none
-refused-for looks p sel handed end damage inner (ChangedSince rows lines) first none = absurd none
-refused-for looks p sel handed end damage inner (UnknownSince lines) first none = absurd none
-refused-for looks p sel handed end damage inner (NoSchema text) first none = absurd none
-refused-for looks p sel handed end damage inner NothingSelected first none = absurd none
-refused-for looks p sel handed end damage inner TooLong first none = absurd none
+-- its groups aren't handed out
+pub not-handed : {A : Type 0} (looks : Bool) (p : Facts → Bool) (sel : Selection) (handed : List ℕ) (end : ℕ) (damage : Option SumFault) (chosen : Chosen A) (marks : List Bool) (left rest : List Facts) (u : Facts) (cause : PartFault A)
+    → AreChosen looks p sel handed chosen marks left → left ≡ u ∷ rest → HandsGroups p sel handed end damage u (Err cause) → Chooses looks p sel handed end damage (Err cause)
+not-handed looks p sel handed end damage chosen marks left rest u (Run (run.Log f)) s first fails = fails
+not-handed looks p sel handed end damage chosen marks left rest u (Sums f) s first (is, (inner, refused, (damaged, ends))) = (damaged, inr (inner, first-refused looks p sel handed chosen marks left rest u inner s first is refused, ends))
+not-handed looks p sel handed end damage chosen marks left rest u (Log f) s first (is, (inner, refused, (own, placed))) = inl (inner, first-refused looks p sel handed chosen marks left rest u inner s first is refused, own, placed)
+not-handed looks p sel handed end damage chosen marks left rest u (Run run.Read) s first (is, (inner, refused, none)) = absurd none
+not-handed looks p sel handed end damage chosen marks left rest u (Run run.Write) s first (is, (inner, refused, none)) = absurd none
+not-handed looks p sel handed end damage chosen marks left rest u (NoEventAt pos) s first (is, (inner, refused, none)) = absurd none
+not-handed looks p sel handed end damage chosen marks left rest u (NoUnitAt place) s first (is, (inner, refused, none)) = absurd none
+not-handed looks p sel handed end damage chosen marks left rest u (NoUnitWithGtid gtid) s first (is, (inner, refused, none)) = absurd none
+not-handed looks p sel handed end damage chosen marks left rest u (LaterLog n f) s first (is, (inner, refused, none)) = absurd none
+not-handed looks p sel handed end damage chosen marks left rest u (ChangedSince rows lines) s first (is, (inner, refused, none)) = absurd none
+not-handed looks p sel handed end damage chosen marks left rest u (UnknownSince lines) s first (is, (inner, refused, none)) = absurd none
+not-handed looks p sel handed end damage chosen marks left rest u (NoSchema text) s first (is, (inner, refused, none)) = absurd none
+not-handed looks p sel handed end damage chosen marks left rest u NothingSelected s first (is, (inner, refused, none)) = absurd none
+not-handed looks p sel handed end damage chosen marks left rest u TooLong s first (is, (inner, refused, none)) = absurd none
 
 -- the groups of one more can't be added
 pub not-added : {A B : Type 0} (looks : Bool) (p : Facts → Bool) (sel : Selection) (handed : List ℕ) (end : ℕ) (damage : Option SumFault) (chosen : Chosen A) (marks : List Bool) (left rest : List Facts) (u : Facts) (cause : PartFault B)

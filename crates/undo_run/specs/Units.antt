@@ -1,13 +1,13 @@
 -- Units of a part, by themselves: their changes are made once more, or undone, and those of the units among them are left.
-use Rattle.std.specs.Prelude.{◌≡◌, ◌⊎◌, ℕ, ◌<◌, ◌==◌, Bool, true, false, ◌&&◌, ◌||◌, nat_lt, if◌then◌else◌, List, [], ◌∷◌, ◌++◌, length, map, take, drop, Option, Some, None, option_map, slice_get}
+use Rattle.std.specs.Prelude.{◌≡◌, ◌⊎◌, ℕ, ◌<◌, ◌==◌, Bool, true, false, ◌&&◌, ◌||◌, nat_lt, if◌then◌else◌, List, [], ◌∷◌, ◌++◌, length, map, take, drop, Option, Some, None, option_map, slice_get, is_some, not}
 use Rattle.std.specs.List.{AllByRecursion, list_all, list_any}
 use Rattle.std.specs.Option.{option_map_or}
 use Rattle.blog_event.specs.declared.fault.Fault.{Fault}
 use Rattle.blog_event.specs.Fault.{name_of, position_of as fault_position}
 use Rattle.blog_gathered.specs.Gathered.{Range, gathered_text}
 use Rattle.blog_later.specs.Among.{Step, Selected, Other, chosen_of, from_first, others_of}
-use Rattle.blog_later.specs.Later.{later_units, unit_changes}
-use Rattle.blog_choice.specs.Choice.{is_nil}
+use Rattle.blog_later.specs.Later.{later_units, leaves_alone, unit_changes}
+use Rattle.blog_choice.specs.Choice.{Choice, Name, is_nil}
 use Rattle.blog_event.specs.Event.{event_at}
 use Rattle.blog_row.specs.Kinds.{is_begin_kind, kind_of}
 use Rattle.blog_request.specs.Ids.{Ids, has_id}
@@ -30,8 +30,8 @@ use Rattle.undo_run.specs.declared.request.UnitRequest.{UnitRequest}
 
 -- ---- which units
 
--- Units are made of the events from the start on. Those are chosen that begin before the stop, and are of the wanted times, threads and ids;
--- and, if places are asked for, start at one of these, or have their `BEGIN` there. Positions are those in what is handed out of a log.
+-- Units are made of the events from the start on. Those are asked for that begin before the stop, and are of the wanted times, threads and
+-- ids; and, if places are asked for, start at one of these, or have their `BEGIN` there. Positions are those in what is handed out of a log.
 abbrev pub wanted_in : Wanted → Selection → List ℕ → Wanted
 wanted_in w part handed = record w { start = None; stop = option_map (position_of handed) part.stop }
 
@@ -46,11 +46,27 @@ is_at handed u pos = pos == u.start || (nat_lt u.start pos && (nat_lt pos u.stop
 abbrev pub is_of_places : List ℕ → List ℕ → Facts → Bool
 is_of_places at handed u = is_nil at || list_any (is_at handed u) at
 
-abbrev pub is_chosen : Wanted → List ℕ → List ℕ → Facts → Bool
-is_chosen w at handed u = is_in_range w u && is_of_places at handed u
+abbrev pub is_meant : Wanted → List ℕ → List ℕ → Facts → Bool
+is_meant w at handed u = is_in_range w u && is_of_places at handed u
+
+-- the tables of a selection, as a choice
+abbrev pub tables_of_name : Option (List ℕ) → List Name
+tables_of_name None = []
+tables_of_name (Some name) = record { schema = None; table = name } ∷ []
+
+abbrev pub tables_in : Selection → Choice
+tables_in sel = record { database = sel.database; tables = tables_of_name sel.table; excluded = [] }
+
+-- a whole unit that is refused, and leaves chosen tables alone: a statement that names none of them
+abbrev pub is_left_out : Selection → List ℕ → Facts → Bool
+is_left_out sel handed u = is_some (fault handed (range_of_unit sel u)) && (u.whole && leaves_alone (tables_in sel) handed u)
+
+-- Those are chosen that are asked for, but for statements that name none of the chosen tables.
+abbrev pub is_chosen : Wanted → List ℕ → Selection → List ℕ → Facts → Bool
+is_chosen w at sel handed u = is_meant w at handed u && not (is_left_out sel handed u)
 
 abbrev pub is_asked : UnitRequest → Selection → List ℕ → Facts → Bool
-is_asked r part handed = is_chosen (wanted_in r.wanted part handed) (map (position_of handed) r.at.now) handed
+is_asked r part handed = is_chosen (wanted_in r.wanted part handed) (map (position_of handed) r.at.now) (selection_in part handed) handed
 
 -- the units of a part, and those of them that pass a test: the chosen ones
 abbrev pub units_of_part : Selection → List ℕ → List Facts

@@ -196,11 +196,11 @@ pub(crate) fn look_after_units<'n, A: Allocator + Copy, L: Read + Drop>(
     zone: TimeZone<'_>,
 ) -> Result<Since<'n, A>, PartFault<A>>
     requires bytes { log_bytes log.now ≡ log_of source.now }
-    requires kept { index_bytes index.now ≡ kept_log (selection_of inside.now) (log_of source.now) (chosen_units (chosen_by among.now (log_of source.now)) (selection_of inside.now) (log_of source.now)) }
+    requires kept { index_bytes index.now ≡ kept_log (selection_of inside.now) (log_of source.now) (chosen_units (chosen_by among.now (selection_of inside.now) (log_of source.now)) (selection_of inside.now) (log_of source.now)) }
     requires selection { index_selection index.now ≡ all }
-    requires chosen { chosen.now ≡ map (chosen_by among.now (log_of source.now)) (units_of_part (selection_of inside.now) (log_of source.now)) }
-    requires left { HasLeft (chosen_changes (selection_of inside.now) (log_of source.now) (chosen_units (chosen_by among.now (log_of source.now)) (selection_of inside.now) (log_of source.now))) leaving }
-    ensures { LooksAt L.remaining later.entry.items (chosen_taken name.now (chosen_by among.now (log_of source.now)) (selection_of inside.now) (log_of source.now) (end_of source.now) (fault_of source.now)) result }
+    requires chosen { chosen.now ≡ map (chosen_by among.now (selection_of inside.now) (log_of source.now)) (units_of_part (selection_of inside.now) (log_of source.now)) }
+    requires left { HasLeft (chosen_changes (selection_of inside.now) (log_of source.now) (chosen_units (chosen_by among.now (selection_of inside.now) (log_of source.now)) (selection_of inside.now) (log_of source.now))) leaving }
+    ensures { LooksAt L.remaining later.entry.items (chosen_taken name.now (chosen_by among.now (selection_of inside.now) (log_of source.now)) (selection_of inside.now) (log_of source.now) (end_of source.now) (fault_of source.now)) result }
 {
     let tables = tables_named(alloc, index)?;
     let choice = TableChoice {

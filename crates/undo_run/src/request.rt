@@ -5,7 +5,7 @@ ghost use Rattle.blog_event.specs.code.LogView.{log_bytes};
 ghost use Rattle.blog_source.specs.Places.{position_of};
 ghost use Rattle.blog_source.specs.code.SourceView.{log_of};
 ghost use Rattle.blog_units.specs.code.UnitsView.{facts_told};
-ghost use Rattle.undo_run.specs.Units.{is_at, is_begin_at, is_chosen, is_of_places};
+ghost use Rattle.undo_run.specs.Units.{is_at, is_begin_at, is_meant, is_of_places};
 
 use blog_event::Log;
 use blog_request::Wanted;
@@ -31,9 +31,9 @@ pub(crate) struct Among<'w, 'a> {
 }
 
 impl Among<'_, '_> {
-    /// Whether a unit is chosen.
+    /// Whether a unit is asked for.
     pub(crate) fn has(&self, log: &Log<'_>, unit: &UnitFacts<'_>) -> bool
-        ensures { result ≡ is_chosen self.now.wanted self.now.at.now (log_bytes log.now) (facts_told unit.now) }
+        ensures { result ≡ is_meant self.now.wanted self.now.at.now (log_bytes log.now) (facts_told unit.now) }
     {
         self.wanted.has_in_range(unit) && is_of_places(self.at, log, unit)
     }

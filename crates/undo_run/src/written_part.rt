@@ -223,11 +223,11 @@ fn look_among_if<'n, A: Allocator + Copy, L: Read + Drop>(
     zone: TimeZone<'_>,
 ) -> Result<Option<Since<'n, A>>, PartFault<A>>
     requires bytes { log_bytes log.now ≡ log_of source.now }
-    requires kept { index_bytes index.now ≡ kept_log (selection_of inside.now) (log_of source.now) (chosen_units (chosen_by among.now (log_of source.now)) (selection_of inside.now) (log_of source.now)) }
+    requires kept { index_bytes index.now ≡ kept_log (selection_of inside.now) (log_of source.now) (chosen_units (chosen_by among.now (selection_of inside.now) (log_of source.now)) (selection_of inside.now) (log_of source.now)) }
     requires selection { index_selection index.now ≡ all }
-    requires chosen { chosen.now ≡ map (chosen_by among.now (log_of source.now)) (units_of_part (selection_of inside.now) (log_of source.now)) }
-    requires left { looks ≡ true → HasLeft (chosen_changes (selection_of inside.now) (log_of source.now) (chosen_units (chosen_by among.now (log_of source.now)) (selection_of inside.now) (log_of source.now))) leaving }
-    ensures { Looks looks L.remaining later.entry.items (chosen_taken name.now (chosen_by among.now (log_of source.now)) (selection_of inside.now) (log_of source.now) (end_of source.now) (fault_of source.now)) result }
+    requires chosen { chosen.now ≡ map (chosen_by among.now (selection_of inside.now) (log_of source.now)) (units_of_part (selection_of inside.now) (log_of source.now)) }
+    requires left { looks ≡ true → HasLeft (chosen_changes (selection_of inside.now) (log_of source.now) (chosen_units (chosen_by among.now (selection_of inside.now) (log_of source.now)) (selection_of inside.now) (log_of source.now))) leaving }
+    ensures { Looks looks L.remaining later.entry.items (chosen_taken name.now (chosen_by among.now (selection_of inside.now) (log_of source.now)) (selection_of inside.now) (log_of source.now) (end_of source.now) (fault_of source.now)) result }
 {
     if looks {
         match look_after_units(

@@ -7,7 +7,7 @@ use Rattle.blog_device.specs.declared.fault.RunFault.TheVariants as run
 use Rattle.blog_event.specs.Opening.{opening_fault}
 use Rattle.blog_event.specs.declared.fault.Fault.{Fault}
 use Rattle.blog_event.specs.declared.fault.Fault.TheVariants.{OutOfMemory, TooLong as TooLongLog}
-use Rattle.blog_gathered.specs.code.GatheredView.{IsGathered}
+use Rattle.blog_gathered.specs.code.GatheredView.{IsGathered, range_of}
 use Rattle.blog_gathered.specs.declared.gathered.Gathered.{Gathered}
 use Rattle.blog_later.specs.Among.{Step, touches_among}
 use Rattle.blog_later.specs.Prints.{Left}
@@ -22,6 +22,7 @@ use Rattle.blog_source.specs.code.SourceView.{end_of, fault_of, log_of}
 use Rattle.blog_source.specs.declared.reading.Reading.{Reading}
 use Rattle.blog_source.specs.declared.source.Source.{Source}
 use Rattle.blog_sum.specs.declared.fault.SumFault.{SumFault}
+use Rattle.blog_trans.specs.Acceptance.{IsRefusal, fault}
 use Rattle.blog_trans.specs.Changes.{Change, changes, counts_of}
 use Rattle.blog_trans.specs.Groups.{groups}
 use Rattle.blog_trans.specs.Selection.{Selection, all}
@@ -34,7 +35,7 @@ use Rattle.undo_run.specs.After.{AreChanged, Later, MayBeChanged, is_damaged, la
 use Rattle.undo_run.specs.Parts.{IsPlaced, is_at_end}
 use Rattle.undo_run.specs.Reports.{Since, report}
 use Rattle.undo_run.specs.Taken.{FailsLater, FailsToOpen, IsSafe, OfLater, Taken, after, since_told, steps_after, tables_taken, whole_log}
-use Rattle.undo_run.specs.Units.{AreSound, AreThere, IsMissing, IsWithout, LacksUnit, RefusesChosen, are_found, chosen_range, chosen_units, have_units, is_chosen, kept_log, units_of_part}
+use Rattle.undo_run.specs.Units.{AreSound, AreThere, IsMissing, IsWithout, LacksUnit, RefusesChosen, are_found, IsUnitAccepted, chosen_range, chosen_units, have_units, is_chosen, kept_log, units_of_part}
 use Rattle.undo_run.specs.code.SinceView.{AreSeen, since_seen}
 use Rattle.undo_run.specs.declared.chosen.Chosen.{Chosen}
 use Rattle.undo_run.specs.declared.fault.OpeningFault.{OpeningFault}
@@ -153,8 +154,15 @@ RefusesFor handed end damage inner (Log f) = ((damage ≡ None) ⊎ (is_at_end h
 RefusesFor handed end damage inner cause = ⊥
 
 -- which units of what is handed out are chosen
-abbrev pub chosen_by : Among → List ℕ → Facts → Bool
-chosen_by among handed = is_chosen among.wanted among.at.now handed
+abbrev pub chosen_by : Among → Selection → List ℕ → Facts → Bool
+chosen_by among sel handed = is_chosen among.wanted among.at.now sel handed
+
+-- what comes of asking for the groups of a unit: it is chosen, and accepted, and has them; or it isn't chosen; or it is refused
+abbrev pub HandsGroups : {A : Type 0} → (Facts → Bool) → Selection → List ℕ → ℕ → Option SumFault → Facts → Result (Option (Index A)) (PartFault A) → Type 0
+HandsGroups p sel handed end damage u (Ok (Some index)) = (p u ≡ true) × IsUnitAccepted sel handed u × (range_of index ≡ chosen_range sel handed u)
+HandsGroups p sel handed end damage u (Ok None) = p u ≡ false
+HandsGroups p sel handed end damage u (Err (Run (run.Log f))) = f ≡ OutOfMemory
+HandsGroups p sel handed end damage u (Err cause) = (p u ≡ true) × ((inner : Fault) × IsRefusal (fault handed (range_of_unit sel u)) inner × RefusesFor handed end damage inner cause)
 
 -- what comes of choosing units
 abbrev pub Chooses : {A : Type 0} → Bool → (Facts → Bool) → Selection → List ℕ → ℕ → Option SumFault → Result (Chosen A × Vec Bool A) (PartFault A) → Type 0

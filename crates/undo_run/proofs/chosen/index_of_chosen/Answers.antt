@@ -16,7 +16,7 @@ pub returns-in-Ok : goal.returns-in-Ok
 returns-in-Ok g c =
     let sel = selection_of c.args.inside.now in
     let handed = log_of c.args.source.now in
-    let us = chosen_units (chosen_by c.args.among.now handed) sel handed in
+    let us = chosen_units (chosen_by c.args.among.now sel handed) sel handed in
     let kept = subst (λ (o : Option (Gathered _)). IsKept sel handed us o) c.in-Some.is c.requires in
     let text = kept-bytes sel handed us c.in-Some.gathered kept in
     let bytes = c.in-Ok.ensures.bytes ∙ text in
@@ -35,7 +35,7 @@ pub returns-in-Ok-2 : goal.returns-in-Ok-2
 returns-in-Ok-2 g c =
     let sel = selection_of c.args.inside.now in
     let handed = log_of c.args.source.now in
-    let us = chosen_units (chosen_by c.args.among.now handed) sel handed in
+    let us = chosen_units (chosen_by c.args.among.now sel handed) sel handed in
     let kept = subst (λ (o : Option (Gathered _)). IsKept sel handed us o) c.in-Some.is c.requires in
     let bytes = c.in-Ok.ensures.bytes ∙ kept-bytes sel handed us c.in-Some.gathered kept in
     let whole = c.in-Ok.ensures.selection in (
@@ -48,7 +48,7 @@ pub returns : goal.returns
 returns g c =
     let sel = selection_of c.args.inside.now in
     let handed = log_of c.args.source.now in
-    let us = chosen_units (chosen_by c.args.among.now handed) sel handed in
+    let us = chosen_units (chosen_by c.args.among.now sel handed) sel handed in
     let kept = subst (λ (o : Option (Gathered _)). IsKept sel handed us o) c.in-Some.is c.requires in
     inr (
       refl,

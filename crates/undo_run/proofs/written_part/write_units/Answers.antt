@@ -44,10 +44,10 @@ returns-in-Err-choose-clause-writes g c =
     let r = c.args.asked.now in
     let sel = selection_of c.inside_of-inside.result in
     let w : Wanted = record r.wanted { start = None; stop = c.inside_of-inside.result.stop } in
-    let p : Facts → Bool = is_chosen w c.deref.result.now handed in
+    let p : Facts → Bool = is_chosen w c.deref.result.now sel handed in
     let chosen : sel ≡ selection_in part handed = c.inside_of-inside.ensures in
     let places : c.deref.result.now ≡ map (position_of handed) r.at.now = c.deref.ensures.value ∙ c.in_ok-at.ensures in
-    let same : p ≡ is_asked r part handed = λ i. is_chosen (record r.wanted { start = None; stop = (chosen i).stop }) (places i) handed in
+    let same : p ≡ is_asked r part handed = λ i. is_chosen (record r.wanted { start = None; stop = (chosen i).stop }) (places i) (chosen i) handed in
     let start : has_start part handed end ≡ true = sym c.has_start.ensures ∙ c.if-not-has_start.false in
     let here : log_bytes c.with_seed-log.result ≡ handed = c.with_seed-log.ensures.bytes ∙ c.in-Ok.ensures.bytes ∙ c.bytes.ensures in
     let damage = damage_among c.args.looks part end fault in
@@ -67,10 +67,10 @@ returns-in-Err-index_of_chosen-clause-writes g c =
     let r = c.args.asked.now in
     let sel = selection_of c.inside_of-inside.result in
     let w : Wanted = record r.wanted { start = None; stop = c.inside_of-inside.result.stop } in
-    let p : Facts → Bool = is_chosen w c.deref.result.now handed in
+    let p : Facts → Bool = is_chosen w c.deref.result.now sel handed in
     let chosen : sel ≡ selection_in part handed = c.inside_of-inside.ensures in
     let places : c.deref.result.now ≡ map (position_of handed) r.at.now = c.deref.ensures.value ∙ c.in_ok-at.ensures in
-    let same : p ≡ is_asked r part handed = λ i. is_chosen (record r.wanted { start = None; stop = (chosen i).stop }) (places i) handed in
+    let same : p ≡ is_asked r part handed = λ i. is_chosen (record r.wanted { start = None; stop = (chosen i).stop }) (places i) (chosen i) handed in
     let start : has_start part handed end ≡ true = sym c.has_start.ensures ∙ c.if-not-has_start.false in
     let here : log_bytes c.with_seed-log.result ≡ handed = c.with_seed-log.ensures.bytes ∙ c.in-Ok.ensures.bytes ∙ c.bytes.ensures in
     let none : damage_among c.args.looks part end fault ≡ None = sym c.damage_among-damage.ensures ∙ c.in-Ok-choose.ensures.0 in
@@ -91,10 +91,10 @@ returns-in-Err-look_among_if-clause-writes g c =
     let r = c.args.asked.now in
     let sel = selection_of c.inside_of-inside.result in
     let w : Wanted = record r.wanted { start = None; stop = c.inside_of-inside.result.stop } in
-    let p : Facts → Bool = is_chosen w c.deref.result.now handed in
+    let p : Facts → Bool = is_chosen w c.deref.result.now sel handed in
     let chosen : sel ≡ selection_in part handed = c.inside_of-inside.ensures in
     let places : c.deref.result.now ≡ map (position_of handed) r.at.now = c.deref.ensures.value ∙ c.in_ok-at.ensures in
-    let same : p ≡ is_asked r part handed = λ i. is_chosen (record r.wanted { start = None; stop = (chosen i).stop }) (places i) handed in
+    let same : p ≡ is_asked r part handed = λ i. is_chosen (record r.wanted { start = None; stop = (chosen i).stop }) (places i) (chosen i) handed in
     let start : has_start part handed end ≡ true = sym c.has_start.ensures ∙ c.if-not-has_start.false in
     let here : log_bytes c.with_seed-log.result ≡ handed = c.with_seed-log.ensures.bytes ∙ c.in-Ok.ensures.bytes ∙ c.bytes.ensures in
     let none : damage_among c.args.looks part end fault ≡ None = sym c.damage_among-damage.ensures ∙ c.in-Ok-choose.ensures.0 in
@@ -112,7 +112,7 @@ returns-in-Err-look_among_if-clause-mark g c =
     let source = c.args.source.now in
     let handed = log_of source in
     let w : Wanted = record c.args.asked.now.wanted { start = None; stop = c.inside_of-inside.result.stop } in
-    let t = chosen_taken c.args.name.now (is_chosen w c.deref.result.now handed) sel handed (end_of source) (fault_of source) in
+    let t = chosen_taken c.args.name.now (is_chosen w c.deref.result.now sel handed) sel handed (end_of source) (fault_of source) in
     sym (ap (λ (b : Bool). has_failed c.args.writer.now || b) (no-write-failed (Vec ℕ g.row.A.Denot) c.args.looks g.L.Read.remaining c.args.later.items t c.in-Err-look_among_if.fault c.in-Err-look_among_if.ensures) ∙ or-false (has_failed c.args.writer.now))
 
 pub returns-clause-writes : goal.returns-clause-writes
@@ -125,10 +125,10 @@ returns-clause-writes g c =
     let r = c.args.asked.now in
     let sel = selection_of c.inside_of-inside.result in
     let w : Wanted = record r.wanted { start = None; stop = c.inside_of-inside.result.stop } in
-    let p : Facts → Bool = is_chosen w c.deref.result.now handed in
+    let p : Facts → Bool = is_chosen w c.deref.result.now sel handed in
     let chosen : sel ≡ selection_in part handed = c.inside_of-inside.ensures in
     let places : c.deref.result.now ≡ map (position_of handed) r.at.now = c.deref.ensures.value ∙ c.in_ok-at.ensures in
-    let same : p ≡ is_asked r part handed = λ i. is_chosen (record r.wanted { start = None; stop = (chosen i).stop }) (places i) handed in
+    let same : p ≡ is_asked r part handed = λ i. is_chosen (record r.wanted { start = None; stop = (chosen i).stop }) (places i) (chosen i) handed in
     let start : has_start part handed end ≡ true = sym c.has_start.ensures ∙ c.if-not-has_start.false in
     let here : log_bytes c.with_seed-log.result ≡ handed = c.with_seed-log.ensures.bytes ∙ c.in-Ok.ensures.bytes ∙ c.bytes.ensures in
     let none : damage_among c.args.looks part end fault ≡ None = sym c.damage_among-damage.ensures ∙ c.in-Ok-choose.ensures.0 in
