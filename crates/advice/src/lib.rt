@@ -115,7 +115,7 @@ pub fn of_sums(fault: &SumFault) -> &'static str {
         SumFault::UnknownAlgorithm { .. } =>
             "the log has checksums that aren't CRC32: use the server's own tools",
         SumFault::WrongSum { .. } =>
-            "the event isn't what the server wrote: copy the log from the server again",
+            "the event isn't what the server wrote, or is encrypted: copy the log from the server again",
     }
 }
 

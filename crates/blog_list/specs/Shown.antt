@@ -30,14 +30,16 @@ event_of_fault log below fault = option_and_then (λ pos. if nat_lt pos below th
 abbrev pub text_of_query : Event → Option (List ℕ)
 text_of_query e = if e.kind == 2 then query_text e.body else None
 
--- What an event is, by its type: TRANSACTION_PAYLOAD_EVENT; XA_PREPARE_LOG_EVENT; INCIDENT_EVENT; VIEW_CHANGE_EVENT; and the types
--- that MariaDB has for itself.
+-- What an event is, by its type: TRANSACTION_PAYLOAD_EVENT; XA_PREPARE_LOG_EVENT; INCIDENT_EVENT; VIEW_CHANGE_EVENT; MariaDB's
+-- START_ENCRYPTION_EVENT and its compressed queries and rows; and the other types that it has for itself.
 abbrev pub event_words : ℕ → Option (List ℕ)
 event_words number =
     if number == 40 then Some (codes "a compressed transaction") else
     if number == 38 then Some (codes "a prepared XA transaction") else
     if number == 26 then Some (codes "an incident") else
     if number == 37 then Some (codes "a change of view in group replication") else
+    if number == 164 then Some (codes "the start of encryption") else
+    if nat_le 165 number && nat_le number 171 then Some (codes "a compressed event of MariaDB") else
     if nat_le 160 number then Some (codes "an event of MariaDB") else None
 
 -- what the event of a fault is, where that explains the fault: a second format description (15) comes with a relay log

@@ -1,7 +1,7 @@
 -- The log that is handed out: its events, its length, and that it is a log.
-use Rattle.std.proofs.Common.{◌≡◌, ℕ, ◌+◌, ◌-◌, ◌^◌, ◌≤◌, ◌<◌, Bool, true, false, List, [], ◌∷◌, length, drop, Option, Some, None, refl, sym, subst, ap, ◌∙◌, arith}
-use Rattle.std.specs.Prelude.{◌&&◌, ◌==◌, nat_le}
-use Rattle.std.proofs.lemmas.Bool.{and_parts, leb-true}
+use Rattle.std.proofs.Common.{◌≡◌, ℕ, ◌+◌, ◌-◌, ◌^◌, ◌≤◌, ◌<◌, Bool, true, false, List, [], ◌∷◌, ◌++◌, length, drop, Option, Some, None, refl, sym, subst, ap, ◌∙◌, arith}
+use Rattle.std.specs.Prelude.{◌&&◌, ◌==◌, map}
+use Rattle.std.proofs.lemmas.Bool.{and_parts}
 use Rattle.std.specs.List.{flat_map, AllByRecursion}
 use Rattle.std.proofs.lemmas.Bool.Decides.{nat_tests}
 use Rattle.std.proofs.lemmas.List.{length-take-le}
@@ -17,7 +17,13 @@ use Rattle.blog_sum.proofs.Summed.{format-accepted, format-event, summed-algorit
 use Rattle.blog_sum.proofs.Texts.{format-size}
 use Rattle.blog_source.specs.declared.reading.Reading.{Reading}
 use Rattle.blog_source.specs.Found.{as_damaged, begins_right, check_of, found, found_with, is_wrong_sum, source_refusal}
-use Rattle.blog_source.specs.Handed.{bare, handed, handed_events, handed_format, handed_log, is_tagged, known}
+use Rattle.blog_source.specs.declared.becoming.Becoming.{Becoming}
+use Rattle.blog_source.specs.declared.becoming.Becoming.TheVariants.{Itself, Gtid, Begin, Nothing}
+use Rattle.blog_source.specs.Becoming.{become_as, becomes_with, becoming_of}
+use Rattle.blog_source.specs.Handed.{bare, becomes, handed, handed_events, handed_format, handed_log}
+use Rattle.blog_source.specs.Maria.{begin_body}
+use Rattle.blog_source.proofs.WhatBecomes.{begin-room, gtid-room}
+use Rattle.blog_gtid.specs.Tagged.{gtid_body_of}
 use Rattle.blog_source.proofs.Accepted.{IsAccepted, is-accepted, is-read, later_of}
 use Rattle.blog_gtid.proofs.Lengths.{gtid_fits}
 use Rattle.blog_source.proofs.LogText.{IsText, text-long, text-opens, text-read, text-stands}
@@ -45,24 +51,59 @@ bare-event true pos e short event room =
       omega arith,
     )
 
--- what it becomes
-known-event : (sums : Bool) (pos : ℕ) (e : Event) → pos < 2 ^ 32 → IsEvent e → (sums ≡ true → 23 ≤ event_size e)
-    → IsEvent (record (known (bare sums e)) { log_pos = pos }) × (event_size (known (bare sums e)) ≤ event_size e)
-known-event sums pos e short event room = by_case (is_tagged (bare sums e)) refl
+-- the events that it becomes, apart from where they are put: together no longer than it
+pub record AreFit (size : ℕ) (es : List Event) : Type 0 where
+  pub events : AllByRecursion (λ f. IsEvent (record f { log_pos = 0 })) es
+  pub fits : (pos : ℕ) → end_of pos es ≤ pos + size
+
+pub become-fit : (cut : List ℕ → List ℕ) (sums : Bool) (e : Event) → ((body : List ℕ) → 25 ≤ length body → length (cut (gtid_body_of body)) ≤ length body)
+    → IsEvent e → (sums ≡ true → 23 ≤ event_size e) → AreFit (event_size e) (becomes_with cut (bare sums e))
+become-fit cut sums e shorter event room = by_case (becoming_of (bare sums e).kind (bare sums e).body) refl
   where
-    by_case : (tagged : Bool) → is_tagged (bare sums e) ≡ tagged
-        → IsEvent (record (known (bare sums e)) { log_pos = pos }) × (event_size (known (bare sums e)) ≤ event_size e)
-    by_case true is =
-        let own = bare-event sums pos e short event room in
-        let enough = leb-true 25 (length (bare sums e).body) (and_parts ((bare sums e).kind == 42) (nat_le 25 (length (bare sums e).body)) is).1 in
-        let fits = gtid_fits (bare sums e).body enough in
+    b : Event
+    b = bare sums e
+
+    by_case : (r : Becoming) → becoming_of b.kind b.body ≡ r → AreFit (event_size e) (become_as cut r b)
+    by_case Itself is =
+        let own = bare-event sums 0 e (omega arith) event room in
+        let less = own.1 in
+        record { events = (own.0, tt); fits = λ pos. omega arith }
+    by_case Gtid is =
+        let own = bare-event sums 0 e (omega arith) event room in
+        let cut_short = shorter b.body (gtid-room b.kind b.body is) in
         let size = own.0.size in
         let less = own.1 in
-        rw is (
-          record { timestamp = own.0.timestamp; kind = omega arith; server_id = own.0.server_id; size = omega arith; log_pos = short; flags = own.0.flags },
-          omega arith,
-        )
-    by_case false is = rw is (bare-event sums pos e short event room)
+        record {
+          events = (record { timestamp = own.0.timestamp; kind = omega arith; server_id = own.0.server_id; size = omega arith; log_pos = omega arith; flags = own.0.flags }, tt);
+          fits = λ pos. omega arith;
+        }
+    by_case Begin is =
+        let own = bare-event sums 0 e (omega arith) event room in
+        let enough = begin-room b.kind b.body is in
+        let long : length begin_body ≡ 19 = refl in
+        let size = own.0.size in
+        let less = own.1 in
+        record {
+          events = (record { timestamp = own.0.timestamp; kind = omega arith; server_id = own.0.server_id; size = omega arith; log_pos = omega arith; flags = omega arith }, tt);
+          fits = λ pos. omega arith;
+        }
+    by_case Nothing is = record { events = tt; fits = λ pos. omega arith }
+
+-- events at one place
+abbrev pub at_place : ℕ → List Event → List Event
+at_place place es = map {A = Event} (λ e. record e { log_pos = place }) es
+
+placed-ends : (place pos : ℕ) (es : List Event) → end_of pos (at_place place es) ≡ end_of pos es
+placed-ends place pos [] = refl
+placed-ends place pos (e ∷ es) = placed-ends place (pos + event_size e) es
+
+placed-events : (place : ℕ) (es : List Event) → place < 2 ^ 32 → AllByRecursion (λ f. IsEvent (record f { log_pos = 0 })) es → AllByRecursion IsEvent (at_place place es)
+placed-events place [] short events = tt
+placed-events place (e ∷ es) short events =
+    let own = events.0 in (
+      record { timestamp = own.timestamp; kind = own.kind; server_id = own.server_id; size = own.size; log_pos = short; flags = own.flags },
+      placed-events place es short events.1,
+    )
 
 -- a damaged event
 damaged-event : (e : Event) → IsEvent e → IsEvent (record e { kind = 255; flags = e.kind })
@@ -79,6 +120,11 @@ damaged-event e event = record {
 abbrev pub Fit : ℕ → ℕ → List Event → Type 0
 Fit pos end es = AllByRecursion IsEvent es × (end_of pos es ≤ end)
 
+-- so do events in front of others
+pub fit-append : (pos end : ℕ) (es later : List Event) → AllByRecursion IsEvent es → Fit (end_of pos es) end later → Fit pos end (es ++ later)
+fit-append pos end [] later events fit = fit
+fit-append pos end (e ∷ es) later events fit = let rest = fit-append (pos + event_size e) end es later events.1 fit in ((events.0, rest.0), rest.1)
+
 -- what is handed out for events fits where they are, and before it
 handed-fit : (how : Reading) (sums : Bool) (len pos at : ℕ) (es : List Event) → pos ≤ at → AllByRecursion IsEvent es → end_of at es < 2 ^ 32
     → Fit pos (end_of at es) (flat_map (handed sums) (found how sums len at (placed_from at es)).kept)
@@ -92,27 +138,31 @@ handed-fit how sums len pos at (e ∷ es) before events short =
     passed : Bool
     passed = how.skip_damaged && (is_wrong_sum (check_of sums p) && begins_right (placed_from (at + event_size e) es))
 
+    handed-one : (d : Event) → IsEvent d → event_size d ≡ event_size e → (sums ≡ true → 23 ≤ event_size d)
+        → ((next : ℕ) → next ≤ at + event_size e
+        → Fit next (end_of (at + event_size e) es) (flat_map (handed sums) (found how sums len (at + event_size e) (placed_from (at + event_size e) es)).kept))
+        → Fit pos (end_of (at + event_size e) es)
+        (handed sums (record { pos = at; event = d }) ++ flat_map (handed sums) (found how sums len (at + event_size e) (placed_from (at + event_size e) es)).kept)
+    handed-one d event same room later =
+        let past = end-past (at + event_size e) es in
+        let own = become-fit (λ body. body) sums d gtid_fits event room in
+        let fits = own.fits pos in
+        let ends = placed-ends at pos (becomes (bare sums d)) in
+        fit-append pos (end_of (at + event_size e) es) (handed sums (record { pos = at; event = d }))
+        (flat_map (handed sums) (found how sums len (at + event_size e) (placed_from (at + event_size e) es)).kept)
+        (placed-events at (becomes (bare sums d)) (omega arith) own.events) (later (end_of pos (handed sums (record { pos = at; event = d }))) (omega arith))
+
     by_check : (check : Option SumFault) (b : Bool) → check_of sums p ≡ check → passed ≡ b
         → ((next : ℕ) → next ≤ at + event_size e
         → Fit next (end_of (at + event_size e) es) (flat_map (handed sums) (found how sums len (at + event_size e) (placed_from (at + event_size e) es)).kept))
         → Fit pos (end_of (at + event_size e) es)
         (flat_map (handed sums) (found_with check b p (found how sums len (at + event_size e) (placed_from (at + event_size e) es))).kept)
-    by_check None b fine tested later =
-        let past = end-past (at + event_size e) es in
-        let own = known-event sums at e (omega arith) events.0 (has-room sums p fine) in
-        let size = own.1 in
-        let rest = later (pos + event_size (known (bare sums e))) (omega arith) in
-        ((own.0, rest.0), rest.1)
+    by_check None b fine tested later = handed-one e events.0 refl (has-room sums p fine) later
     by_check (Some fault) true fails tested later =
-        let d : Event = (as_damaged p).event in
         let both = and_parts how.skip_damaged (is_wrong_sum (check_of sums p) && begins_right (placed_from (at + event_size e) es)) tested in
         let wrong : is_wrong_sum (Some fault) ≡ true =
         ap is_wrong_sum (sym fails) ∙ (and_parts (is_wrong_sum (check_of sums p)) (begins_right (placed_from (at + event_size e) es)) both.1).0 in
-        let past = end-past (at + event_size e) es in
-        let own = known-event sums at d (omega arith) (damaged-event e events.0) (wrong-has-room sums p fault fails wrong) in
-        let size = own.1 in
-        let rest = later (pos + event_size (known (bare sums d))) (omega arith) in
-        ((own.0, rest.0), rest.1)
+        handed-one (as_damaged p).event (damaged-event e events.0) refl (wrong-has-room sums p fault fails wrong) later
     by_check (Some fault) false fails tested later = let past = end-past (at + event_size e) es in (tt, omega arith)
 
 -- ---- the format description

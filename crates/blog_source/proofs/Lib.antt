@@ -13,4 +13,6 @@ mod PlainLog
 mod Standing
 mod HandedPlaces
 mod Unmoved
-pub mod Gtids
+pub mod WhatBecomes
+pub mod Ending
+pub mod Puts

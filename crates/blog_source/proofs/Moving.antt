@@ -1,8 +1,9 @@
 -- Moving an event to the front of the bytes in which it stands.
 use Rattle.std.proofs.Common.{◌≡◌, ℕ, ◌+◌, ◌-◌, ◌≤◌, Bool, List, ◌++◌, length, take, drop, true, false, Some, None, [], ◌∷◌, refl, sym, ap, ◌∙◌, arith, append_assoc}
 use Rattle.std.proofs.lemmas.List.{drop-drop, drop_at, length-append, length-drop, length-take-le, take-append-drop, take-append-le, take-take, take_at}
-use Rattle.std.specs.Prelude.{nat_le, ◌==◌, ◌&&◌}
-use Rattle.std.proofs.lemmas.Bool.Decides.{nat_tests}
+use Rattle.std.specs.Prelude.{nat_le}
+use Rattle.std.specs.List.{flat_map}
+use Rattle.std.proofs.lemmas.List.Concat.{flat_map-append}
 use Rattle.std.proofs.lemmas.Bool.{leb-true}
 use Rattle.std.proofs.lemmas.Option.{none-some}
 use Rattle.blog_event.specs.declared.fault.Fault.TheVariants.{CutEvent}
@@ -15,13 +16,19 @@ use Rattle.blog_source.specs.Found.{check_of, is_wrong_sum}
 use Rattle.blog_event.specs.declared.event.Header.{Header}
 use Rattle.byteorder.specs.Endian.{little_number}
 use Rattle.blog_event.specs.Event.{Event, event_at, event_size, event_text}
-use Rattle.blog_event.specs.File.{Placed}
+use Rattle.blog_event.specs.File.{Placed, end_of}
+use Rattle.blog_sum.specs.Plain.{ended_from}
 use Rattle.blog_event.proofs.Framing.{event-at-gives}
 use Rattle.blog_source.specs.declared.form.Form.{Form}
 use Rattle.blog_source.specs.declared.form.Form.TheVariants.{Places, Plain}
-use Rattle.blog_source.specs.Handed.{bare, is_tagged}
+use Rattle.blog_source.specs.declared.becoming.Becoming.{Becoming}
+use Rattle.blog_source.specs.declared.becoming.Becoming.TheVariants.{Itself, Gtid, Begin, Nothing}
+use Rattle.blog_source.specs.Becoming.{become_as, becoming_of}
+use Rattle.blog_source.specs.Handed.{bare, handed}
+use Rattle.blog_source.specs.Plain.{plainly}
+use Rattle.blog_source.proofs.Ending.{ended-append}
 use Rattle.blog_event.specs.Writing.{header_text}
-use Rattle.blog_source.specs.code.Walk.{IsHeaderOf, damaged_header, formed, moved, moved_bare, moved_size, pos_as, put_text}
+use Rattle.blog_source.specs.code.Walk.{IsHeaderOf, cut_as, damaged_header, formed, moved, moved_bare, moved_size, put_as, put_text}
 use borrow.Rule.Slice.PartMut.{put_mid}
 use lib.Seq.{paste}
 
@@ -85,20 +92,11 @@ part-long body h to k n is k_is fits =
 -- ---- an event that is moved
 
 -- a header and a body are the text of the event with these fields
-pub header-body : (h : Header) (size log_pos kind : ℕ) (e : Event) → size ≡ event_size e → log_pos ≡ e.log_pos → kind ≡ e.kind
-    → h.timestamp ≡ e.timestamp → h.server_id ≡ e.server_id → h.flags ≡ e.flags
-    → header_text (record h { kind = kind; size = size; log_pos = log_pos }) ++ e.body ≡ event_text e
+pub header-body : (h : Header) (size log_pos kind flags : ℕ) (e : Event) → size ≡ event_size e → log_pos ≡ e.log_pos → kind ≡ e.kind
+    → h.timestamp ≡ e.timestamp → h.server_id ≡ e.server_id → flags ≡ e.flags
+    → header_text (record h { kind = kind; size = size; log_pos = log_pos; flags = flags }) ++ e.body ≡ event_text e
 unfolding header_text event_text
-header-body h size log_pos kind e size_is pos_is kind_is time_is server_is flags_is = rw (size_is, pos_is, kind_is, time_is, server_is, flags_is) refl
-
--- an event of the bytes is one that is tagged by its type and size
-pub tagged-is : (sums : Bool) (at : ℕ) (h : Header) (bytes : List ℕ) (size : ℕ) (tagged : Bool) → size ≡ moved_size sums h.size → 19 ≤ size → at + size ≤ length bytes
-    → ((h.kind == 42) && nat_le 44 size) ≡ tagged → is_tagged (moved_bare sums at h bytes) ≡ tagged
-tagged-is sums at h bytes size tagged is least within tested =
-    let left = length-drop (at + 19) bytes in
-    let part = length-take-le (moved_size sums h.size - 19) (drop (at + 19) bytes) (omega arith) in
-    let same : nat_le 25 (length (moved_bare sums at h bytes).body) ≡ nat_le 44 size = grind (arith, nat_tests) in
-    ap (λ (test : Bool). (h.kind == 42) && test) same ∙ tested
+header-body h size log_pos kind flags e size_is pos_is kind_is time_is server_is flags_is = rw (size_is, pos_is, kind_is, time_is, server_is, flags_is) refl
 
 -- a header and a body, put one after the other
 pub two-parts : (old h b : List ℕ) (to k m n : ℕ) → length h ≡ 19 → length b ≡ n → k ≡ 19 → m ≡ n → to + (19 + n) ≤ length old
@@ -177,16 +175,26 @@ bare-is false bytes at h e found is room =
     let body = moved-body false bytes at h.size e found is.size room in
     λ i. record { timestamp = sym is.timestamp i; kind = sym is.kind i; server_id = sym is.server_id i; log_pos = 0; flags = sym is.flags i; body = body i }
 
--- what is put for an event, which doesn't go by its own log_pos
-abbrev put_as : Form → ℕ → ℕ → Event → Event
-put_as form at to e = record (formed form e) { log_pos = pos_as form at (to + event_size (formed form e)) }
-
-placed-same : (form : Form) (at to : ℕ) (e : Event) → put_as form at to (record e { log_pos = 0 }) ≡ put_as form at to e
-placed-same form at to e = by_case (is_tagged e) refl
+-- what is put for an event doesn't go by its own log_pos
+placed-same : (form : Form) (at to : ℕ) (e : Event) → put_as form at to (formed form (record e { log_pos = 0 })) ≡ put_as form at to (formed form e)
+placed-same form at to e = by_case (becoming_of e.kind e.body)
   where
-    by_case : (tagged : Bool) → is_tagged e ≡ tagged → put_as form at to (record e { log_pos = 0 }) ≡ put_as form at to e
-    by_case true is = rw is refl
-    by_case false is = rw is refl
+    by_case : (r : Becoming) → put_as form at to (become_as (cut_as form) r (record e { log_pos = 0 })) ≡ put_as form at to (become_as (cut_as form) r e)
+    by_case Itself = refl
+    by_case Gtid = refl
+    by_case Begin = refl
+    by_case Nothing = refl
+
+-- in the plain form it says where it ends
+ended-one : (at to : ℕ) (e : Event) → (ended_from to (plainly e) ≡ put_as Plain at to (formed Plain e)) × (end_of to (plainly e) ≡ end_of to (put_as Plain at to (formed Plain e)))
+ended-one at to e = by_case (becoming_of e.kind e.body)
+  where
+    by_case : (r : Becoming) → (ended_from to (become_as (take 25) r e) ≡ put_as Plain at to (become_as (take 25) r e))
+        × (end_of to (become_as (take 25) r e) ≡ end_of to (put_as Plain at to (become_as (take 25) r e)))
+    by_case Itself = (refl, refl)
+    by_case Gtid = (refl, refl)
+    by_case Begin = (refl, refl)
+    by_case Nothing = (refl, refl)
 
 -- the same of a damaged event
 pub damaged-is : (sums : Bool) (bytes : List ℕ) (at : ℕ) (h : Header) (e : Event) → event_at (drop at bytes) ≡ Some e → IsHeaderOf e h
@@ -200,13 +208,19 @@ damaged-is false bytes at h e found is room =
 
 -- what is put for it, and for those behind it
 pub kept-text : (form : Form) (sums : Bool) (bytes : List ℕ) (at to : ℕ) (h : Header) (e : Event) (ps : List Placed) → record (bare sums e) { log_pos = 0 } ≡ moved_bare sums at h bytes
-    → put_text form sums to (record { pos = at; event = e } ∷ ps) ≡ event_text (moved form sums to at h bytes) ++ put_text form sums (to + event_size (moved form sums to at h bytes)) ps
+    → put_text form sums to (record { pos = at; event = e } ∷ ps) ≡ flat_map event_text (moved form sums to at h bytes) ++ put_text form sums (end_of to (moved form sums to at h bytes)) ps
 kept-text Places sums bytes at to h e ps moved_is =
-    let moves = sym (placed-same Places at to (bare sums e)) ∙ ap (put_as Places at to) moved_is in
-    (λ i. event_text (moves i) ++ put_text Places sums (to + event_size (moves i)) ps)
+    let moves = sym (placed-same Places at to (bare sums e)) ∙ ap (λ (e : Event). put_as Places at to (formed Places e)) moved_is in
+    flat_map-append event_text (put_as Places at to (formed Places (bare sums e))) (flat_map (handed sums) ps)
+    ∙ (λ i. flat_map event_text (moves i) ++ put_text Places sums (end_of to (moves i)) ps)
 kept-text Plain sums bytes at to h e ps moved_is =
-    let moves = sym (placed-same Plain at to (bare sums e)) ∙ ap (put_as Plain at to) moved_is in
-    (λ i. event_text (moves i) ++ put_text Plain sums (to + event_size (moves i)) ps)
+    let moves = sym (placed-same Plain at to (bare sums e)) ∙ ap (λ (e : Event). put_as Plain at to (formed Plain e)) moved_is in
+    let one = ended-one at to (bare sums e) in
+    let later : List Event = flat_map (λ (p : Placed). plainly (bare sums p.event)) ps in
+    ap (flat_map event_text) (ended-append to (plainly (bare sums e)) later)
+    ∙ flat_map-append event_text (ended_from to (plainly (bare sums e))) (ended_from (end_of to (plainly (bare sums e))) later)
+    ∙ (λ i. flat_map event_text (one.0 i) ++ put_text Plain sums (one.1 i) ps)
+    ∙ (λ i. flat_map event_text (moves i) ++ put_text Plain sums (end_of to (moves i)) ps)
 
 -- ---- the checks of an event
 

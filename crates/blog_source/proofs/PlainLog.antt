@@ -1,8 +1,7 @@
 -- The plain log of a log: its events, its length, that it is a log without sums, and its own plain log.
-use Rattle.std.proofs.Common.{◌≡◌, ℕ, ◌+◌, ◌^◌, ◌≤◌, ◌<◌, Bool, true, false, List, [], ◌∷◌, ◌++◌, length, drop, None, refl, sym, subst, ap, ◌∙◌, arith}
-use Rattle.std.specs.Prelude.{◌==◌, map, nat_le}
-use Rattle.std.specs.List.{AllByRecursion}
-use Rattle.std.proofs.lemmas.Bool.{and_parts, leb-true}
+use Rattle.std.proofs.Common.{◌≡◌, ℕ, ◌+◌, ◌^◌, ◌≤◌, ◌<◌, Bool, true, false, List, [], ◌∷◌, ◌++◌, length, take, drop, None, refl, sym, subst, ap, ◌∙◌, arith}
+use Rattle.std.specs.Prelude.{◌==◌}
+use Rattle.std.specs.List.{AllByRecursion, flat_map}
 use Rattle.std.proofs.lemmas.List.{append-nil, length-append, length-take-le}
 use Rattle.blog_event.specs.Event.{Event, event_size, IsEvent}
 use Rattle.blog_event.specs.Fault.{fault_at}
@@ -16,87 +15,96 @@ use Rattle.blog_sum.specs.Plain.{ended_from}
 use Rattle.blog_sum.specs.Sums.{algorithm_of, has_sums, sum_fault}
 use Rattle.blog_sum.proofs.Summed.{format-accepted, is-summed, no-fault, summed-algorithm}
 use Rattle.blog_source.specs.Found.{check_of, found, source_refusal}
-use Rattle.blog_source.specs.Handed.{bare, handed_format, is_tagged}
-use Rattle.blog_source.specs.Laws.{IsEnded, NoneTagged, whole_reading}
-use Rattle.blog_source.specs.Plain.{plain_events, plain_log, untagged}
+use Rattle.blog_source.specs.Handed.{bare, handed_format}
+use Rattle.blog_source.specs.Laws.{IsEnded, StayThemselves, whole_reading}
+use Rattle.blog_source.specs.Plain.{plain_events, plain_log, plainly}
 use Rattle.blog_source.proofs.Accepted.{IsAccepted, is-accepted, is-read, later_of}
-use Rattle.blog_source.proofs.HandedLog.{Fit, HasFormat, bare-event, end-past, has-format}
+use Rattle.blog_source.proofs.Ending.{ended-append}
+use Rattle.blog_source.proofs.WhatBecomes.{Stays, stays-alone, then-stays}
+use Rattle.blog_source.proofs.HandedLog.{Fit, HasFormat, become-fit, end-past, fit-append, has-format}
 use Rattle.blog_source.proofs.LogText.{IsText, text-long, text-marked, text-opens, text-read, text-stands}
 use Rattle.blog_source.proofs.Moving.{has-room}
 use Rattle.blog_source.proofs.Plained.{none-with}
 use Rattle.blog_source.proofs.WholeReading.{found-is, whole_fault, whole_opens}
 
--- ---- an event of a plain log
+-- ---- events that say where they end
+
+ended-ends : (pos : ℕ) (es : List Event) → end_of pos (ended_from pos es) ≡ end_of pos es
+ended-ends pos [] = refl
+ended-ends pos (e ∷ es) = ended-ends (pos + event_size e) es
+
+ended-events : (pos : ℕ) (es : List Event) → end_of pos es < 2 ^ 32 → AllByRecursion (λ f. IsEvent (record f { log_pos = 0 })) es → AllByRecursion IsEvent (ended_from pos es)
+ended-events pos [] short events = tt
+ended-events pos (e ∷ es) short events =
+    let past = end-past (pos + event_size e) es in
+    let own = events.0 in (
+      record { timestamp = own.timestamp; kind = own.kind; server_id = own.server_id; size = own.size; log_pos = omega arith; flags = own.flags },
+      ended-events (pos + event_size e) es short events.1,
+    )
+
+ended-twice : (pos : ℕ) (es : List Event) → ended_from pos (ended_from pos es) ≡ ended_from pos es
+ended-twice pos [] = refl
+ended-twice pos (e ∷ es) = ap (λ (later : List Event). record e { log_pos = pos + event_size e } ∷ later) (ended-twice (pos + event_size e) es)
+
+ended-same : (pos : ℕ) (es : List Event) → AllByRecursion IsEnded (placed_from pos es) → ended_from pos es ≡ es
+ended-same pos [] ended = refl
+ended-same pos (e ∷ es) ended =
+    ap (λ (log_pos : ℕ). record e { log_pos = log_pos } ∷ ended_from (pos + event_size e) es) (sym ended.0)
+    ∙ ap (λ (later : List Event). e ∷ later) (ended-same (pos + event_size e) es ended.1)
+
+ended-stay : (pos : ℕ) (es : List Event) → AllByRecursion Stays es → AllByRecursion Stays (ended_from pos es)
+ended-stay pos [] stay = tt
+ended-stay pos (e ∷ es) stay = (stay.0, ended-stay (pos + event_size e) es stay.1)
+
+-- ---- those of a plain log
 
 -- what an event becomes
-abbrev plain_of : Bool → Event → Event
-plain_of sums e = untagged (bare sums e)
+abbrev plain_of : Bool → Event → List Event
+plain_of sums e = plainly (bare sums e)
 
--- it is an event, and no longer
-plain-event : (sums : Bool) (pos : ℕ) (e : Event) → pos < 2 ^ 32 → IsEvent e → (sums ≡ true → 23 ≤ event_size e)
-    → IsEvent (record (plain_of sums e) { log_pos = pos }) × (event_size (plain_of sums e) ≤ event_size e)
-plain-event sums pos e short event room = by_case (is_tagged (bare sums e)) refl
-  where
-    by_case : (tagged : Bool) → is_tagged (bare sums e) ≡ tagged → IsEvent (record (plain_of sums e) { log_pos = pos }) × (event_size (plain_of sums e) ≤ event_size e)
-    by_case true is =
-        let own = bare-event sums pos e short event room in
-        let enough = leb-true 25 (length (bare sums e).body) (and_parts ((bare sums e).kind == 42) (nat_le 25 (length (bare sums e).body)) is).1 in
-        let long = length-take-le 25 (gtid_body_of (bare sums e).body) (gtid_least (bare sums e).body) in
-        let size = own.0.size in
-        let less = own.1 in
-        rw is (
-          record { timestamp = own.0.timestamp; kind = omega arith; server_id = own.0.server_id; size = omega arith; log_pos = short; flags = own.0.flags },
-          omega arith,
-        )
-    by_case false is = rw is (bare-event sums pos e short event room)
-
--- it is no tagged one
-never-tagged : (e : Event) → is_tagged (untagged e) ≡ false
-never-tagged e = by_case (is_tagged e) refl
-  where
-    by_case : (tagged : Bool) → is_tagged e ≡ tagged → is_tagged (untagged e) ≡ false
-    by_case true is = rw is refl
-    by_case false is = rw is is
-
--- one that is none is as it is
-untagged-same : (e : Event) → is_tagged e ≡ false → untagged e ≡ e
-untagged-same e plain = rw plain refl
-
--- ---- those behind the format description
+-- no body is longer without a tag
+cut-fits : (body : List ℕ) → 25 ≤ length body → length (take 25 (gtid_body_of body)) ≤ length body
+cut-fits body enough = let long = length-take-le 25 (gtid_body_of body) (gtid_least body) in omega arith
 
 -- they fit where the events of the log are, and before it
 plain-fit : (sums : Bool) (len pos at : ℕ) (es : List Event) → pos ≤ at → AllByRecursion IsEvent es → end_of at es < 2 ^ 32
-    → (found whole_reading sums len at (placed_from at es)).fault ≡ None → Fit pos (end_of at es) (ended_from pos (map (plain_of sums) es))
+    → (found whole_reading sums len at (placed_from at es)).fault ≡ None → Fit pos (end_of at es) (ended_from pos (flat_map (plain_of sums) es))
 plain-fit sums len pos at [] before events short none = (tt, before)
 plain-fit sums len pos at (e ∷ es) before events short none =
     let p : Placed = record { pos = at; event = e } in
     let first = none-with (check_of sums p) p (found whole_reading sums len (at + event_size e) (placed_from (at + event_size e) es)) none in
     let past = end-past (at + event_size e) es in
-    let room = has-room sums p first.0 in
-    let less = (plain-event sums 0 e (omega arith) events.0 room).1 in
-    let own = plain-event sums (pos + event_size (plain_of sums e)) e (omega arith) events.0 room in
-    let later = plain-fit sums len (pos + event_size (plain_of sums e)) (at + event_size e) es (omega arith) events.1 short first.1 in
-    ((own.0, later.0), later.1)
+    let own = become-fit (take 25) sums e cut-fits events.0 (has-room sums p first.0) in
+    let ones : List Event = plain_of sums e in
+    let more : List Event = flat_map (plain_of sums) es in
+    let end : ℕ = end_of (at + event_size e) es in
+    let fits = own.fits pos in
+    let later = plain-fit sums len (end_of pos ones) (at + event_size e) es (omega arith) events.1 short first.1 in
+    subst (λ (es : List Event). Fit pos end es) (sym (ended-append pos ones more))
+    (fit-append pos end (ended_from pos ones) (ended_from (end_of pos ones) more) (ended-events pos ones (omega arith) own.events)
+    (subst (λ (next : ℕ). Fit next end (ended_from (end_of pos ones) more)) (sym (ended-ends pos ones)) later))
 
--- those of a plain log stay as they are
+-- each stays itself
+stay-append : (es more : List Event) → AllByRecursion Stays es → AllByRecursion Stays more → AllByRecursion Stays (es ++ more)
+stay-append [] more stay rest = rest
+stay-append (e ∷ es) more stay rest = (stay.0, stay-append es more stay.1 rest)
+
+plain-stay : (sums : Bool) (es : List Event) → AllByRecursion Stays (flat_map (plain_of sums) es)
+plain-stay sums [] = tt
+plain-stay sums (e ∷ es) = stay-append (plain_of sums e) (flat_map (plain_of sums) es) (then-stays (take 25) (bare sums e)) (plain-stay sums es)
+
+-- and those that do are what they become
+stay-same : (es : List Event) → AllByRecursion Stays es → flat_map (plain_of false) es ≡ es
+stay-same [] stay = refl
+stay-same (e ∷ es) stay =
+    ap (λ (first : List Event). first ++ flat_map (plain_of false) es) (stays-alone (take 25) e stay.0) ∙ ap (λ (later : List Event). e ∷ later) (stay-same es stay.1)
+
+-- so those of a plain log stay as they are
 plain-twice : (sums : Bool) (pos : ℕ) (es : List Event)
-    → ended_from pos (map (plain_of false) (ended_from pos (map (plain_of sums) es))) ≡ ended_from pos (map (plain_of sums) es)
-plain-twice sums pos [] = refl
-plain-twice sums pos (e ∷ es) =
-    let f : Event = record (plain_of sums e) { log_pos = pos + event_size (plain_of sums e) } in
-    let same : untagged f ≡ f = untagged-same f (never-tagged (bare sums e)) in
-    ap (λ (first : Event). record first { log_pos = pos + event_size first } ∷ ended_from (pos + event_size first) (map (plain_of false) (ended_from (pos + event_size f) (map (plain_of sums) es)))) same
-    ∙ ap (λ (later : List Event). f ∷ later) (plain-twice sums (pos + event_size f) es)
-
--- so do others that are not tagged, and say where they end
-ended-same : (pos : ℕ) (es : List Event) → AllByRecursion (λ e. is_tagged e ≡ false) es → AllByRecursion IsEnded (placed_from pos es)
-    → ended_from pos (map (plain_of false) es) ≡ es
-ended-same pos [] plain ended = refl
-ended-same pos (e ∷ es) plain ended =
-    let same : untagged e ≡ e = untagged-same e plain.0 in
-    ap (λ (first : Event). record first { log_pos = pos + event_size first } ∷ ended_from (pos + event_size first) (map (plain_of false) es)) same
-    ∙ ap (λ (log_pos : ℕ). record e { log_pos = log_pos } ∷ ended_from (pos + event_size e) (map (plain_of false) es)) (sym ended.0)
-    ∙ ap (λ (later : List Event). e ∷ later) (ended-same (pos + event_size e) es plain.1 ended.1)
+    → ended_from pos (flat_map (plain_of false) (ended_from pos (flat_map (plain_of sums) es))) ≡ ended_from pos (flat_map (plain_of sums) es)
+plain-twice sums pos es =
+    ap (ended_from pos) (stay-same (ended_from pos (flat_map (plain_of sums) es)) (ended-stay pos (flat_map (plain_of sums) es) (plain-stay sums es)))
+    ∙ ended-twice pos (flat_map (plain_of sums) es)
 
 -- ---- the whole log
 
@@ -105,7 +113,7 @@ record IsPlain (bytes : List ℕ) : Type 0 where
   log : IsAccepted bytes
   format : HasFormat (has_sums bytes) log.format
   later : List Event
-  later_is : later ≡ ended_from (4 + event_size log.format) (map (plain_of (has_sums bytes)) (later_of bytes None log))
+  later_is : later ≡ ended_from (4 + event_size log.format) (flat_map (plain_of (has_sums bytes)) (later_of bytes None log))
   are : plain_events (has_sums bytes) (read bytes None) ≡ handed_format (has_sums bytes) log.format ∷ later
   text : IsText (plain_log bytes) (handed_format (has_sums bytes) log.format) later
   ends : length (plain_log bytes) ≤ length bytes
@@ -124,7 +132,7 @@ is-plain bytes are fine =
     let format = has-format bytes log sums refl reads.events.0 in
     let none = ap (λ f. f.fault) (sym (found-is whole_reading bytes log)) ∙ whole_fault bytes opened ∙ fine in
     let fit = plain-fit sums (length bytes) at at es (omega arith) reads.events.1 (omega arith) none in
-    let last : List Event = ended_from at (map (plain_of sums) es) in
+    let last : List Event = ended_from at (flat_map (plain_of sums) es) in
     let first : Event = handed_format sums log.format in
     let are : plain_events sums (read bytes None) ≡ first ∷ last = ap (plain_events sums) reads.is in
     let text : IsText (plain_log bytes) first last = record { is = ap file_text are; events = (format.event, fit.0) } in
@@ -179,8 +187,8 @@ plain_same bytes are fine =
     let es : List Event = later_of bytes None is.log in
     ap (λ (none : Bool). file_text (plain_events none (read text None))) (plain_unsummed bytes are fine)
     ∙ ap (λ (es : List Event). file_text (plain_events false es)) (text-read text format is.later is.text)
-    ∙ ap (λ (size : ℕ). file_text (format ∷ ended_from (4 + size) (map (plain_of false) is.later))) is.format.size
-    ∙ ap (λ (later : List Event). file_text (format ∷ ended_from at (map (plain_of false) later))) is.later_is
+    ∙ ap (λ (size : ℕ). file_text (format ∷ ended_from (4 + size) (flat_map (plain_of false) is.later))) is.format.size
+    ∙ ap (λ (later : List Event). file_text (format ∷ ended_from at (flat_map (plain_of false) later))) is.later_is
     ∙ ap (λ (later : List Event). file_text (format ∷ later)) (plain-twice sums at es ∙ sym is.later_is)
     ∙ sym is.text.is
 
@@ -197,7 +205,7 @@ none-behind bytes es begins ends =
     no-more [] none = refl
     no-more (x ∷ rest) none = absurd (omega arith)
 
-pub plain_kept : (bytes : List ℕ) → AreBytes bytes → sum_fault bytes ≡ None → has_sums bytes ≡ false → NoneTagged (read bytes None)
+pub plain_kept : (bytes : List ℕ) → AreBytes bytes → sum_fault bytes ≡ None → has_sums bytes ≡ false → StayThemselves (read bytes None)
     → AllByRecursion IsEnded (drop 1 (placed_from 4 (read bytes None))) → plain_log bytes ≡ bytes
 unfolding plain_log
 plain_kept bytes are fine none plain ended =
@@ -206,7 +214,7 @@ plain_kept bytes are fine none plain ended =
     let at : ℕ = 4 + event_size log.format in
     let es : List Event = later_of bytes None log in
     let whole : end_of 4 (log.format ∷ es) ≡ length bytes = ap (end_of 4) (sym reads.is) ∙ (is-summed bytes fine).whole in
-    let same : ended_from at (map (plain_of false) es) ≡ es = ended-same at es (subst NoneTagged reads.is plain)
+    let same : ended_from at (flat_map (plain_of false) es) ≡ es = ap (ended_from at) (stay-same es (subst StayThemselves reads.is plain)) ∙ ended-same at es
     (subst (λ (es : List Event). AllByRecursion IsEnded (drop 1 (placed_from 4 es))) reads.is ended) in
     ap (λ (sums : Bool). file_text (plain_events sums (read bytes None))) none
     ∙ ap (λ (es : List Event). file_text (plain_events false es)) reads.is

@@ -1,6 +1,6 @@
 -- What is put in the plain form for a log in which no fault is found is its plain log.
 use Rattle.std.proofs.Common.{◌≡◌, ℕ, ◌+◌, Bool, false, List, [], ◌∷◌, ◌++◌, length, take, drop, Option, Some, None, Ok, Err, refl, sym, ap, ◌∙◌, append_assoc}
-use Rattle.std.specs.Prelude.{map, Result}
+use Rattle.std.specs.Prelude.{Result}
 use Rattle.std.specs.Result.{IsErrAnd, result_err}
 use Rattle.std.specs.List.{flat_map}
 use Rattle.std.proofs.lemmas.Option.{none-some}
@@ -14,7 +14,7 @@ use Rattle.blog_source.specs.declared.front.Front.{Front}
 use Rattle.blog_source.specs.Found.{Found, check_of, found, found_of, found_with}
 use Rattle.blog_source.specs.Handed.{bare, handed_format}
 use Rattle.blog_source.specs.Laws.{whole_reading}
-use Rattle.blog_source.specs.Plain.{plain_events, plain_log, untagged}
+use Rattle.blog_source.specs.Plain.{plain_events, plain_log, plainly}
 use Rattle.blog_source.specs.code.Fronts.{HasFront, IsFront}
 use Rattle.blog_source.specs.code.Walk.{found_left, put_text}
 use Rattle.blog_source.proofs.Opened.{found-is, left-same, read-is}
@@ -43,10 +43,10 @@ all-kept sums len at (e ∷ es) none =
 
 -- ---- the plain log
 
--- what each of them becomes
-become : (sums : Bool) (at : ℕ) (es : List Event) → map {A = Placed} (λ p. untagged (bare sums p.event)) (placed_from at es) ≡ map (λ e. untagged (bare sums e)) es
+-- what they become
+become : (sums : Bool) (at : ℕ) (es : List Event) → flat_map (λ (p : Placed). plainly (bare sums p.event)) (placed_from at es) ≡ flat_map (λ e. plainly (bare sums e)) es
 become sums at [] = refl
-become sums at (e ∷ es) = ap (λ (later : List Event). untagged (bare sums e) ∷ later) (become sums (at + event_size e) es)
+become sums at (e ∷ es) = ap (λ (later : List Event). plainly (bare sums e) ++ later) (become sums (at + event_size e) es)
 
 -- the events behind the format description
 abbrev later_from : ℕ → List ℕ → List Event
@@ -54,15 +54,15 @@ later_from first old = events_from (length old) None first (drop first old)
 
 plain-front : (front : Front) (old : List ℕ) (is : IsFront front old)
     → plain_log old ≡ (magic ++ event_text (handed_format front.sums is.format))
-    ++ flat_map event_text (ended_from front.first (map (λ e. untagged (bare front.sums e)) (later_from front.first old)))
+    ++ flat_map event_text (ended_from front.first (flat_map (λ e. plainly (bare front.sums e)) (later_from front.first old)))
 unfolding plain_log
 plain-front front old is =
     let later : List Event = later_from (4 + event_size is.format) old in
     ap (λ (es : List Event). file_text (plain_events (has_sums old) es)) (read-is old None is.format is.mark is.stands)
-    ∙ (λ i. file_text (handed_format (sym is.sums i) is.format ∷ ended_from (4 + event_size is.format) (map (λ e. untagged (bare (sym is.sums i) e)) later)))
-    ∙ (λ i. file_text (handed_format front.sums is.format ∷ ended_from (sym is.first i) (map (λ e. untagged (bare front.sums e)) (later_from (sym is.first i) old))))
+    ∙ (λ i. file_text (handed_format (sym is.sums i) is.format ∷ ended_from (4 + event_size is.format) (flat_map (λ e. plainly (bare (sym is.sums i) e)) later)))
+    ∙ (λ i. file_text (handed_format front.sums is.format ∷ ended_from (sym is.first i) (flat_map (λ e. plainly (bare front.sums e)) (later_from (sym is.first i) old))))
     ∙ sym (append_assoc magic (event_text (handed_format front.sums is.format))
-    (flat_map event_text (ended_from front.first (map (λ e. untagged (bare front.sums e)) (later_from front.first old)))))
+    (flat_map event_text (ended_from front.first (flat_map (λ e. plainly (bare front.sums e)) (later_from front.first old)))))
 
 pub plain-is : (front : Front) (old new : List ℕ) → HasFront front old new → (found_of whole_reading old).fault ≡ None
     → take front.first new ++ put_text Plain front.sums front.first (found_left whole_reading front.sums (length new) front.first (drop front.first new)).kept ≡ plain_log old

@@ -13,7 +13,7 @@ use Rattle.blog_source.specs.declared.reading.Reading.{Reading}
 use Rattle.blog_source.specs.Found.{as_damaged, begins_right, check_of, found, found_with, is_wrong_sum}
 use Rattle.blog_source.specs.Handed.{bare, becomes, handed}
 use Rattle.blog_source.specs.Laws.{HandedOut, handed_for, handed_from, placed_of}
-use Rattle.blog_source.proofs.HandedLog.{end-past}
+use Rattle.blog_source.proofs.HandedLog.{at_place, end-past}
 
 -- ---- lists
 
@@ -83,10 +83,6 @@ from-each P sums at (p ∷ ps) all =
     let next : ℕ = end_of at (handed sums p) in
     all-append (λ h. P h.source) (handed_for p at (handed sums p)) (handed_from sums next ps) (for-each (λ p first. P p) p at (placed_from at (handed sums p)) all.0)
     (from-each P sums next ps all.1)
-
--- events at one place
-abbrev at_place : ℕ → List Event → List Event
-at_place place es = map {A = Event} (λ e. record e { log_pos = place }) es
 
 -- each says the place of the event for which it stands, and begins behind the first of them and behind a position
 pub record IsAtPlace (low : ℕ) (h : HandedOut) : Type 0 where

@@ -1,26 +1,18 @@
 -- The log without checksums that is handed out for a server's log. Each of its events is at the place of an event of that log,
 -- which its log_pos says.
-use Rattle.std.specs.Prelude.{ℕ, ◌==◌, ◌&&◌, nat_le, Bool, true, false, if◌then◌else◌, List, [], ◌∷◌, map, length}
+use Rattle.std.specs.Prelude.{ℕ, Bool, true, false, List, [], ◌∷◌, map, length}
 use Rattle.std.specs.List.{flat_map}
 use Rattle.blog_event.specs.Event.{Event}
 use Rattle.blog_event.specs.File.{Placed, file_text, read}
-use Rattle.blog_gtid.specs.Tagged.{gtid_body_of}
 use Rattle.blog_sum.specs.Sums.{has_sums}
 use Rattle.blog_sum.specs.Plain.{without_sum, plain_format}
 use Rattle.blog_source.specs.declared.reading.Reading.{Reading}
+use Rattle.blog_source.specs.Becoming.{becomes_with}
 use Rattle.blog_source.specs.Found.{found_behind}
 
--- a tagged GTID event (type 42), with a body that is long enough for that of a Gtid event
-abbrev pub is_tagged : Event → Bool
-is_tagged e = (e.kind == 42) && nat_le 25 (length e.body)
-
--- such an event as a Gtid event (type 33), with the tag behind its 25 bytes; any other event is as it is
-abbrev pub known : Event → Event
-known e = if is_tagged e then record e { kind = 33; body = gtid_body_of e.body } else e
-
--- what an event becomes, without its sum: none, one or several events that flashback reads, together no longer than it
+-- what an event becomes; the Gtid event of a tagged one has the tag behind its 25 bytes
 abbrev pub becomes : Event → List Event
-becomes e = known e ∷ []
+becomes e = becomes_with (λ body. body) e
 
 -- an event without its sum, where it has one
 abbrev pub bare : Bool → Event → Event

@@ -6,7 +6,9 @@ use Rattle.blog_event.specs.File.{Placed, placed_from, end_of}
 use Rattle.blog_sum.specs.Sums.{has_sums}
 use Rattle.blog_source.specs.declared.reading.Reading.{Reading}
 use Rattle.blog_source.specs.Found.{as_damaged, found_of}
-use Rattle.blog_source.specs.Handed.{handed, is_tagged}
+use Rattle.blog_source.specs.declared.becoming.Becoming.TheVariants.{Itself}
+use Rattle.blog_source.specs.Becoming.{becoming_of}
+use Rattle.blog_source.specs.Handed.{handed}
 use Rattle.blog_source.specs.Places.{first_of}
 
 -- a log is read to its end, or to its first fault
@@ -47,9 +49,9 @@ StandsIn bytes p =
 abbrev pub IsUnmoved : HandedOut → Type 0
 IsUnmoved h = (h.at ≡ h.source.pos) × (unplaced h.event ≡ unplaced h.source.event)
 
--- none of the events that are read is a tagged GTID event
-abbrev pub NoneTagged : List Event → Type 0
-NoneTagged es = AllByRecursion (λ e. is_tagged e ≡ false) (drop 1 es)
+-- each of the events that are read stays itself: none is a tagged GTID event, or one that only MariaDB writes
+abbrev pub StayThemselves : List Event → Type 0
+StayThemselves es = AllByRecursion (λ e. becoming_of e.kind e.body ≡ Itself) (drop 1 es)
 
 -- its log_pos is where it ends
 abbrev pub IsEnded : Placed → Type 0

@@ -1,3 +1,5 @@
+pub mod Maria
+pub mod Becoming
 pub mod Found
 pub mod Handed
 pub mod Plain

@@ -10,7 +10,7 @@ ghost use Rattle.blog_sum.specs.Sums.{has_sums, sum_fault};
 ghost use Rattle.blog_source.specs.declared.reading.Reading.{Reading};
 ghost use Rattle.blog_source.specs.Found.{found_of, source_refusal};
 ghost use Rattle.blog_source.specs.Handed.{handed_events, handed_log};
-ghost use Rattle.blog_source.specs.Laws.{IsUnmoved, NoneTagged, StandsIn, handed_out, placed_of, whole_reading};
+ghost use Rattle.blog_source.specs.Laws.{IsUnmoved, StayThemselves, StandsIn, handed_out, placed_of, whole_reading};
 ghost use Rattle.blog_source.specs.Places.{place_of, position_of};
 
 /// The log that is handed out opens as a log, and is no longer than the server's log. The call does nothing.
@@ -50,12 +50,12 @@ pub fn places_are_of_the_source()
     ensures first { (how : Reading) (bytes : List ℕ) → AreBytes bytes → source_refusal bytes ≡ None → AllByRecursion (λ h. h.first ≤ h.at) (handed_out how bytes) }
 {}
 
-/// Each event that is read of a log without sums and without tagged GTID events is handed out. Only its log_pos changes, and it
-/// begins at the same position. The call does nothing.
+/// Each event that is read of a log without sums is handed out, if each stays itself. Only its log_pos changes, and it begins at the
+/// same position. The call does nothing.
 #[tactic(auto, using(crate::proofs::Unmoved::unsummed_events, crate::proofs::Unmoved::unsummed_unmoved))]
 pub fn unsummed_logs_keep_their_places()
-    ensures events { (how : Reading) (bytes : List ℕ) → AreBytes bytes → source_refusal bytes ≡ None → has_sums bytes ≡ false → NoneTagged (read bytes how.stop)
+    ensures events { (how : Reading) (bytes : List ℕ) → AreBytes bytes → source_refusal bytes ≡ None → has_sums bytes ≡ false → StayThemselves (read bytes how.stop)
         → map unplaced (read (handed_log how bytes) None) ≡ map unplaced (read bytes how.stop) }
-    ensures places { (how : Reading) (bytes : List ℕ) → source_refusal bytes ≡ None → has_sums bytes ≡ false → NoneTagged (read bytes how.stop)
+    ensures places { (how : Reading) (bytes : List ℕ) → source_refusal bytes ≡ None → has_sums bytes ≡ false → StayThemselves (read bytes how.stop)
         → AllByRecursion IsUnmoved (handed_out how bytes) }
 {}

@@ -2,6 +2,7 @@
 //! where in the server's log it stands.
 #![tactic(auto)]
 
+mod becoming;
 mod form;
 mod front;
 mod laws;

@@ -5,7 +5,7 @@ ghost use Rattle.std.specs.List.{AllByRecursion};
 ghost use Rattle.blog_event.specs.File.{AreBytes, placed_from, read};
 ghost use Rattle.blog_event.specs.Opening.{opening_fault};
 ghost use Rattle.blog_sum.specs.Sums.{has_sums, sum_fault};
-ghost use Rattle.blog_source.specs.Laws.{IsEnded, NoneTagged};
+ghost use Rattle.blog_source.specs.Laws.{IsEnded, StayThemselves};
 ghost use Rattle.blog_source.specs.Plain.{plain_events, plain_log};
 
 /// The plain log of a log opens as a log, and is no longer than the log. The call does nothing.
@@ -29,10 +29,9 @@ pub fn plain_log_is_its_own()
     ensures same { (bytes : List ℕ) → AreBytes bytes → sum_fault bytes ≡ None → plain_log (plain_log bytes) ≡ plain_log bytes }
 {}
 
-/// A log without sums and without tagged GTID events is its own plain log, if the log_pos of each event is where it ends. The call
-/// does nothing.
+/// A log without sums is its own plain log, if each event stays itself and its log_pos is where it ends. The call does nothing.
 #[tactic(auto, using(crate::proofs::PlainLog::plain_kept))]
 pub fn unsummed_logs_are_plain()
-    ensures same { (bytes : List ℕ) → AreBytes bytes → sum_fault bytes ≡ None → has_sums bytes ≡ false → NoneTagged (read bytes None)
+    ensures same { (bytes : List ℕ) → AreBytes bytes → sum_fault bytes ≡ None → has_sums bytes ≡ false → StayThemselves (read bytes None)
         → AllByRecursion IsEnded (drop 1 (placed_from 4 (read bytes None))) → plain_log bytes ≡ bytes }
 {}

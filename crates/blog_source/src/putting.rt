@@ -1,23 +1,24 @@
 //! Moving events to the front of the bytes in which they stand.
 
-ghost use Rattle.std.specs.Prelude.{◌≡◌, ◌≤◌, ◌<◌, ◌+◌, ◌-◌, ◌^◌, ◌++◌, ◌==◌, ◌&&◌, nat_le, true, length, take, drop};
-ghost use Rattle.blog_event.specs.Event.{event_size, event_text};
+ghost use Rattle.std.specs.Prelude.{◌≡◌, ◌≤◌, ◌<◌, ◌+◌, ◌-◌, ◌^◌, ◌++◌, true, length, take, drop};
+ghost use Rattle.std.specs.List.{flat_map};
+ghost use Rattle.blog_event.specs.Event.{event_text};
+ghost use Rattle.blog_event.specs.File.{end_of};
 ghost use Rattle.blog_event.specs.Writing.{header_text};
 ghost use Rattle.blog_gtid.specs.Tagged.{gtid_body_of};
+ghost use Rattle.blog_source.specs.Maria.{begin_body};
 ghost use Rattle.blog_source.specs.code.Walk.{cut_as, moved, moved_size, pos_as};
 
+use crate::becoming::{BEGIN_SIZE, Becoming, begin_body, what_becomes};
 use crate::form::Form;
 use arrayvec::ArrayVec;
-use blog_event::constants::GTID_LOG_EVENT;
+use blog_event::constants::{GTID_LOG_EVENT, QUERY_EVENT};
 use blog_event::{HEADER_LEN, Header, header_bytes};
 use blog_gtid::gtid_body;
 use blog_sum::SUM_LEN;
 
-/// The type of a tagged GTID event (MySQL source code documentation, "GTID_TAGGED_LOG_EVENT").
-const GTID_TAGGED_LOG_EVENT: u8 = 42;
-
-/// The least size of a Gtid event that a tagged one becomes.
-const GTID_SIZE: u32 = 44;
+/// The flag of an event that no schema is used with (MySQL Internals manual, "Binary Log Event Header").
+const SUPPRESS_USE: u16 = 8;
 
 /// Moves a part of so many bytes to the front, from `at` to `to`.
 fn move_part(bytes: &mut [u8], at: usize, to: usize, len: usize)
@@ -53,13 +54,6 @@ fn put_event(bytes: &mut [u8], to: usize, header: Header, body: &[u8])
     let place = to + HEADER_LEN;
     bytes[to..place].copy_from_slice(&header_bytes(header));
     bytes[place..place + body.len()].copy_from_slice(body);
-}
-
-/// Whether an event of this type, which has so many bytes without its sum, is put as a Gtid event.
-fn is_tagged(kind: u8, size: u32) -> bool
-    ensures { result ≡ ((kind == 42) && nat_le 44 size) }
-{
-    kind == GTID_TAGGED_LOG_EVENT && size >= GTID_SIZE
 }
 
 /// The body of the Gtid event that a tagged one becomes, whose body begins at a position and has so many bytes.
@@ -140,8 +134,30 @@ fn bare_len(size: u32, sums: bool) -> u32
     }
 }
 
-/// Puts what the event at `at`, whose header this is, becomes at `to`: the event without its sum, or the Gtid event for a tagged
-/// one. Returns where it ends.
+/// Puts the event `BEGIN` at `to`, for the Gtid event of MariaDB at `at`, whose header this is. Returns where it ends.
+fn put_begin(bytes: &mut [u8], at: u32, to: u32, header: Header, form: Form) -> u32
+    requires short { length bytes.old < 2 ^ 32 }
+    requires order { to ≤ at }
+    requires within { at + 38 ≤ length bytes.old }
+    ensures end { result ≡ to + 38 }
+    ensures front { take result bytes.new ≡ take to bytes.old
+        ++ (header_text (record header { kind = 2; size = 38; log_pos = pos_as form at result; flags = 8 }) ++ begin_body) }
+    ensures behind { drop result bytes.new ≡ drop result bytes.old }
+    ensures len { length bytes.new ≡ length bytes.old }
+{
+    let end = to + BEGIN_SIZE;
+    let moved = Header {
+        kind: QUERY_EVENT,
+        size: BEGIN_SIZE,
+        log_pos: form.log_pos(at, end),
+        flags: SUPPRESS_USE,
+        ..header
+    };
+    put_event(bytes, to as usize, moved, &begin_body());
+    end
+}
+
+/// Puts what the event at `at`, whose header this is, becomes at `to`, without its sum. Returns where that ends.
 pub(crate) fn put_kept(
     bytes: &mut [u8],
     at: u32,
@@ -155,16 +171,17 @@ pub(crate) fn put_kept(
     requires least { 19 ≤ header.size }
     requires room { sums ≡ true → 23 ≤ header.size }
     requires within { at + header.size ≤ length bytes.old }
-    ensures front { take result bytes.new ≡ take to bytes.old ++ event_text (moved form sums to at header bytes.old) }
+    ensures front { take result bytes.new ≡ take to bytes.old ++ flat_map event_text (moved form sums to at header bytes.old) }
     ensures behind { drop (at + header.size) bytes.new ≡ drop (at + header.size) bytes.old }
     ensures len { length bytes.new ≡ length bytes.old }
-    ensures end { result ≡ to + event_size (moved form sums to at header bytes.old) }
+    ensures end { result ≡ end_of to (moved form sums to at header bytes.old) }
     ensures before { result ≤ at + header.size }
 {
     let body_len = bare_len(header.size, sums);
-    if is_tagged(header.kind, HEADER_LEN as u32 + body_len) {
-        put_gtid(bytes, at, to, header, body_len, form)
-    } else {
-        put_same(bytes, at, to, header, body_len, form)
+    match what_becomes(bytes, at, header.kind, body_len) {
+        Becoming::Gtid => put_gtid(bytes, at, to, header, body_len, form),
+        Becoming::Begin => put_begin(bytes, at, to, header, form),
+        Becoming::Nothing => to,
+        Becoming::Itself => put_same(bytes, at, to, header, body_len, form),
     }
 }

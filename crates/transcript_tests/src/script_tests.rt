@@ -112,6 +112,7 @@ fn files_are_written_and_compared(rt: HostRuntime) -> Result<(), Fail> {
 file first abc
 file second @first ^1 2=33 ..2
 text third ab c
+text eighth \\x61b\\x63
 link fourth third
 folder below
 file below/fifth own 1=255
@@ -121,6 +122,7 @@ same first abc
 differ first abc ..2
 same second abc 1=99 ..2
 same fourth @third
+same eighth abc
 none sixth
 $ a
 >* sixth

@@ -38,7 +38,7 @@ fn put_word(rt: &HostRuntime, log: &mut Vec<u8>, word: &str) -> Result<(), Wrong
 }
 
 /// The bytes of a text, in which `\xHH` is the byte of these two digits.
-fn bytes_of(rt: &HostRuntime, text: &str) -> Result<Vec<u8>, Wrong> {
+pub(crate) fn bytes_of(rt: &HostRuntime, text: &str) -> Result<Vec<u8>, Wrong> {
     let mut parts = text.split("\\x");
     let first = parts.next().unwrap_or("");
     let mut bytes = first.as_bytes().to_vec(rt.alloc())?;

@@ -1,6 +1,6 @@
 //! A folder for a script's files, and the lines of the script.
 
-use crate::parts::log_of;
+use crate::parts::{bytes_of, log_of};
 use crate::runs::{Output, Program, Run};
 use crate::words::{change, words_of};
 use crate::wrong::Wrong;
@@ -84,7 +84,7 @@ impl<P: Program> Stage<'_, P> {
                 let log = log_of(self.rt, &words_of(self.rt, more)?)?;
                 fs::write(self.rt, path.as_str(), log.as_slice())?;
             }
-            "text" => fs::write(self.rt, path.as_str(), more.as_bytes())?,
+            "text" => fs::write(self.rt, path.as_str(), bytes_of(self.rt, more)?.as_slice())?,
             "link" => fs::hard_link(self.rt, self.path_of(more)?.as_str(), path.as_str())?,
             "folder" => fs::create_dir(self.rt, path.as_str())?,
             "remove" => fs::remove_file(self.rt, path.as_str())?,

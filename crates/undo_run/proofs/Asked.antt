@@ -1,5 +1,5 @@
 -- Asking of values in turn whether a test holds of them.
-use Rattle.std.proofs.Common.{◌≡◌, ℕ, zero, suc, arith, ◌+◌, ◌<◌, Bool, true, false, refl, ◌&&◌, List, [], ◌∷◌, ◌++◌, length, map, take, Option, Some, get_or, sym, ap, ap₂, ◌∙◌}
+use Rattle.std.proofs.Common.{◌≡◌, ℕ, zero, suc, arith, ◌+◌, ◌<◌, Bool, true, false, refl, ◌&&◌, List, [], ◌∷◌, length, map, take, Some, get_or, sym, ap, ap₂, ◌∙◌}
 use Rattle.std.specs.Prelude.{is_some, option_map, slice_get}
 use Rattle.std.specs.List.{list_all}
 use Rattle.std.proofs.lemmas.Bool.{false≢true}

@@ -1,9 +1,8 @@
 -- What comes of looking at what came later, by what was seen of all of it.
-use Rattle.std.proofs.Common.{◌≡◌, ◌⊎◌, ℕ, ◌+◌, ◌<◌, true, false, length, List, [], ◌∷◌, ◌++◌, map, Option, Some, Result, Ok, Err, sym, ap, subst, ◌∙◌}
+use Rattle.std.proofs.Common.{◌≡◌, ◌⊎◌, ℕ, ◌+◌, ◌<◌, true, false, length, List, [], ◌∷◌, map, Option, Some, Result, Ok, Err, sym, ap, subst, ◌∙◌}
 use Rattle.std.specs.Prelude.{IfOk, slice_get}
 use Rattle.blog_choice.specs.Choice.{Choice}
 use Rattle.blog_device.specs.declared.fault.RunFault.TheVariants as run
-use Rattle.blog_flash.specs.States.{State, apply_all}
 use Rattle.blog_later.proofs.Among.{prints-among-suffice}
 use Rattle.blog_later.specs.Among.{Step, marked_in, touches_among}
 use Rattle.blog_later.specs.Prints.{Left}
@@ -12,7 +11,7 @@ use Rattle.blog_undo.proofs.TakingBack.{takes-back}
 use Rattle.list_run.specs.Listed.{NamedLog}
 use Rattle.list_run.specs.declared.given.GivenLog.{GivenLog}
 use Rattle.undo_run.specs.After.{AreSafe, Later, is_damaged, places_apart, touches, unknown_units}
-use Rattle.undo_run.specs.Taken.{IsSafe, Taken, after, since_told, steps_after, tables_taken, whole_log}
+use Rattle.undo_run.specs.Taken.{Taken, after, since_told, steps_after, tables_taken, whole_log}
 use Rattle.undo_run.specs.code.SinceView.{AreSeen, since_seen}
 use Rattle.undo_run.specs.code.Steps.{CountsOn, Judges, LooksAt, LooksOn}
 use Rattle.undo_run.specs.declared.fault.PartFault.{PartFault}

@@ -1,8 +1,8 @@
 -- Chosen units, whose groups are gathered one after the other.
-use Rattle.std.proofs.Common.{◌≡◌, ◌⊎◌, ◌<◌, ℕ, Bool, true, false, ◌&&◌, List, [], ◌∷◌, ◌++◌, length, map, Option, Some, None, Result, Ok, Err, refl, sym, ap, ap₂, subst, ◌∙◌, inl, inr, append_assoc, append-nil}
-use Rattle.std.specs.Prelude.{filter, is_some, not, ⊤}
+use Rattle.std.proofs.Common.{◌≡◌, ◌<◌, ℕ, Bool, true, false, ◌&&◌, List, [], ◌∷◌, ◌++◌, length, map, Option, Some, None, Ok, Err, refl, sym, ap, ap₂, subst, ◌∙◌, inl, inr, append_assoc, append-nil}
+use Rattle.std.specs.Prelude.{is_some, not, ⊤}
 use Rattle.std.specs.List.{AllByRecursion}
-use Rattle.std.proofs.lemmas.Bool.{cond-false, cond-true, false≢true}
+use Rattle.std.proofs.lemmas.Bool.{cond-false, cond-true}
 use Rattle.std.proofs.lemmas.List.{map-append}
 use Rattle.std.proofs.lemmas.List.Elements.{filter-append}
 use Rattle.blog_device.specs.declared.fault.RunFault.TheVariants as run
@@ -13,16 +13,14 @@ use Rattle.blog_gathered.specs.declared.fault.GatherFault.TheVariants as gather
 use Rattle.blog_gathered.specs.declared.gathered.Gathered.{Gathered}
 use Rattle.blog_later.specs.Among.{chosen_of}
 use Rattle.blog_later.specs.Later.{leaves_alone}
-use Rattle.blog_later.specs.code.LeavingView.{HasLeft}
-use Rattle.blog_request.specs.Wanted.{is_before}
 use Rattle.blog_request.specs.declared.wanted.Wanted.{Wanted}
 use Rattle.blog_sum.specs.declared.fault.SumFault.{SumFault}
-use Rattle.blog_trans.specs.Acceptance.{IsAccepted, IsRefusal, fault}
-use Rattle.blog_trans.specs.Changes.{Change, changes}
+use Rattle.blog_trans.specs.Acceptance.{IsRefusal, fault}
+use Rattle.blog_trans.specs.Changes.{changes}
 use Rattle.blog_trans.specs.Selection.{Selection, all}
 use Rattle.blog_units.specs.Units.{Facts, range_of_unit}
-use Rattle.undo_run.specs.Units.{AreAccepted, IsFirstRefused, IsUnitAccepted, RefusesChosen, chosen_range, chosen_units, is_chosen, is_left_out, is_meant, kept_log, tables_in, units_of_part}
-use Rattle.undo_run.specs.code.Steps.{Adds, Chooses, Gathers, HandsGroups, HasChosen, IsKept, RefusesFor, chosen_changes}
+use Rattle.undo_run.specs.Units.{AreAccepted, IsFirstRefused, IsUnitAccepted, chosen_range, chosen_units, is_chosen, is_left_out, is_meant, kept_log, tables_in, units_of_part}
+use Rattle.undo_run.specs.code.Steps.{Adds, Chooses, Gathers, HandsGroups, HasChosen, IsKept, chosen_changes}
 use Rattle.undo_run.specs.declared.chosen.Chosen.{Chosen}
 use Rattle.undo_run.specs.declared.fault.PartFault.{PartFault}
 use Rattle.undo_run.specs.declared.fault.PartFault.TheVariants.{Run, Sums, NoEventAt, NoUnitAt, NoUnitWithGtid, Log, NothingSelected, LaterLog, ChangedSince, UnknownSince, TooLong, NoSchema}
@@ -100,18 +98,6 @@ accepted-more sel handed [] u are is = (is, tt)
 accepted-more sel handed (v ∷ us) u (first, are) is = (first, accepted-more sel handed us u are is)
 
 -- ---- on the way through the units
-
-first-of : (x y : Bool) → (x && y) ≡ true → x ≡ true
-first-of true y e = refl
-first-of false y e = e
-
-second-of : (x y : Bool) → (x && y) ≡ true → y ≡ true
-second-of true y e = e
-second-of false y e = absurd (false≢true e)
-
--- one that is asked for begins before the stop
-pub meant-before : (w : Wanted) (at handed : List ℕ) (u : Facts) → is_meant w at handed u ≡ true → is_before u.start w.stop ≡ true
-meant-before w at handed u is = second-of _ _ (first-of _ _ (first-of _ _ (first-of _ _ (first-of _ _ (first-of _ _ is)))))
 
 pub record AreChosen {A : Type 0} (looks : Bool) (p : Facts → Bool) (sel : Selection) (handed : List ℕ) (chosen : Chosen A) (marks : List Bool) (left : List Facts) : Type 0 where
   pub done : List Facts

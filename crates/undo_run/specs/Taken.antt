@@ -1,5 +1,5 @@
 -- What is taken out of a log to be written, what came after it, and what comes of writing it.
-use Rattle.std.specs.Prelude.{◌≡◌, ◌⊎◌, ℕ, ◌<◌, ◌&&◌, nat_lt, Bool, true, false, if◌then◌else◌, List, [], ◌∷◌, ◌++◌, length, map, filter, slice_get, ⊤, Option, Some, None, Vec, Result, Ok, Err}
+use Rattle.std.specs.Prelude.{◌≡◌, ◌⊎◌, ℕ, ◌<◌, nat_lt, Bool, true, false, if◌then◌else◌, List, [], ◌∷◌, ◌++◌, length, map, filter, slice_get, ⊤, Option, Some, None, Vec, Result, Ok, Err}
 use Rattle.std.specs.Io.KnownBytes.{Appends, Keeps}
 use Rattle.blog_choice.specs.Choice.{Choice, Name}
 use Rattle.blog_device.specs.Devices.{AppendsBeginning, PassesLimit, ReadsLog, greatest_length}

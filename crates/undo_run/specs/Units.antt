@@ -3,7 +3,7 @@ use Rattle.std.specs.Prelude.{◌≡◌, ◌⊎◌, ℕ, ◌<◌, ◌==◌, Bool
 use Rattle.std.specs.List.{AllByRecursion, list_all, list_any}
 use Rattle.std.specs.Option.{option_map_or}
 use Rattle.blog_event.specs.declared.fault.Fault.{Fault}
-use Rattle.blog_event.specs.Fault.{name_of, position_of as fault_position}
+use Rattle.blog_event.specs.Fault.{name_of}
 use Rattle.blog_gathered.specs.Gathered.{Range, gathered_text}
 use Rattle.blog_later.specs.Among.{Step, Selected, Other, chosen_of, from_first, others_of}
 use Rattle.blog_later.specs.Later.{later_units, leaves_alone, unit_changes}
@@ -14,7 +14,7 @@ use Rattle.blog_request.specs.Ids.{Ids, has_id}
 use Rattle.blog_request.specs.Wanted.{is_before, is_in_range}
 use Rattle.blog_request.specs.code.IdsView.{ids_value}
 use Rattle.blog_request.specs.declared.wanted.Wanted.{Wanted}
-use Rattle.blog_source.specs.Places.{place_of, position_of}
+use Rattle.blog_source.specs.Places.{position_of}
 use Rattle.blog_sum.specs.declared.fault.SumFault.{SumFault}
 use Rattle.blog_trans.specs.Acceptance.{IsAccepted, IsRefusal, fault}
 use Rattle.blog_trans.specs.Changes.{changes, counts_of}
@@ -49,11 +49,12 @@ is_of_places at handed u = is_nil at || list_any (is_at handed u) at
 abbrev pub is_meant : Wanted → List ℕ → List ℕ → Facts → Bool
 is_meant w at handed u = is_in_range w u && is_of_places at handed u
 
--- the tables of a selection, as a choice
+-- the table of a name, if there is one, in any schema
 abbrev pub tables_of_name : Option (List ℕ) → List Name
 tables_of_name None = []
 tables_of_name (Some name) = record { schema = None; table = name } ∷ []
 
+-- the tables of a selection, as a choice
 abbrev pub tables_in : Selection → Choice
 tables_in sel = record { database = sel.database; tables = tables_of_name sel.table; excluded = [] }
 

@@ -1,5 +1,5 @@
 -- What comes of reading a log, and writing a part of it, or units of that.
-use Rattle.std.specs.Prelude.{◌≡◌, ◌⊎◌, ℕ, ◌||◌, Bool, true, false, if◌then◌else◌, List, Option, Some, None, is_some, Vec, Result, Ok, Err}
+use Rattle.std.specs.Prelude.{◌≡◌, ◌⊎◌, ℕ, Bool, true, false, List, Option, Some, None, Vec, Result, Err}
 use Rattle.std.specs.Io.KnownBytes.{Keeps}
 use Rattle.blog_device.specs.Devices.{PassesLimit, ReadsLog, greatest_length}
 use Rattle.blog_device.specs.declared.fault.RunFault.TheVariants as run
@@ -7,7 +7,6 @@ use Rattle.blog_event.specs.declared.fault.Fault.TheVariants.{OutOfMemory, TooLo
 use Rattle.blog_run.specs.declared.writing.Writing.{Writing}
 use Rattle.blog_source.specs.Found.{found_of, source_refusal}
 use Rattle.blog_source.specs.Handed.{handed_log}
-use Rattle.blog_source.specs.declared.reading.Reading.{Reading}
 use Rattle.blog_sum.specs.declared.fault.SumFault.{SumFault}
 use Rattle.blog_trans.specs.Selection.{Selection}
 use Rattle.list_run.specs.declared.given.GivenLog.{GivenLog}

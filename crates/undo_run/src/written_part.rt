@@ -46,7 +46,8 @@ use std::io::{Read, Write};
 /// of the log; one up to 4 is the first event.
 ///
 /// Without `asked` all of the part is written. With it units are made of the events from the start on, and those are written that
-/// start before the stop, and are asked for. Each is accepted by itself, up to the stop, and the others stay as they are.
+/// start before the stop, and are asked for; but if the part has a database or a table, a statement that names none of its tables is
+/// passed over, as `list` does it. Each is accepted by itself, up to the stop, and the others stay as they are.
 ///
 /// `looks` says whether what came after is looked at: the units after the stop, or from the first chosen one on those that aren't chosen, to
 /// the end of the log; and then the later logs, each of which is read when its turn comes, to its end. It fails with `ChangedSince` if these

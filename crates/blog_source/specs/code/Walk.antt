@@ -1,5 +1,5 @@
 -- Going through the events of a log in place: what is left to be found, and what has been handed out.
-use Rattle.std.specs.Prelude.{◌≡◌, ℕ, ◌+◌, ◌-◌, ◌≤◌, if◌then◌else◌, Bool, true, false, List, [], length, map, take, drop, Option, Some, None}
+use Rattle.std.specs.Prelude.{◌≡◌, ℕ, ◌+◌, ◌-◌, ◌≤◌, Bool, true, false, List, [], length, map, take, drop, Option, Some, None}
 use Rattle.std.specs.List.{flat_map}
 use Rattle.std.specs.Option.{option_map_or}
 use Rattle.blog_event.specs.declared.event.Header.{Header}
@@ -9,15 +9,15 @@ use Rattle.blog_event.specs.File.{Placed, placed_from, events_from}
 use Rattle.blog_sum.specs.declared.fault.SumFault.{SumFault}
 use Rattle.blog_sum.specs.declared.fault.SumFault.TheVariants.{Log}
 use Rattle.blog_sum.specs.Plain.{ended_from}
-use Rattle.blog_gtid.specs.Tagged.{gtid_body_of}
 use Rattle.blog_source.specs.declared.form.Form.{Form}
 use Rattle.blog_source.specs.declared.form.Form.TheVariants.{Places, Plain}
 use Rattle.blog_source.specs.declared.reading.Reading.{Reading}
 use Rattle.blog_source.specs.declared.walk.Step.{Step}
 use Rattle.blog_source.specs.declared.walk.Step.TheVariants.{Keep, PassOver, Refuse}
 use Rattle.blog_source.specs.Found.{Found, check_of, found, found_with, is_wrong_sum}
-use Rattle.blog_source.specs.Handed.{bare, handed, is_tagged}
-use Rattle.blog_source.specs.Plain.{untagged}
+use Rattle.blog_source.specs.Becoming.{becomes_with}
+use Rattle.blog_source.specs.Handed.{bare, handed}
+use Rattle.blog_source.specs.Plain.{plainly}
 
 -- the events that follow each other from a position on, where these bytes are left of a log
 abbrev pub left : Option ℕ → ℕ → ℕ → List ℕ → List Placed
@@ -41,14 +41,14 @@ abbrev pub pos_as : Form → ℕ → ℕ → ℕ
 pos_as Places at end = at
 pos_as Plain at end = end
 
--- what an event becomes
-abbrev pub formed : Form → Event → Event
-formed form e = if is_tagged e then record e { kind = 33; body = cut_as form (gtid_body_of e.body) } else e
+-- what an event becomes in a form
+abbrev pub formed : Form → Event → List Event
+formed form e = becomes_with (cut_as form) e
 
 -- what is put for events, from a position on
 abbrev pub put_from : Form → Bool → ℕ → List Placed → List Event
 put_from Places sums pos ps = flat_map (handed sums) ps
-put_from Plain sums pos ps = ended_from pos (map {A = Placed} (λ p. untagged (bare sums p.event)) ps)
+put_from Plain sums pos ps = ended_from pos (flat_map (λ (p : Placed). plainly (bare sums p.event)) ps)
 
 -- its text
 abbrev pub put_text : Form → Bool → ℕ → List Placed → List ℕ
@@ -78,10 +78,13 @@ moved_bare sums at h bytes = record {
   body = take (moved_size sums h.size - 19) (drop (at + 19) bytes);
 }
 
+-- events that were one at a position, put at another: none, or one
+abbrev pub put_as : Form → ℕ → ℕ → List Event → List Event
+put_as form at to es = map {A = Event} (λ e. record e { log_pos = pos_as form at (to + event_size e) }) es
+
 -- what is put for it at another position
-abbrev pub moved : Form → Bool → ℕ → ℕ → Header → List ℕ → Event
-moved form sums to at h bytes =
-    let e = formed form (moved_bare sums at h bytes) in record e { log_pos = pos_as form at (to + event_size e) }
+abbrev pub moved : Form → Bool → ℕ → ℕ → Header → List ℕ → List Event
+moved form sums to at h bytes = put_as form at to (formed form (moved_bare sums at h bytes))
 
 -- an event at a position passes its check; this is its header
 pub record IsKept (how : Reading) (sums : Bool) (bytes : List ℕ) (at : ℕ) (h : Header) : Type 0 where

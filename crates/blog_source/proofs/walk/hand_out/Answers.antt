@@ -1,7 +1,9 @@
 -- Each event that is kept is handed out; the reading ends where none is left.
 use Rattle.std.proofs.Common.{◌≡◌, ◌+◌, ◌≤◌, ◌++◌, ◌∙◌, take, drop, sym, subst, ap, arith, inl, inr}
 use Rattle.blog_event.specs.declared.event.Header.{Header}
-use Rattle.blog_event.specs.Event.{event_size, event_text}
+use Rattle.std.specs.List.{flat_map}
+use Rattle.blog_event.specs.Event.{event_text}
+use Rattle.blog_event.specs.File.{end_of}
 use Rattle.blog_source.specs.Found.{Found}
 use Rattle.blog_source.specs.code.Walk.{moved}
 use Rattle.blog_source.proofs.Left.{found-whole}
@@ -39,8 +41,8 @@ events-preserved c =
     let next = c.put_kept-to-in-PassOver.result in
     let is = c.damaged_header.ensures in
     let behind : drop (at + header.size) new ≡ drop (at + header.size) bytes = subst (λ (h : Header). drop (at + h.size) new ≡ drop (at + h.size) bytes) is put.behind in
-    let front = subst (λ (h : Header). take next new ≡ take to bytes ++ event_text (moved c.args.form c.args.sums to at h bytes)) is put.front in
-    let end = subst (λ (h : Header). next ≡ to + event_size (moved c.args.form c.args.sums to at h bytes)) is put.end in
+    let front = subst (λ (h : Header). take next new ≡ take to bytes ++ flat_map event_text (moved c.args.form c.args.sums to at h bytes)) is put.front in
+    let end = subst (λ (h : Header). next ≡ end_of to (moved c.args.form c.args.sums to at h bytes)) is put.end in
     let before : next ≤ at + header.size = subst (λ (h : Header). next ≤ at + h.size) is put.before in
     let same = passed-found c.args.how c.args.sums bytes new at header passed put.len behind in
     let counted = ap (λ (f : Found). f.damaged) same in record {

@@ -1,14 +1,12 @@
-use Rattle.std.proofs.Common.{◌≡◌, ℕ, List, ap, subst, sym, refl, ◌∙◌}
+use Rattle.std.proofs.Common.{ℕ, List, ap, subst, sym, ◌∙◌}
 use Rattle.std.specs.Prelude.{Ok, Option, is_some}
 use Rattle.blog_event.specs.code.LogView.{log_bytes}
-use Rattle.blog_gathered.specs.code.GatheredView.{range_of}
 use Rattle.blog_later.specs.Among.{chosen_of}
 use Rattle.blog_later.specs.Later.{later_units}
 use Rattle.blog_source.specs.code.SourceView.{end_of, log_of}
 use Rattle.blog_trans.specs.Selection.{selection_of}
 use Rattle.blog_trans.specs.declared.groups.Index.{Index}
 use Rattle.blog_units.specs.code.UnitsView.{facts_told, units_left, units_log}
-use Rattle.undo_run.specs.Units.{chosen_range}
 use Rattle.undo_run.specs.code.Steps.{HandsGroups, chosen_by}
 use Rattle.undo_run.proofs.Kept.{chosen-more, chosen-none, chosen-other, damaged-after, not-added, not-handed}
 use Rattle.undo_run.proofs.chosen.choose_among.Goals as goal

@@ -1,5 +1,4 @@
 use Rattle.std.proofs.Common.{◌≡◌}
-use Rattle.blog_event.specs.code.LogView.{log_bytes}
 use Rattle.blog_source.specs.code.SourceView.{log_of}
 use Rattle.blog_trans.specs.Selection.{selection_of}
 use Rattle.blog_units.specs.code.UnitsView.{units_left, units_log}

@@ -1,8 +1,8 @@
-use Rattle.std.proofs.Common.{◌≡◌, Option, Some, None, [], subst, ap, sym, ◌∙◌}
+use Rattle.std.proofs.Common.{Option, Some, [], subst, ap, sym, ◌∙◌}
 use Rattle.blog_gathered.specs.code.GatheredView.{IsGathered, range_of}
 use Rattle.blog_gathered.specs.declared.gathered.Gathered.{Gathered}
 use Rattle.undo_run.specs.code.Steps.{IsKept}
-use Rattle.undo_run.proofs.Kept.{IsReady, gathers-more, gathers-too-long, ready-first, ready-more}
+use Rattle.undo_run.proofs.Kept.{IsReady, gathers-more, ready-first, ready-more}
 use Rattle.undo_run.proofs.chosen.gather.Goals.{in-Some, in-None+in_ok-all-in-None}
 use Rattle.undo_run.proofs.chosen.gather.Goals as goal
 

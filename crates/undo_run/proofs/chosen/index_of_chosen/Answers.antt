@@ -1,5 +1,4 @@
-use Rattle.std.proofs.Common.{◌≡◌, ℕ, List, Option, Some, refl, ap, subst, sym, ◌∙◌, inl, inr}
-use Rattle.blog_event.specs.declared.fault.Fault.{Fault}
+use Rattle.std.proofs.Common.{ℕ, List, Option, Some, refl, ap, subst, sym, ◌∙◌, inr}
 use Rattle.blog_gathered.specs.declared.gathered.Gathered.{Gathered}
 use Rattle.blog_source.specs.code.SourceView.{log_of}
 use Rattle.blog_trans.specs.Acceptance.{IsAccepted, IsRefusal, fault}

@@ -1,4 +1,4 @@
-use Rattle.std.proofs.Common.{◌≡◌, ℕ, ◌+◌, ◌≤◌, List, [], ◌∷◌, map, length, None, ap, subst, sym, ◌∙◌, arith}
+use Rattle.std.proofs.Common.{◌≡◌, ◌+◌, List, [], map, None, ap, ◌∙◌, arith}
 use Rattle.blog_choice.specs.Choice.{Choice, Name}
 use Rattle.blog_choice.specs.code.ChosenView.{names_choice}
 use Rattle.blog_choice.specs.code.Views.{name_value}

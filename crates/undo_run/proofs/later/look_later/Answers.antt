@@ -1,4 +1,4 @@
-use Rattle.std.proofs.Common.{◌≡◌, ℕ, ◌+◌, List, [], ◌∷◌, map, None, ap, subst, sym, ◌∙◌}
+use Rattle.std.proofs.Common.{◌≡◌, ℕ, ◌+◌, List, [], ◌∷◌, map, None, ap, subst, ◌∙◌}
 use Rattle.blog_choice.specs.Choice.{Choice, Name}
 use Rattle.blog_choice.specs.code.ChosenView.{names_choice}
 use Rattle.blog_choice.specs.code.Views.{name_value}
@@ -9,7 +9,7 @@ use Rattle.blog_source.specs.code.SourceView.{end_of, fault_of, log_of}
 use Rattle.blog_trans.specs.Changes.{changes, counts_of}
 use Rattle.blog_trans.specs.Groups.{groups}
 use Rattle.blog_trans.specs.Selection.{selection_of}
-use Rattle.undo_run.specs.Parts.{part_taken, rest_of, selection_in, stop_in}
+use Rattle.undo_run.specs.Parts.{part_taken, selection_in, stop_in}
 use Rattle.undo_run.specs.Taken.{tables_named, tables_taken}
 use Rattle.undo_run.specs.code.SinceView.{AreSeen}
 use Rattle.undo_run.proofs.Counted.{part-counts}

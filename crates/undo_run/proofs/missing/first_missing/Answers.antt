@@ -1,4 +1,4 @@
-use Rattle.std.proofs.Common.{◌≡◌, sym, ◌∙◌}
+use Rattle.std.proofs.Common.{sym, ◌∙◌}
 use Rattle.blog_event.specs.code.LogView.{log_bytes}
 use Rattle.blog_request.specs.Ids.{Ids}
 use Rattle.blog_request.specs.code.IdsView.{ids_value}

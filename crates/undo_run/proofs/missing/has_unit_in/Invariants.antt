@@ -1,4 +1,4 @@
-use Rattle.std.proofs.Common.{◌≡◌, ◌&&◌, Bool}
+use Rattle.std.proofs.Common.{◌≡◌, ◌&&◌}
 use Rattle.std.specs.List.{list_any}
 use Rattle.blog_event.specs.code.LogView.{log_bytes}
 use Rattle.blog_request.specs.Wanted.{is_before}

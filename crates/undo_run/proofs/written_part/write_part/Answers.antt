@@ -1,4 +1,4 @@
-use Rattle.std.proofs.Common.{◌≡◌, ℕ, Option, Ok, false, subst, sym}
+use Rattle.std.proofs.Common.{ℕ, Option, Ok, false, subst, sym}
 use Rattle.std.proofs.KnownBytes.{Keeps-refl}
 use Rattle.blog_device.specs.Watched.{device_of}
 use Rattle.undo_run.specs.declared.request.UnitRequest.{UnitRequest}

@@ -1,5 +1,5 @@
 use Rattle.std.proofs.Common.{◌++◌, ◌∷◌, []}
-use Rattle.undo_run.proofs.Kept.{list-more, not-gathered}
+use Rattle.undo_run.proofs.Kept.{not-gathered}
 use Rattle.undo_run.proofs.chosen.Chosen.with.Goals as goal
 
 pub returns-in-Err : goal.returns-in-Err
