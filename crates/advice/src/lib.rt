@@ -115,7 +115,9 @@ pub fn of_sums(fault: &SumFault) -> &'static str {
         SumFault::UnknownAlgorithm { .. } =>
             "the log has checksums that aren't CRC32: use the server's own tools",
         SumFault::WrongSum { .. } =>
-            "the event isn't what the server wrote, or is encrypted: copy the log from the server again",
+            "the event isn't what the server wrote: copy the log from the server again",
+        SumFault::Encrypted { .. } =>
+            "the log is encrypted: copy it by mariadb-binlog --read-from-remote-server --raw",
     }
 }
 
@@ -123,6 +125,8 @@ pub fn of_sums(fault: &SumFault) -> &'static str {
 pub fn of_reading(fault: &SumFault) -> &'static str {
     match fault {
         SumFault::Log(fault) => of_end(fault),
-        SumFault::UnknownAlgorithm { .. } | SumFault::WrongSum { .. } => of_sums(fault),
+        SumFault::UnknownAlgorithm { .. }
+        | SumFault::WrongSum { .. }
+        | SumFault::Encrypted { .. } => of_sums(fault),
     }
 }

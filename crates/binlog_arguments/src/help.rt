@@ -2,8 +2,8 @@
 
 /// What the program is for.
 pub const ABOUT: &str = "\
-Lists what can be undone of a MySQL binary log, and prints SQL that undoes it. Prepares logs for
-flashback, cuts large statements, and prints logs as SQL.";
+Lists what can be undone of a binary log of MySQL or MariaDB, and prints SQL that undoes it. Prepares
+logs for flashback, cuts large statements, and prints logs as SQL.";
 
 /// How it is called.
 pub const USAGE: &str = "\

@@ -8,9 +8,9 @@ use Rattle.blog_device.specs.Devices.{greatest_length, PassesLimit, ReadsLog, Ap
 use Rattle.blog_device.specs.declared.fault.RunFault.{RunFault}
 use Rattle.blog_device.specs.declared.fault.RunFault.TheVariants.{Log, Read, Write}
 use Rattle.blog_sum.specs.declared.fault.SumFault.{SumFault}
-use Rattle.blog_sum.specs.Sums.{sum_fault}
 use Rattle.blog_source.specs.Laws.{whole_reading}
 use Rattle.blog_source.specs.Plain.{plain_log}
+use Rattle.blog_source.specs.Whole.{reading_fault}
 use Rattle.blog_source.specs.declared.reading.Reading.{Reading}
 use Rattle.blog_source.specs.Found.{found_of, source_refusal}
 use Rattle.blog_source.specs.Handed.{handed_log}
@@ -50,7 +50,7 @@ use Rattle.blog_trans.specs.Selection.{all, selection_of}
 
 -- this log was read, and it isn't whole: this is its first fault
 abbrev pub RefusesSums : Option (List ℕ) → Option (List ℕ) → SumFault → Type 0
-RefusesSums old new fault = (log : List ℕ) × ReadsLog old new log × (sum_fault log ≡ Some fault)
+RefusesSums old new fault = (log : List ℕ) × ReadsLog old new log × (reading_fault log ≡ Some fault)
 
 -- the log that a source hands out is refused, or memory was: this is the fault at its place
 abbrev pub RefusesHanded : List ℕ → ℕ → Fault → Type 0
@@ -70,8 +70,8 @@ IsWrittenOf w handed text = IsAccepted handed all × CanBeWritten w.sql w.order 
 
 -- what is made of a log, each of whose sums is right: the same without checksums, or what is written of its changes
 abbrev pub IsMadeOf : Making → List ℕ → List ℕ → Type 0
-IsMadeOf Plain log text = (sum_fault log ≡ None) × (text ≡ plain_log log)
-IsMadeOf (Changes w) log text = (sum_fault log ≡ None) × IsWrittenOf w (handed_log whole_reading log) text
+IsMadeOf Plain log text = (reading_fault log ≡ None) × (text ≡ plain_log log)
+IsMadeOf (Changes w) log text = (reading_fault log ≡ None) × IsWrittenOf w (handed_log whole_reading log) text
 
 -- why its changes aren't written
 abbrev pub RefusesWriting : Writing → List ℕ → ℕ → SplitFault → Type 0
@@ -81,17 +81,17 @@ RefusesWriting w handed end TooLongCut = WouldBeTooLong w handed
 -- why no new log is made of a log, each of whose sums is right
 abbrev pub RefusesNewLog : Making → List ℕ → SplitFault → Type 0
 RefusesNewLog Plain log fault = ⊥
-RefusesNewLog (Changes w) log fault = (sum_fault log ≡ None) × RefusesWriting w (handed_log whole_reading log) (found_of whole_reading log).end fault
+RefusesNewLog (Changes w) log fault = (reading_fault log ≡ None) × RefusesWriting w (handed_log whole_reading log) (found_of whole_reading log).end fault
 
 -- a log, each of whose sums is right, changes no table of a schema that is to have another name
 abbrev pub RefusesSchemas : Making → List ℕ → Type 0
 RefusesSchemas Plain log = ⊥
-RefusesSchemas (Changes w) log = (sum_fault log ≡ None) × ((n : ℕ) × LacksSchema w (handed_log whole_reading log) n)
+RefusesSchemas (Changes w) log = (reading_fault log ≡ None) × ((n : ℕ) × LacksSchema w (handed_log whole_reading log) n)
 
 -- what comes of reading a log and opening it as a source: a source that is whole; or that it can't be held, that a read failed,
 -- or that it isn't whole
 abbrev pub OpensWhole : {A : Type 0} → Option (List ℕ) → Option (List ℕ) → Result (Source A) (NewLogFault A) → Type 0
-OpensWhole old new (Ok source) = (log : List ℕ) × ReadsLog old new log × (sum_fault log ≡ None) × (log_of source ≡ handed_log whole_reading log) × (end_of source ≡ (found_of whole_reading log).end)
+OpensWhole old new (Ok source) = (log : List ℕ) × ReadsLog old new log × (reading_fault log ≡ None) × (log_of source ≡ handed_log whole_reading log) × (end_of source ≡ (found_of whole_reading log).end)
 OpensWhole old new (Err (Run (Log fault))) = (fault ≡ NoMemory) ⊎ ((fault ≡ TooLong 0) × PassesLimit greatest_length old new)
 OpensWhole old new (Err (Run Read)) = ⊤
 OpensWhole old new (Err (Run Write)) = ⊥

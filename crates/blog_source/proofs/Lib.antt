@@ -13,6 +13,7 @@ mod PlainLog
 mod Standing
 mod HandedPlaces
 mod Unmoved
+pub mod Checks
 pub mod WhatBecomes
 pub mod Ending
 pub mod Puts

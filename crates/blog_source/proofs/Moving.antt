@@ -1,18 +1,18 @@
 -- Moving an event to the front of the bytes in which it stands.
 use Rattle.std.proofs.Common.{◌≡◌, ℕ, ◌+◌, ◌-◌, ◌≤◌, Bool, List, ◌++◌, length, take, drop, true, false, Some, None, [], ◌∷◌, refl, sym, ap, ◌∙◌, arith, append_assoc}
 use Rattle.std.proofs.lemmas.List.{drop-drop, drop_at, length-append, length-drop, length-take-le, take-append-drop, take-append-le, take-take, take_at}
-use Rattle.std.specs.Prelude.{nat_le}
+use Rattle.std.specs.Prelude.{nat_le, not}
 use Rattle.std.specs.List.{flat_map}
 use Rattle.std.proofs.lemmas.List.Concat.{flat_map-append}
 use Rattle.std.proofs.lemmas.Bool.{leb-true}
 use Rattle.std.proofs.lemmas.Option.{none-some}
 use Rattle.blog_event.specs.declared.fault.Fault.TheVariants.{CutEvent}
 use Rattle.blog_sum.specs.declared.fault.SumFault.{SumFault}
-use Rattle.blog_sum.specs.declared.fault.SumFault.TheVariants.{Log, WrongSum}
+use Rattle.blog_sum.specs.declared.fault.SumFault.TheVariants.{Encrypted, Log, WrongSum}
 use Rattle.blog_sum.specs.Sums.{ends_in_its_sum, unless}
 use Rattle.blog_sum.proofs.Summed.{none-first}
 use Rattle.blog_event.specs.Fault.{first_failing}
-use Rattle.blog_source.specs.Found.{check_of, is_wrong_sum}
+use Rattle.blog_source.specs.Found.{begins_encryption, check_of, is_wrong_sum, sums_check}
 use Rattle.blog_event.specs.declared.event.Header.{Header}
 use Rattle.byteorder.specs.Endian.{little_number}
 use Rattle.blog_event.specs.Event.{Event, event_at, event_size, event_text}
@@ -229,6 +229,13 @@ unless-none : (test : Bool) (fault : SumFault) → unless test fault ≡ None �
 unless-none true fault none = refl
 unless-none false fault none = absurd (none-some fault (sym none))
 
+-- a wrong sum is found by the check of the sum
+wrong-first : (check : Option SumFault) (test : Bool) (pos : ℕ) (fault : SumFault) → first_failing (check ∷ unless test (Encrypted pos) ∷ []) ≡ Some fault
+    → is_wrong_sum (Some fault) ≡ true → check ≡ Some fault
+wrong-first (Some found) test pos fault first wrong = first
+wrong-first None true pos fault first wrong = absurd (none-some fault first)
+wrong-first None false pos fault first wrong = absurd (cc)
+
 -- so has one whose sum is wrong
 cut-isnt-wrong : (test other : Bool) (pos : ℕ) (fault : SumFault) → first_failing (unless test (Log (CutEvent pos)) ∷ unless other (WrongSum pos) ∷ []) ≡ Some fault
     → is_wrong_sum (Some fault) ≡ true → test ≡ true
@@ -237,11 +244,13 @@ cut-isnt-wrong false other pos fault first wrong = absurd (cc)
 
 pub wrong-has-room : (sums : Bool) (p : Placed) (fault : SumFault) → check_of sums p ≡ Some fault → is_wrong_sum (Some fault) ≡ true → sums ≡ true → 23 ≤ event_size p.event
 wrong-has-room true p fault fails wrong is =
-    leb-true 23 (event_size p.event) (cut-isnt-wrong (nat_le 23 (event_size p.event)) (ends_in_its_sum (event_text p.event)) p.pos fault fails wrong)
+    leb-true 23 (event_size p.event) (cut-isnt-wrong (nat_le 23 (event_size p.event)) (ends_in_its_sum (event_text p.event)) p.pos fault
+    (wrong-first (sums_check true p) (not (begins_encryption p.event)) p.pos fault fails wrong) wrong)
 wrong-has-room false p fault fails wrong is = absurd (cc)
 
 pub has-room : (sums : Bool) (p : Placed) → check_of sums p ≡ None → sums ≡ true → 23 ≤ event_size p.event
 has-room true p passes is =
-    let room = none-first (unless (nat_le 23 (event_size p.event)) (Log (CutEvent p.pos))) (unless (ends_in_its_sum (event_text p.event)) (WrongSum p.pos) ∷ []) passes in
+    let own = none-first (sums_check true p) (unless (not (begins_encryption p.event)) (Encrypted p.pos) ∷ []) passes in
+    let room = none-first (unless (nat_le 23 (event_size p.event)) (Log (CutEvent p.pos))) (unless (ends_in_its_sum (event_text p.event)) (WrongSum p.pos) ∷ []) own.0 in
     leb-true 23 (event_size p.event) (unless-none (nat_le 23 (event_size p.event)) (Log (CutEvent p.pos)) room.0)
 has-room false p passes is = absurd (cc)

@@ -13,8 +13,15 @@ use Rattle.blog_gtid.specs.Tagged.{gtid_body_of}
 use Rattle.blog_gtid.proofs.Lengths.{gtid_least}
 use Rattle.blog_sum.specs.Plain.{ended_from}
 use Rattle.blog_sum.specs.Sums.{algorithm_of, has_sums, sum_fault}
-use Rattle.blog_sum.proofs.Summed.{format-accepted, is-summed, no-fault, summed-algorithm}
-use Rattle.blog_source.specs.Found.{check_of, found, source_refusal}
+use Rattle.blog_sum.proofs.Summed.{format-accepted, no-fault, none-unless, summed-algorithm}
+use Rattle.blog_source.specs.Found.{begins_encryption, check_of, found, source_refusal}
+use Rattle.blog_source.specs.Whole.{NoneEncrypted, reading_fault}
+use Rattle.blog_source.specs.declared.becoming.Becoming.{Becoming}
+use Rattle.blog_source.specs.declared.becoming.Becoming.TheVariants.{Itself, Gtid, Begin, Nothing}
+use Rattle.blog_source.specs.Becoming.{become_as, becoming_of}
+use Rattle.blog_event.specs.declared.fault.Fault.TheVariants.{CutEvent}
+use Rattle.blog_sum.specs.declared.fault.SumFault.TheVariants.{Log}
+use borrow.Author.Tests.{eqb-true}
 use Rattle.blog_source.specs.Handed.{bare, handed_format}
 use Rattle.blog_source.specs.Laws.{IsEnded, StayThemselves, whole_reading}
 use Rattle.blog_source.specs.Plain.{plain_events, plain_log, plainly}
@@ -25,7 +32,8 @@ use Rattle.blog_source.proofs.HandedLog.{Fit, HasFormat, become-fit, end-past, f
 use Rattle.blog_source.proofs.LogText.{IsText, text-long, text-marked, text-opens, text-read, text-stands}
 use Rattle.blog_source.proofs.Moving.{has-room}
 use Rattle.blog_source.proofs.Plained.{none-with}
-use Rattle.blog_source.proofs.WholeReading.{found-is, whole_fault, whole_opens}
+use Rattle.blog_source.proofs.Checks.{passes-clear}
+use Rattle.blog_source.proofs.WholeReading.{found-is, reading-opens, end-only, reading_whole, whole_fault, whole_opens}
 
 -- ---- events that say where they end
 
@@ -106,6 +114,51 @@ plain-twice sums pos es =
     ap (ended_from pos) (stay-same (ended_from pos (flat_map (plain_of sums) es)) (ended-stay pos (flat_map (plain_of sums) es) (plain-stay sums es)))
     ∙ ended-twice pos (flat_map (plain_of sums) es)
 
+-- nothing is encrypted behind those that are read without a fault, nor behind what they become
+abbrev IsOpen : Event → Type 0
+IsOpen e = begins_encryption e ≡ false
+
+found-clear : (sums : Bool) (len at : ℕ) (es : List Event) → (found whole_reading sums len at (placed_from at es)).fault ≡ None → AllByRecursion IsOpen es
+found-clear sums len at [] none = tt
+found-clear sums len at (e ∷ es) none =
+    let p : Placed = record { pos = at; event = e } in
+    let first = none-with (check_of sums p) p (found whole_reading sums len (at + event_size e) (placed_from (at + event_size e) es)) none in
+    (passes-clear sums p first.0, found-clear sums len (at + event_size e) es first.1)
+
+bare-clear : (sums : Bool) (e : Event) → IsOpen e → IsOpen (bare sums e)
+bare-clear true e clear = clear
+bare-clear false e clear = clear
+
+one-clear : (e : Event) → IsOpen e → AllByRecursion IsOpen (plainly e)
+one-clear e clear = by_case (becoming_of e.kind e.body)
+  where
+    by_case : (r : Becoming) → AllByRecursion IsOpen (become_as (take 25) r e)
+    by_case Itself = (clear, tt)
+    by_case Gtid = (refl, tt)
+    by_case Begin = (refl, tt)
+    by_case Nothing = tt
+
+clear-append : (es more : List Event) → AllByRecursion IsOpen es → AllByRecursion IsOpen more → AllByRecursion IsOpen (es ++ more)
+clear-append [] more clear rest = rest
+clear-append (e ∷ es) more clear rest = (clear.0, clear-append es more clear.1 rest)
+
+plain-clear : (sums : Bool) (es : List Event) → AllByRecursion IsOpen es → AllByRecursion IsOpen (flat_map (plain_of sums) es)
+plain-clear sums [] clear = tt
+plain-clear sums (e ∷ es) clear =
+    clear-append (plain_of sums e) (flat_map (plain_of sums) es) (one-clear (bare sums e) (bare-clear sums e clear.0)) (plain-clear sums es clear.1)
+
+ended-clear : (pos : ℕ) (es : List Event) → AllByRecursion IsOpen es → AllByRecursion IsOpen (ended_from pos es)
+ended-clear pos [] clear = tt
+ended-clear pos (e ∷ es) clear = (clear.0, ended-clear (pos + event_size e) es clear.1)
+
+-- and those end where the log does
+found-ends : (sums : Bool) (len at : ℕ) (es : List Event) → (found whole_reading sums len at (placed_from at es)).fault ≡ None → end_of at es ≡ len
+found-ends sums len at [] none = eqb-true at len (none-unless (at == len) (Log (CutEvent at)) (sym (end-only (at == len) (Log (CutEvent at))) ∙ none))
+found-ends sums len at (e ∷ es) none =
+    let p : Placed = record { pos = at; event = e } in
+    let first = none-with (check_of sums p) p (found whole_reading sums len (at + event_size e) (placed_from (at + event_size e) es)) none in
+    found-ends sums len (at + event_size e) es first.1
+
 -- ---- the whole log
 
 -- what is known of it
@@ -116,12 +169,14 @@ record IsPlain (bytes : List ℕ) : Type 0 where
   later_is : later ≡ ended_from (4 + event_size log.format) (flat_map (plain_of (has_sums bytes)) (later_of bytes None log))
   are : plain_events (has_sums bytes) (read bytes None) ≡ handed_format (has_sums bytes) log.format ∷ later
   text : IsText (plain_log bytes) (handed_format (has_sums bytes) log.format) later
+  clear : AllByRecursion (λ e. begins_encryption e ≡ false) later
+  whole : end_of 4 (read bytes None) ≡ length bytes
   ends : length (plain_log bytes) ≤ length bytes
 
-is-plain : (bytes : List ℕ) → AreBytes bytes → sum_fault bytes ≡ None → IsPlain bytes
+is-plain : (bytes : List ℕ) → AreBytes bytes → reading_fault bytes ≡ None → IsPlain bytes
 unfolding plain_log
 is-plain bytes are fine =
-    let opened : source_refusal bytes ≡ None = whole_opens bytes fine in
+    let opened : source_refusal bytes ≡ None = (reading-opens bytes fine).0 in
     let log = is-accepted bytes opened in
     let reads = is-read bytes None log are in
     let short = log.short in
@@ -130,28 +185,28 @@ is-plain bytes are fine =
     let at : ℕ = 4 + event_size log.format in
     let es : List Event = later_of bytes None log in
     let format = has-format bytes log sums refl reads.events.0 in
-    let none = ap (λ f. f.fault) (sym (found-is whole_reading bytes log)) ∙ whole_fault bytes opened ∙ fine in
+    let none = ap (λ f. f.fault) (sym (found-is whole_reading bytes log)) ∙ (reading-opens bytes fine).1 in
     let fit = plain-fit sums (length bytes) at at es (omega arith) reads.events.1 (omega arith) none in
     let last : List Event = ended_from at (flat_map (plain_of sums) es) in
     let first : Event = handed_format sums log.format in
     let are : plain_events sums (read bytes None) ≡ first ∷ last = ap (plain_events sums) reads.is in
     let text : IsText (plain_log bytes) first last = record { is = ap file_text are; events = (format.event, fit.0) } in
     let ends : end_of (4 + event_size first) last ≤ length bytes = subst (λ (size : ℕ). end_of (4 + size) last ≤ length bytes) (sym format.size) (omega (arith, fit.1)) in
-    record { log = log; format = format; later = last; later_is = refl; are = are; text = text; ends = omega (arith, ends, text-long (plain_log bytes) first last text) }
+    record { log = log; format = format; later = last; later_is = refl; are = are; text = text; clear = ended-clear at (flat_map (plain_of sums) es) (plain-clear sums es (found-clear sums (length bytes) at es none)); whole = ap (end_of 4) reads.is ∙ found-ends sums (length bytes) at es none; ends = omega (arith, ends, text-long (plain_log bytes) first last text) }
 
 -- ---- the laws
 
-pub plain_no_longer : (bytes : List ℕ) → AreBytes bytes → sum_fault bytes ≡ None → length (plain_log bytes) ≤ length bytes
+pub plain_no_longer : (bytes : List ℕ) → AreBytes bytes → reading_fault bytes ≡ None → length (plain_log bytes) ≤ length bytes
 plain_no_longer bytes are fine = (is-plain bytes are fine).ends
 
-pub plain_opens : (bytes : List ℕ) → AreBytes bytes → sum_fault bytes ≡ None → opening_fault (plain_log bytes) ≡ None
+pub plain_opens : (bytes : List ℕ) → AreBytes bytes → reading_fault bytes ≡ None → opening_fault (plain_log bytes) ≡ None
 plain_opens bytes are fine =
     let is = is-plain bytes are fine in
     let short = is.log.short in
     let format : Event = handed_format (has_sums bytes) is.log.format in
     text-opens (plain_log bytes) format is.later is.text (omega (arith, is.ends)) (format-accepted format is.format.described is.format.none)
 
-pub plain_read_again : (bytes : List ℕ) → AreBytes bytes → sum_fault bytes ≡ None → read (plain_log bytes) None ≡ plain_events (has_sums bytes) (read bytes None)
+pub plain_read_again : (bytes : List ℕ) → AreBytes bytes → reading_fault bytes ≡ None → read (plain_log bytes) None ≡ plain_events (has_sums bytes) (read bytes None)
 plain_read_again bytes are fine =
     let is = is-plain bytes are fine in
     text-read (plain_log bytes) (handed_format (has_sums bytes) is.log.format) is.later is.text ∙ sym is.are
@@ -162,10 +217,10 @@ plain-none bytes is =
     let format : Event = handed_format (has_sums bytes) is.log.format in
     summed-algorithm (plain_log bytes) format (text-stands (plain_log bytes) format is.later is.text) ∙ is.format.none
 
-pub plain_unsummed : (bytes : List ℕ) → AreBytes bytes → sum_fault bytes ≡ None → has_sums (plain_log bytes) ≡ false
+pub plain_unsummed : (bytes : List ℕ) → AreBytes bytes → reading_fault bytes ≡ None → has_sums (plain_log bytes) ≡ false
 plain_unsummed bytes are fine = ap (λ (n : ℕ). n == 1) (plain-none bytes (is-plain bytes are fine))
 
-pub plain_fine : (bytes : List ℕ) → AreBytes bytes → sum_fault bytes ≡ None → sum_fault (plain_log bytes) ≡ None
+pub plain_fine : (bytes : List ℕ) → AreBytes bytes → reading_fault bytes ≡ None → sum_fault (plain_log bytes) ≡ None
 plain_fine bytes are fine =
     let is = is-plain bytes are fine in
     let text : List ℕ = plain_log bytes in
@@ -176,7 +231,17 @@ plain_fine bytes are fine =
     let whole : end_of 4 (read text None) ≡ length text = ap (end_of 4) (text-read text format is.later is.text) ∙ sym (text-long text format is.later is.text) in
     no-fault text front (plain-none bytes is) whole
 
-pub plain_same : (bytes : List ℕ) → AreBytes bytes → sum_fault bytes ≡ None → plain_log (plain_log bytes) ≡ plain_log bytes
+pub plain_read : (bytes : List ℕ) → AreBytes bytes → reading_fault bytes ≡ None → reading_fault (plain_log bytes) ≡ None
+plain_read bytes are fine =
+    let is = is-plain bytes are fine in
+    let text : List ℕ = plain_log bytes in
+    let format : Event = handed_format (has_sums bytes) is.log.format in
+    let fault = plain_fine bytes are fine in
+    let opened = whole_opens text fault in
+    let clear : NoneEncrypted (read text None) = subst NoneEncrypted (sym (text-read text format is.later is.text)) is.clear in
+    sym (reading_whole text opened) ∙ whole_fault text opened clear ∙ fault
+
+pub plain_same : (bytes : List ℕ) → AreBytes bytes → reading_fault bytes ≡ None → plain_log (plain_log bytes) ≡ plain_log bytes
 unfolding plain_log
 plain_same bytes are fine =
     let is = is-plain bytes are fine in
@@ -205,15 +270,15 @@ none-behind bytes es begins ends =
     no-more [] none = refl
     no-more (x ∷ rest) none = absurd (omega arith)
 
-pub plain_kept : (bytes : List ℕ) → AreBytes bytes → sum_fault bytes ≡ None → has_sums bytes ≡ false → StayThemselves (read bytes None)
+pub plain_kept : (bytes : List ℕ) → AreBytes bytes → reading_fault bytes ≡ None → has_sums bytes ≡ false → StayThemselves (read bytes None)
     → AllByRecursion IsEnded (drop 1 (placed_from 4 (read bytes None))) → plain_log bytes ≡ bytes
 unfolding plain_log
 plain_kept bytes are fine none plain ended =
-    let log = is-accepted bytes (whole_opens bytes fine) in
+    let log = is-accepted bytes (reading-opens bytes fine).0 in
     let reads = is-read bytes None log are in
     let at : ℕ = 4 + event_size log.format in
     let es : List Event = later_of bytes None log in
-    let whole : end_of 4 (log.format ∷ es) ≡ length bytes = ap (end_of 4) (sym reads.is) ∙ (is-summed bytes fine).whole in
+    let whole : end_of 4 (log.format ∷ es) ≡ length bytes = ap (end_of 4) (sym reads.is) ∙ (is-plain bytes are fine).whole in
     let same : ended_from at (flat_map (plain_of false) es) ≡ es = ap (ended_from at) (stay-same es (subst StayThemselves reads.is plain)) ∙ ended-same at es
     (subst (λ (es : List Event). AllByRecursion IsEnded (drop 1 (placed_from 4 es))) reads.is ended) in
     ap (λ (sums : Bool). file_text (plain_events sums (read bytes None))) none

@@ -6,7 +6,7 @@ use Rattle.blog_event.specs.Fault.{first_failing}
 use Rattle.blog_event.specs.File.{Placed, placed_from, is_below, read}
 use Rattle.blog_event.specs.Opening.{front_fault}
 use Rattle.blog_sum.specs.declared.fault.SumFault.{SumFault}
-use Rattle.blog_sum.specs.declared.fault.SumFault.TheVariants.{Log, UnknownAlgorithm, WrongSum}
+use Rattle.blog_sum.specs.declared.fault.SumFault.TheVariants.{Encrypted, Log, UnknownAlgorithm, WrongSum}
 use Rattle.blog_sum.specs.Sums.{unless, sum_check, not_in_use, algorithm_of, has_sums}
 use Rattle.blog_source.specs.declared.reading.Reading.{Reading}
 
@@ -28,10 +28,18 @@ source_refusal bytes = first_failing (
 
 -- ---- the events behind it
 
--- the check of an event: in a log with sums it has room for one, and ends in its own
+-- the check of its sum: in a log with sums it has room for one, and ends in its own
+abbrev pub sums_check : Bool → Placed → Option SumFault
+sums_check true p = sum_check p
+sums_check false p = None
+
+-- what is behind it is encrypted (MariaDB Knowledge Base, "START_ENCRYPTION_EVENT", type 164)
+abbrev pub begins_encryption : Event → Bool
+begins_encryption e = e.kind == 164
+
+-- the check of an event: the first of these that fails
 abbrev pub check_of : Bool → Placed → Option SumFault
-check_of true p = sum_check p
-check_of false p = None
+check_of sums p = first_failing (sums_check sums p ∷ unless (not (begins_encryption p.event)) (Encrypted p.pos) ∷ [])
 
 -- the sum is wrong
 abbrev pub is_wrong_sum : Option SumFault → Bool

@@ -5,4 +5,5 @@ pub mod Handed
 pub mod Plain
 pub mod Places
 pub mod Laws
+pub mod Whole
 pub mod code

@@ -12,6 +12,7 @@ ghost use Rattle.blog_source.specs.Found.{found_of, source_refusal};
 ghost use Rattle.blog_source.specs.Handed.{handed_events, handed_log};
 ghost use Rattle.blog_source.specs.Laws.{IsUnmoved, StayThemselves, StandsIn, handed_out, placed_of, whole_reading};
 ghost use Rattle.blog_source.specs.Places.{place_of, position_of};
+ghost use Rattle.blog_source.specs.Whole.{NoneEncrypted};
 
 /// The log that is handed out opens as a log, and is no longer than the server's log. The call does nothing.
 #[tactic(auto, using(crate::proofs::HandedLog::handed_opens, crate::proofs::HandedLog::handed_no_longer))]
@@ -27,11 +28,11 @@ pub fn handed_log_has_the_events()
         → read (handed_log how bytes) None ≡ handed_events how (has_sums bytes) (length bytes) (read bytes how.stop) }
 {}
 
-/// Reading a log to its end, or to its first fault, finds the fault that a check of its sums finds. So the log opens, and without a
-/// fault, exactly where that check finds none. The call does nothing.
+/// Reading a log to its end, or to its first fault, finds the fault that a check of its sums finds, if nothing in it is encrypted. So
+/// such a log opens, and without a fault, exactly where that check finds none. The call does nothing.
 #[tactic(auto, using(crate::proofs::WholeReading::whole_fault, crate::proofs::WholeReading::whole_refused))]
 pub fn whole_reading_finds_the_sums_faults()
-    ensures fault { (bytes : List ℕ) → source_refusal bytes ≡ None → (found_of whole_reading bytes).fault ≡ sum_fault bytes }
+    ensures fault { (bytes : List ℕ) → source_refusal bytes ≡ None → NoneEncrypted (read bytes None) → (found_of whole_reading bytes).fault ≡ sum_fault bytes }
     ensures refusal { (bytes : List ℕ) (fault : SumFault) → source_refusal bytes ≡ Some fault → sum_fault bytes ≡ Some fault }
 {}
 

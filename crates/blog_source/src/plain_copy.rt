@@ -2,8 +2,8 @@
 
 ghost use Rattle.std.specs.Prelude.{◌≡◌, ◌≤◌, length, take, IfOk};
 ghost use Rattle.std.specs.Result.{result_err};
-ghost use Rattle.blog_sum.specs.Sums.{sum_fault};
 ghost use Rattle.blog_source.specs.Plain.{plain_log};
+ghost use Rattle.blog_source.specs.Whole.{reading_fault};
 
 use crate::form::Form;
 use crate::front::open_front;
@@ -14,7 +14,7 @@ use std::alloc::Allocator;
 
 /// Makes the plain log of a log in the front of its bytes, and returns how long it is. Fails as `plain`.
 fn plain_in_place(bytes: &mut [u8]) -> Result<u32, SumFault>
-    ensures exact { result_err result ≡ sum_fault bytes.old }
+    ensures exact { result_err result ≡ reading_fault bytes.old }
     ensures log { IfOk result (λ len. take len bytes.new ≡ plain_log bytes.old) }
     ensures within { IfOk result (λ len. len ≤ length bytes.new) }
     ensures len { length bytes.new ≡ length bytes.old }
@@ -33,10 +33,10 @@ fn plain_in_place(bytes: &mut [u8]) -> Result<u32, SumFault>
 ///
 /// Fails at the first of these that holds: with `Log` if the bytes are no log of any algorithm (`TooLong` or `NotABinlog` at 0,
 /// `CutEvent`, `BadFormat` or `OldServer` at 4); with `UnknownAlgorithm` at 4 if the checksum algorithm is neither 0 nor 1; with
-/// `Log(CutEvent)` at an event that has no room for a checksum, or `WrongSum` at one that doesn't end in its own, the first of
-/// either; with `Log(CutEvent)` where the events end before the log does.
+/// `Log(CutEvent)` at an event that has no room for a checksum, `WrongSum` at one that doesn't end in its own, or `Encrypted` at one
+/// behind which the log is encrypted, the first of these; with `Log(CutEvent)` where the events end before the log does.
 pub fn plain<A: Allocator>(bytes: Vec<u8, A>) -> Result<Vec<u8, A>, SumFault>
-    ensures exact { result_err result ≡ sum_fault bytes.items }
+    ensures exact { result_err result ≡ reading_fault bytes.items }
     ensures text { IfOk result (λ text. text.items ≡ plain_log bytes.items) }
 {
     let mut bytes = bytes;

@@ -74,7 +74,8 @@ impl<A: Allocator> Source<A> {
     }
 
     /// Why the reading ended, unless it ended at the log's end or at the stop: `WrongSum` at the first event that doesn't end
-    /// in its sum and isn't passed over; `CutEvent` where no event stands, or one that has no room for a sum.
+    /// in its sum and isn't passed over; `CutEvent` where no event stands, or one that has no room for a sum; `Encrypted` at the event
+    /// behind which the log is encrypted.
     pub fn fault(&self) -> Option<SumFault>
         ensures { result ≡ fault_of self.now }
     {

@@ -5,7 +5,7 @@ ghost use Rattle.std.specs.Result.{result_err};
 ghost use Rattle.blog_event.specs.Event.{event_of, event_at, event_size};
 ghost use Rattle.blog_event.specs.File.{is_below};
 ghost use Rattle.blog_source.specs.Found.{begins_right, is_wrong_sum};
-ghost use Rattle.blog_source.specs.code.Walk.{IsStep, damaged_header, found_left, left, next_check, put_text};
+ghost use Rattle.blog_source.specs.code.Walk.{IsStep, damaged_header, found_left, left, next_check, next_sum, put_text};
 
 use crate::form::Form;
 use crate::putting::put_kept;
@@ -16,6 +16,9 @@ use blog_sum::{SumFault, summed_event};
 /// The type that an event with a wrong sum has in the log that is handed out, if it is passed over. No event of a server has it, so
 /// nothing that has such an event can be undone. Its flags are the type that it had.
 pub const DAMAGED_EVENT: u8 = 255;
+
+/// The type of the event behind which a log is encrypted (MariaDB Knowledge Base, "START_ENCRYPTION_EVENT").
+const START_ENCRYPTION_EVENT: u8 = 164;
 
 /// What is said of the event at a position.
 #[derive(Clone, Copy, Debug)]
@@ -51,9 +54,28 @@ fn is_below(at: u32, stop: Option<u32>) -> bool
     }
 }
 
-/// The event at a position, which in a log with sums ends in its own.
+/// The event at a position, which in a log with sums ends in its own, and behind which nothing is encrypted.
 fn checked_event(bytes: &[u8], at: u32, sums: bool) -> Result<Event<'_>, SumFault>
     ensures exact { result_err result ≡ next_check sums bytes.now at }
+    ensures event { IfOk result (λ e. event_at (drop at bytes.now) ≡ Some (event_of e)) }
+    ensures size { IfOk result (λ e. e.header.size ≡ event_size (event_of e)) }
+    ensures within { IfOk result (λ e. at + e.header.size ≤ length bytes.now) }
+{
+    match summed_if(bytes, at, sums) {
+        Ok(event) => {
+            if event.header.kind == START_ENCRYPTION_EVENT {
+                Err(SumFault::Encrypted { pos: at })
+            } else {
+                Ok(event)
+            }
+        }
+        Err(fault) => Err(fault),
+    }
+}
+
+/// The event at a position, which in a log with sums ends in its own.
+fn summed_if(bytes: &[u8], at: u32, sums: bool) -> Result<Event<'_>, SumFault>
+    ensures exact { result_err result ≡ next_sum sums bytes.now at }
     ensures event { IfOk result (λ e. event_at (drop at bytes.now) ≡ Some (event_of e)) }
     ensures size { IfOk result (λ e. e.header.size ≡ event_size (event_of e)) }
     ensures within { IfOk result (λ e. at + e.header.size ≤ length bytes.now) }

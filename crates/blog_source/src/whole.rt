@@ -3,11 +3,11 @@
 ghost use Rattle.std.specs.Prelude.{◌≡◌, IfOk, None, option_map};
 ghost use Rattle.std.specs.Result.{result_err};
 ghost use Rattle.blog_event.specs.Fault.{name_of, position_of as fault_position};
-ghost use Rattle.blog_sum.specs.Sums.{sum_fault};
 ghost use Rattle.blog_source.specs.Found.{found_of};
 ghost use Rattle.blog_source.specs.Handed.{handed_log};
 ghost use Rattle.blog_source.specs.Laws.{whole_reading};
 ghost use Rattle.blog_source.specs.Places.{place_of};
+ghost use Rattle.blog_source.specs.Whole.{reading_fault};
 ghost use Rattle.blog_source.specs.code.SourceView.{end_of, log_of};
 
 use crate::reading::Reading;
@@ -19,9 +19,9 @@ use std::alloc::Allocator;
 impl<A: Allocator> Source<A> {
     /// Reads a server's log to its end, in the bytes themselves, as `open` does. Fails as `open`, and with the fault that ends
     /// the reading too: so each checksum is right, and the events reach to the end of the log.
-    #[tactic(auto, using(crate::proofs::WholeReading::whole_fault, crate::proofs::WholeReading::whole_refused))]
+    #[tactic(auto, using(crate::proofs::WholeReading::reading_whole, crate::proofs::WholeReading::reading_refused))]
     pub fn open_whole(bytes: Vec<u8, A>) -> Result<Self, SumFault>
-        ensures exact { result_err result ≡ sum_fault bytes.items }
+        ensures exact { result_err result ≡ reading_fault bytes.items }
         ensures log { IfOk result (λ source. log_of source ≡ handed_log whole_reading bytes.items) }
         ensures end { IfOk result (λ source. end_of source ≡ (found_of whole_reading bytes.items).end) }
     {

@@ -19,6 +19,10 @@ pub enum SumFault {
     /// The last four bytes of an event aren't the CRC-32 of those before them; at the event.
     #[error("WrongSum at {pos}")]
     WrongSum { pos: u32 },
+    /// What is behind this event is encrypted (MariaDB Knowledge Base, "START_ENCRYPTION_EVENT"); at the event. Checks of sums alone
+    /// don't find it.
+    #[error("Encrypted at {pos}")]
+    Encrypted { pos: u32 },
 }
 
 // Written by hand, so that clauses know which fault a `?` makes.

@@ -148,7 +148,7 @@ fn other_failures_have_their_lines(rt: HostRuntime) -> Result<(), Fail> {
     check(
         &rt,
         &Failure::NewLog(NewLogFault::Sums(SumFault::WrongSum { pos: 5 })),
-        "WrongSum at 5: the event isn't what the server wrote, or is encrypted: copy the log from the server again",
+        "WrongSum at 5: the event isn't what the server wrote: copy the log from the server again",
     )?;
     let memory = "OutOfMemory: run it where one and a half times the log's size is free in memory";
     check(

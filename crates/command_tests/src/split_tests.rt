@@ -31,7 +31,7 @@ const CUT_EVENT: &str =
     "binlog: CutEvent at 120: the log ends inside an event, or is damaged: copy it from the server again\n";
 
 const WRONG_SUM: &str =
-    "binlog: WrongSum at 120: the event isn't what the server wrote, or is encrypted: copy the log from the server again\n";
+    "binlog: WrongSum at 120: the event isn't what the server wrote: copy the log from the server again\n";
 
 /// One byte of a log with checksums is changed, each in turn: nothing is written.
 #[test]

@@ -14,7 +14,7 @@ use Rattle.blog_source.specs.declared.form.Form.TheVariants.{Places, Plain}
 use Rattle.blog_source.specs.declared.reading.Reading.{Reading}
 use Rattle.blog_source.specs.declared.walk.Step.{Step}
 use Rattle.blog_source.specs.declared.walk.Step.TheVariants.{Keep, PassOver, Refuse}
-use Rattle.blog_source.specs.Found.{Found, check_of, found, found_with, is_wrong_sum}
+use Rattle.blog_source.specs.Found.{Found, check_of, found, found_with, is_wrong_sum, sums_check}
 use Rattle.blog_source.specs.Becoming.{becomes_with}
 use Rattle.blog_source.specs.Handed.{bare, handed}
 use Rattle.blog_source.specs.Plain.{plainly}
@@ -26,6 +26,10 @@ left stop len at rest = placed_from at (events_from len stop at rest)
 -- what is found of them
 abbrev pub found_left : Reading → Bool → ℕ → ℕ → List ℕ → Found
 found_left how sums len at rest = found how sums len at (left how.stop len at rest)
+
+-- the check of the sum of the event at a position, or that there is none
+abbrev pub next_sum : Bool → List ℕ → ℕ → Option SumFault
+next_sum sums bytes at = option_map_or (λ e. sums_check sums (record { pos = at; event = e })) (event_at (drop at bytes)) (Some (Log (CutEvent at)))
 
 -- the check of the event at a position, or that there is none
 abbrev pub next_check : Bool → List ℕ → ℕ → Option SumFault
