@@ -3,13 +3,12 @@
 #     examples/guide/run.sh PROGRAM BINLOG
 # The commands are read from the README. What is put in their place is what differs here: the server's folder and socket,
 # the times, the positions that are found, the size at which statements are cut, so that they are cut at all, and the
-# option that MariaDB's mysqldump doesn't have. A copy of the log is brought into the profile by profile.py, and read in
-# place of the server's. The rows have to be as before the mistake after step 7, and as after it after step 9; the same
-# again by flashback.
+# option that MariaDB's mysqldump doesn't have. The rows have to be as before the mistake after step 7, and as after it
+# after step 9; the same again by flashback.
 set -eu
 here=$(cd "$(dirname "$0")/../.." && pwd)
 work=$(mktemp -d)
-mkdir "$work/bin" "$work/data" "$work/logs" "$work/home"
+mkdir "$work/bin" "$work/data" "$work/home"
 HOME=$work/home
 export HOME
 cp "$1" "$work/bin/flashback"
@@ -84,7 +83,7 @@ END
 find_positions() {
     awk '/^# at / { at = $3 }
         / end_log_pos / { match($0, /end_log_pos [0-9]+/); end = substr($0, RSTART + 12, RLENGTH - 12) }
-        /^BEGIN/ { start = at; wrong = 0 }
+        /^START TRANSACTION/ { start = at; wrong = 0 }
         /^### [A-Z]+ / { of_orders = /DELETE FROM `shop`.`orders`/ }
         /^###   @1=2( |$)/ { if (of_orders) wrong = 1 }
         /^COMMIT/ { if (wrong) { print start, end; exit } }' "$HOME/around.txt"
@@ -126,10 +125,7 @@ run_guide() {
         echo "\$ $(as_run_here "$command")"
         run_command "$command"
         case $command in
-            "cd /var/lib/mysql")
-                python3 "$here/examples/guide/profile.py" "$work/data/binlog.000042" "$work/logs/binlog.000042"
-                cd "$work/logs"
-                ;;
+            "cd /var/lib/mysql") cd "$work/data" ;;
             *"> ~/around.txt")
                 positions=$(find_positions) && start=${positions% *} stop=${positions#* }
                 [ "$positions" = "$(listed_positions binlog.000042)" ] || fail "binlog list has other positions"

@@ -114,11 +114,11 @@ ERRORS = (
 WITH_GTIDS = ("1785, InnoDB and MyISAM where GTIDs are on", "changes of InnoDB and MyISAM", "", at_once, "1785")
 
 
-def try_errors(server, programs, report, kept):
+def try_errors(server, programs, report, _):
     texts = {}
     for name, change in CHANGES.items():
         with report.trial(f"2: {name} are undone where nothing is in the way"):
-            made = undo_of(server, programs, kept, f"errors_{name}", NAMES, joined(setup()), joined(change))
+            made = undo_of(server, programs, f"errors_{name}", NAMES, joined(setup()), joined(change))
             texts[name] = programs.command("sql", made.undo)
             if server.has_gtids and change is MIXED:
                 raise NotTried("GTIDs are on")

@@ -97,9 +97,8 @@ class Mistake:
         for statements in in_later_logs:
             server.query(joined(statements))
             self.later += ["--later", server.next_log()]
-        if server.kind is not MARIADB:
-            first = json.loads(programs.command("list", self.log, "--json").splitlines()[0])
-            self.part = "-j", str(first["start"]), "--stop-position", str(first["stop"])
+        first = json.loads(programs.command("list", self.log, "--json").splitlines()[0])
+        self.part = "-j", str(first["start"]), "--stop-position", str(first["stop"])
 
 
 class MistakeInTwo:
@@ -111,17 +110,17 @@ class MistakeInTwo:
         first, second = mistake_in_two(SHOP)
         for statements in (first, changes[:4], second, changes[4:]):
             server.query(joined(statements))
-        self.log, self.later, self.choices = server.next_log(), [], []
-        if server.kind is not MARIADB:
-            lines = [json.loads(line) for line in programs.command("list", self.log, "--json").splitlines()]
-            units = [line for line in lines if any(table["deletes"] == 20 for table in line.get("tables", ()))]
-            ways = [("--at", "start"), ("--thread", "thread")] + [("--gtid", "gtid")] * server.has_gtids
-            self.choices = [[word for unit in units for word in (option, str(unit[key]))] for option, key in ways]
-            self.part = self.choices[0]
+        self.log, self.later = server.next_log(), []
+        lines = [json.loads(line) for line in programs.command("list", self.log, "--json").splitlines()]
+        units = [line for line in lines if any(table["deletes"] == 20 for table in line.get("tables", ()))]
+        ways = [("--at", "start")] + [("--thread", "thread")] * (server.kind is not MARIADB) + [("--gtid", "gtid")] * server.has_gtids
+        self.choices = [[word for unit in units for word in (option, str(unit[key]))] for option, key in ways]
+        self.part = self.choices[0]
 
 
 class MistakeOfOneClient:
-    """A server on which one client made a mistake, and gave statements about another table."""
+    """A server on which one client made a mistake, and gave statements about another table. On MariaDB, whose logs are read
+    without threads, the mistake and the statements are chosen by their places."""
 
     def __init__(self, server, programs, changes):
         server.query(joined(setup(SHOP)))
@@ -129,64 +128,60 @@ class MistakeOfOneClient:
         server.query(joined(mistake_beside_statements(SHOP)))
         server.query(joined(changes))
         self.log, self.later = server.next_log(), []
-        if server.kind is not MARIADB:
-            lines = [json.loads(line) for line in programs.command("list", self.log, "--json").splitlines()]
-            threads = {line["thread"] for line in lines if any(table["deletes"] == 15 for table in line.get("tables", ()))}
-            self.thread = [word for thread in threads for word in ("--thread", str(thread))]
-            self.part = "-T", f"{SHOP}.notes", *self.thread
+        lines = [json.loads(line) for line in programs.command("list", self.log, "--json").splitlines()]
+        made = [line for line in lines if any(table["deletes"] == 15 for table in line.get("tables", ()))]
+        if server.kind is MARIADB:
+            last = lines.index(made[-1])
+            self.choice = [word for line in lines[:last + 1] for word in ("--at", str(line["start"]))]
+        else:
+            self.choice = [word for thread in {line["thread"] for line in made} for word in ("--thread", str(thread))]
+        self.part = "-T", f"{SHOP}.notes", *self.choice
 
 
-def try_later(server, programs, report, kept):
+def try_later(server, programs, report, _):
     changes = list(right_changes(SHOP))
     with report.trial("5: a mistake is undone after right changes: the tables are as without it"):
-        hold_as_without(server, programs, kept, "later", Mistake(server, programs, mistake(SHOP), changes))
+        hold_as_without(server, programs, Mistake(server, programs, mistake(SHOP), changes))
     with report.trial("5: the same with right changes in two later logs, too"):
-        hold_as_without(server, programs, kept, "logs", Mistake(server, programs, mistake(SHOP), changes[:3], changes[3:6], changes[6:]))
+        hold_as_without(server, programs, Mistake(server, programs, mistake(SHOP), changes[:3], changes[3:6], changes[6:]))
     with report.trial("5: a mistake in two transactions is undone, with right changes between them"):
         made = MistakeInTwo(server, programs, changes)
         texts = {programs.command("undo", made.log, *choice, "--keep-times") for choice in made.choices}
         hold(len(texts) <= 1, "the SQL differs by how the transactions are chosen")
-        hold_as_without(server, programs, kept, "two", made)
+        hold_as_without(server, programs, made)
     with report.trial("5: the client of a mistake gave statements about another table, too: -T passes them over"):
         made = MistakeOfOneClient(server, programs, changes)
-        if server.kind is not MARIADB:
-            told = programs.refusal("undo", made.log, *made.thread)
-            hold(told.startswith("binlog: Statement at "), f"without -T it says {told}")
-        hold_as_without(server, programs, kept, "beside", made)
+        told = programs.refusal("undo", made.log, *made.choice)
+        hold(told.startswith("binlog: Statement at "), f"without -T it says {told}")
+        hold_as_without(server, programs, made)
     with report.trial("5: --anyway: later changes of these rows are overwritten"):
-        hold_overwritten(server, programs, kept)
-    if server.kind is not MARIADB:
-        with report.trial("5: rows were changed since: nothing is written"):
-            made = Mistake(server, programs, forgotten_where(SHOP), changes_of_these(SHOP))
-            hold_refused(server, programs, made, "ChangedSince: 3 rows ", f"{name_of(SHOP, 'customers')}: update", 2)
-        with report.trial("5: rows were changed in a later log: nothing is written"):
-            made = Mistake(server, programs, forgotten_where(SHOP), changes[:3], changes_of_these(SHOP))
-            hold_refused(server, programs, made, "ChangedSince: 3 rows ", f"{name_of(SHOP, 'customers')}: update", 2)
-        with report.trial("5: a column was added since: nothing is written"):
-            made = Mistake(server, programs, mistake(SHOP), added_column(SHOP))
-            hold_refused(server, programs, made, "UnknownSince: ", ": may change these tables, and can't be looked into", 1)
+        hold_overwritten(server, programs)
+    with report.trial("5: rows were changed since: nothing is written"):
+        made = Mistake(server, programs, forgotten_where(SHOP), changes_of_these(SHOP))
+        hold_refused(server, programs, made, "ChangedSince: 3 rows ", f"{name_of(SHOP, 'customers')}: update", 2)
+    with report.trial("5: rows were changed in a later log: nothing is written"):
+        made = Mistake(server, programs, forgotten_where(SHOP), changes[:3], changes_of_these(SHOP))
+        hold_refused(server, programs, made, "ChangedSince: 3 rows ", f"{name_of(SHOP, 'customers')}: update", 2)
+    with report.trial("5: a column was added since: nothing is written"):
+        made = Mistake(server, programs, mistake(SHOP), added_column(SHOP))
+        hold_refused(server, programs, made, "UnknownSince: ", ": may change these tables, and can't be looked into", 1)
 
 
-def sql_of(server, programs, kept, name, made, *options):
-    """The SQL that undoes. MariaDB takes that of MySQL's log, where the same changes were made."""
-    if server.kind is not MARIADB:
-        kept[name] = programs.command("undo", made.log, *made.part, *made.later, *options)
-    elif name not in kept:
-        raise NotTried("no log of MySQL is there, and MariaDB's own is not read")
-    return kept[name]
+def undo_sql(programs, made, *options):
+    return programs.command("undo", made.log, *made.part, *made.later, *options)
 
 
-def hold_as_without(server, programs, kept, name, made):
-    apply_sql(server, sql_of(server, programs, kept, name, made))
+def hold_as_without(server, programs, made):
+    apply_sql(server, undo_sql(programs, made))
     server.query(joined([*setup(SPARED), *right_changes(SPARED)]))
     found, wanted = (list(state(server, names_in(schema, *TABLES)).values()) for schema in (SHOP, SPARED))
     other = [table for table, has, should in zip(TABLES, found, wanted) if has != should]
     hold(not other, f"these tables differ: {', '.join(other)}")
 
 
-def hold_overwritten(server, programs, kept):
+def hold_overwritten(server, programs):
     made = Mistake(server, programs, forgotten_where(SHOP), changes_of_these(SHOP))
-    apply_sql(server, sql_of(server, programs, kept, "anyway", made, "--anyway"))
+    apply_sql(server, undo_sql(programs, made, "--anyway"))
     hold(state(server, names_in(SHOP, *TABLES)) == made.before, "the tables are not as before the mistake")
 
 

@@ -49,10 +49,10 @@ def setup():
 CHANGE = f"DELETE FROM {NAMES[0]} WHERE id > 1"
 
 
-def try_privileges(server, programs, report, kept):
+def try_privileges(server, programs, report, _):
     text = None
     with report.trial("3: the undo for users is made"):
-        made = undo_of(server, programs, kept, "rights", NAMES, "; ".join(setup()), CHANGE)
+        made = undo_of(server, programs, "rights", NAMES, "; ".join(setup()), CHANGE)
         text = programs.command("sql", made.undo)
     for number, (privileges, enough) in enumerate(OF_MYSQL if server.kind is MYSQL else OF_MARIADB) if text else ():
         title = " and ".join(SHORT.get(privilege, privilege) for privilege in privileges) or "no privilege"

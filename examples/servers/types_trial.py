@@ -1,6 +1,6 @@
 """Trial 1, tables of all types come back; and trial 4, what MySQL's log became undoes on MariaDB, too."""
 
-from programs import NotHeld, NotTried, hold
+from programs import NotTried, hold
 from server import MARIADB
 from tables import BOTH, MYSQL_ONLY, NO_GTIDS, changes, creation, script, tables_for
 from undoing import Kept, apply_log, apply_sql, hold_same, state
@@ -71,13 +71,8 @@ def by_sql(server, programs, report, tables, title, undo, redo):
 
 def make_logs(server, programs, kept, log, undo, redo):
     plain = server.folder / "types.plain"
-    try:
-        programs.plain(log, plain)
-        programs.undo(plain, undo)
-    except NotHeld as cause:
-        if server.kind is MARIADB:
-            raise NotTried(f"MariaDB's own log is not read: {cause}") from cause
-        raise
+    programs.plain(log, plain)
+    programs.undo(plain, undo)
     programs.undo(undo, redo)
     if server.kind is not MARIADB:
         of_both = [server.folder / f"both.{kind}" for kind in ("undo", "redo")]

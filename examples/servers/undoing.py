@@ -3,7 +3,7 @@
 import hashlib
 from collections import namedtuple
 
-from programs import NotHeld, NotTried, hold
+from programs import hold
 from server import MARIADB
 from tables import BOTH, name_of
 
@@ -40,9 +40,8 @@ def names_in(schema, *tables):
     return [name_of(schema, table) for table in tables]
 
 
-def undo_of(server, programs, kept, name, names, setup, change):
-    """Makes the change on the server, and of its log the undo. Where MariaDB's own log is not read, it takes the undo that
-    MySQL's log became: the same change was made there."""
+def undo_of(server, programs, name, names, setup, change):
+    """Makes the change on the server, and of its log the undo."""
     server.query(setup)
     before = state(server, names)
     server.next_log()
@@ -52,16 +51,8 @@ def undo_of(server, programs, kept, name, names, setup, change):
     plain, undo = (server.folder / f"{name}.{kind}" for kind in ("plain", "undo"))
     for path in (plain, undo):
         path.unlink(missing_ok=True)
-    try:
-        programs.plain(log, plain)
-        programs.undo(plain, undo)
-    except NotHeld as cause:
-        if server.kind is not MARIADB:
-            raise
-        if name not in kept:
-            raise NotTried(f"no log of MySQL is there, and MariaDB's own is not read: {cause}") from cause
-        undo.write_bytes(kept[name])
-    kept[name] = undo.read_bytes()
+    programs.plain(log, plain)
+    programs.undo(plain, undo)
     return Undo(before, after, undo)
 
 

@@ -23,7 +23,7 @@ use Rattle.blog_event.specs.declared.fault.Fault.TheVariants.{CutEvent}
 use Rattle.blog_sum.specs.declared.fault.SumFault.TheVariants.{Log}
 use borrow.Author.Tests.{eqb-true}
 use Rattle.blog_source.specs.Handed.{bare, handed_format}
-use Rattle.blog_source.specs.Laws.{IsEnded, StayThemselves, whole_reading}
+use Rattle.blog_source.specs.Laws.{IsEnded, StayThemselves, StaysItself, whole_reading}
 use Rattle.blog_source.specs.Plain.{plain_events, plain_log, plainly}
 use Rattle.blog_source.proofs.Accepted.{IsAccepted, is-accepted, is-read, later_of}
 use Rattle.blog_source.proofs.Ending.{ended-append}
@@ -106,6 +106,11 @@ stay-same : (es : List Event) → AllByRecursion Stays es → flat_map (plain_of
 stay-same [] stay = refl
 stay-same (e ∷ es) stay =
     ap (λ (first : List Event). first ++ flat_map (plain_of false) es) (stays-alone (take 25) e stay.0) ∙ ap (λ (later : List Event). e ∷ later) (stay-same es stay.1)
+
+-- as do those that stay themselves
+all-stay : (es : List Event) → AllByRecursion StaysItself es → AllByRecursion Stays es
+all-stay [] stay = tt
+all-stay (e ∷ es) stay = (stay.0.0, all-stay es stay.1)
 
 -- so those of a plain log stay as they are
 plain-twice : (sums : Bool) (pos : ℕ) (es : List Event)
@@ -279,7 +284,7 @@ plain_kept bytes are fine none plain ended =
     let at : ℕ = 4 + event_size log.format in
     let es : List Event = later_of bytes None log in
     let whole : end_of 4 (log.format ∷ es) ≡ length bytes = ap (end_of 4) (sym reads.is) ∙ (is-plain bytes are fine).whole in
-    let same : ended_from at (flat_map (plain_of false) es) ≡ es = ap (ended_from at) (stay-same es (subst StayThemselves reads.is plain)) ∙ ended-same at es
+    let same : ended_from at (flat_map (plain_of false) es) ≡ es = ap (ended_from at) (stay-same es (all-stay es (subst StayThemselves reads.is plain))) ∙ ended-same at es
     (subst (λ (es : List Event). AllByRecursion IsEnded (drop 1 (placed_from 4 es))) reads.is ended) in
     ap (λ (sums : Bool). file_text (plain_events sums (read bytes None))) none
     ∙ ap (λ (es : List Event). file_text (plain_events false es)) reads.is

@@ -5,7 +5,7 @@ use Rattle.blog_event.specs.Event.{Event, event_at, event_size, unplaced}
 use Rattle.blog_event.specs.File.{Placed, placed_from, end_of}
 use Rattle.blog_sum.specs.Sums.{has_sums}
 use Rattle.blog_source.specs.declared.reading.Reading.{Reading}
-use Rattle.blog_source.specs.Found.{as_damaged, found_of}
+use Rattle.blog_source.specs.Found.{as_damaged, begins_encryption, found_of}
 use Rattle.blog_source.specs.declared.becoming.Becoming.TheVariants.{Itself}
 use Rattle.blog_source.specs.Becoming.{becoming_of}
 use Rattle.blog_source.specs.Handed.{handed}
@@ -49,9 +49,13 @@ StandsIn bytes p =
 abbrev pub IsUnmoved : HandedOut → Type 0
 IsUnmoved h = (h.at ≡ h.source.pos) × (unplaced h.event ≡ unplaced h.source.event)
 
--- each of the events that are read stays itself: none is a tagged GTID event, or one that only MariaDB writes
+-- each of the events that are read stays itself, as all do but tagged GTID events and some that only MariaDB writes; and nothing
+-- is encrypted behind it
+abbrev pub StaysItself : Event → Type 0
+StaysItself e = (becoming_of e.kind e.body ≡ Itself) × (begins_encryption e ≡ false)
+
 abbrev pub StayThemselves : List Event → Type 0
-StayThemselves es = AllByRecursion (λ e. becoming_of e.kind e.body ≡ Itself) (drop 1 es)
+StayThemselves es = AllByRecursion StaysItself (drop 1 es)
 
 -- its log_pos is where it ends
 abbrev pub IsEnded : Placed → Type 0
