@@ -31,14 +31,13 @@ abbrev pub text_of_query : Event → Option (List ℕ)
 text_of_query e = if e.kind == 2 then query_text e.body else None
 
 -- What an event is, by its type: TRANSACTION_PAYLOAD_EVENT; XA_PREPARE_LOG_EVENT; INCIDENT_EVENT; VIEW_CHANGE_EVENT; MariaDB's
--- START_ENCRYPTION_EVENT and its compressed queries and rows; and the other types that it has for itself.
+-- compressed queries and rows; and the other types that it has for itself.
 abbrev pub event_words : ℕ → Option (List ℕ)
 event_words number =
     if number == 40 then Some (codes "a compressed transaction") else
     if number == 38 then Some (codes "a prepared XA transaction") else
     if number == 26 then Some (codes "an incident") else
     if number == 37 then Some (codes "a change of view in group replication") else
-    if number == 164 then Some (codes "the start of encryption") else
     if nat_le 165 number && nat_le number 171 then Some (codes "a compressed event of MariaDB") else
     if nat_le 160 number then Some (codes "an event of MariaDB") else None
 

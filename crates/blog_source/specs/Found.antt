@@ -1,5 +1,5 @@
 -- Which events of a server's log are read, and why its reading ends (MySQL Internals manual, "Event checksum").
-use Rattle.std.specs.Prelude.{ℕ, ◌+◌, ◌==◌, ◌&&◌, ◌||◌, not, is_none, nat_le, Bool, true, false, if◌then◌else◌, List, [], ◌∷◌, length, drop, Option, Some, None, option_map}
+use Rattle.std.specs.Prelude.{ℕ, ◌+◌, ◌/◌, ◌%◌, ◌==◌, ◌&&◌, ◌||◌, not, is_none, nat_le, Bool, true, false, if◌then◌else◌, List, [], ◌∷◌, length, drop, Option, Some, None, option_map}
 use Rattle.blog_event.specs.declared.fault.Fault.TheVariants.{CutEvent}
 use Rattle.blog_event.specs.Event.{Event, event_size, event_at}
 use Rattle.blog_event.specs.Fault.{first_failing}
@@ -33,9 +33,14 @@ abbrev pub sums_check : Bool → Placed → Option SumFault
 sums_check true p = sum_check p
 sums_check false p = None
 
--- what is behind it is encrypted (MariaDB Knowledge Base, "START_ENCRYPTION_EVENT", type 164)
+-- its header flag 0x0080 says that a reader may ignore it
+abbrev pub may_be_ignored : ℕ → Bool
+may_be_ignored flags = (flags / 0x80) % 2 == 1
+
+-- what is behind it is encrypted (MariaDB Knowledge Base, "START_ENCRYPTION_EVENT", type 164); in a copy that the server
+-- decrypted the event has the flag 0x0080, by which it may be ignored
 abbrev pub begins_encryption : Event → Bool
-begins_encryption e = e.kind == 164
+begins_encryption e = (e.kind == 164) && not (may_be_ignored e.flags)
 
 -- the check of an event: the first of these that fails
 abbrev pub check_of : Bool → Placed → Option SumFault

@@ -1,11 +1,12 @@
 -- Events that only MariaDB writes (MariaDB Knowledge Base, "ANNOTATE_ROWS_EVENT", "BINLOG_CHECKPOINT_EVENT", "GTID_EVENT",
--- "GTID_LIST_EVENT").
+-- "GTID_LIST_EVENT", "START_ENCRYPTION_EVENT").
 use Rattle.std.specs.Prelude.{ℕ, ◌%◌, ◌==◌, ◌&&◌, ◌||◌, nat_le, Bool, List, ◌++◌, length, replicate, slice_index, codes}
 use Rattle.blog_event.specs.Event.{Event}
 
--- a type of events that change nothing: Annotate_rows (160), Binlog_checkpoint (161), Gtid_list (163)
+-- a type of events that change nothing: Annotate_rows (160), Binlog_checkpoint (161), Gtid_list (163); Start_encryption (164),
+-- where it may be ignored
 abbrev pub is_note : ℕ → Bool
-is_note kind = (kind == 160) || ((kind == 161) || (kind == 163))
+is_note kind = (kind == 160) || ((kind == 161) || ((kind == 163) || (kind == 164)))
 
 -- a Gtid event (type 162): its body has the number in 8 bytes, the domain in 4, flags in one, and what these say, or zeros, to
 -- 19 bytes at the least

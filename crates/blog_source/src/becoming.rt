@@ -17,6 +17,8 @@ const BINLOG_CHECKPOINT_EVENT: u8 = 161;
 const MARIA_GTID_EVENT: u8 = 162;
 /// The ids that earlier logs have (MariaDB Knowledge Base, "GTID_LIST_EVENT").
 const GTID_LIST_EVENT: u8 = 163;
+/// The log is encrypted from there on, or was (MariaDB Knowledge Base, "START_ENCRYPTION_EVENT").
+pub(crate) const START_ENCRYPTION_EVENT: u8 = 164;
 
 /// The least size of a Gtid event that a tagged one becomes.
 const GTID_SIZE: u32 = 44;
@@ -51,7 +53,10 @@ fn is_tagged(kind: u8, size: u32) -> bool
 fn is_note(kind: u8) -> bool
     ensures { result ≡ is_note kind }
 {
-    kind == ANNOTATE_ROWS_EVENT || kind == BINLOG_CHECKPOINT_EVENT || kind == GTID_LIST_EVENT
+    kind == ANNOTATE_ROWS_EVENT
+        || kind == BINLOG_CHECKPOINT_EVENT
+        || kind == GTID_LIST_EVENT
+        || kind == START_ENCRYPTION_EVENT
 }
 
 /// Whether an event of this type, which has so many bytes without its sum, is a Gtid event of MariaDB.

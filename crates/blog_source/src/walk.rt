@@ -1,12 +1,13 @@
 //! Going through the events of a log in place: each is checked, and moved to where it is handed out.
 
-ghost use Rattle.std.specs.Prelude.{◌≡◌, ◌≤◌, ◌<◌, ◌+◌, ◌^◌, ◌++◌, true, length, take, drop, Some, IfOk};
+ghost use Rattle.std.specs.Prelude.{◌≡◌, ◌≤◌, ◌<◌, ◌+◌, ◌^◌, ◌++◌, ◌==◌, ◌&&◌, not, true, length, take, drop, Some, IfOk};
 ghost use Rattle.std.specs.Result.{result_err};
 ghost use Rattle.blog_event.specs.Event.{event_of, event_at, event_size};
 ghost use Rattle.blog_event.specs.File.{is_below};
-ghost use Rattle.blog_source.specs.Found.{begins_right, is_wrong_sum};
+ghost use Rattle.blog_source.specs.Found.{begins_right, is_wrong_sum, may_be_ignored};
 ghost use Rattle.blog_source.specs.code.Walk.{IsStep, damaged_header, found_left, left, next_check, next_sum, put_text};
 
+use crate::becoming::START_ENCRYPTION_EVENT;
 use crate::form::Form;
 use crate::putting::put_kept;
 use crate::reading::Reading;
@@ -17,8 +18,8 @@ use blog_sum::{SumFault, summed_event};
 /// nothing that has such an event can be undone. Its flags are the type that it had.
 pub const DAMAGED_EVENT: u8 = 255;
 
-/// The type of the event behind which a log is encrypted (MariaDB Knowledge Base, "START_ENCRYPTION_EVENT").
-const START_ENCRYPTION_EVENT: u8 = 164;
+/// The flag of an event that a reader may ignore (MySQL Internals manual, "Binary Log Event Header").
+const IGNORABLE: u16 = 0x80;
 
 /// What is said of the event at a position.
 #[derive(Clone, Copy, Debug)]
@@ -54,6 +55,14 @@ fn is_below(at: u32, stop: Option<u32>) -> bool
     }
 }
 
+/// Whether what is behind an event is encrypted.
+fn begins_encryption(header: Header) -> bool
+    ensures { result ≡ ((header.kind == 164) && not (may_be_ignored header.flags)) }
+{
+    let ignored = header.flags / IGNORABLE % 2 == 1;
+    header.kind == START_ENCRYPTION_EVENT && !ignored
+}
+
 /// The event at a position, which in a log with sums ends in its own, and behind which nothing is encrypted.
 fn checked_event(bytes: &[u8], at: u32, sums: bool) -> Result<Event<'_>, SumFault>
     ensures exact { result_err result ≡ next_check sums bytes.now at }
@@ -63,7 +72,7 @@ fn checked_event(bytes: &[u8], at: u32, sums: bool) -> Result<Event<'_>, SumFaul
 {
     match summed_if(bytes, at, sums) {
         Ok(event) => {
-            if event.header.kind == START_ENCRYPTION_EVENT {
+            if begins_encryption(event.header) {
                 Err(SumFault::Encrypted { pos: at })
             } else {
                 Ok(event)

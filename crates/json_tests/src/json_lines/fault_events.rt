@@ -16,8 +16,6 @@ const XA_PREPARE_LOG_EVENT: u8 = 38;
 const TRANSACTION_PAYLOAD_EVENT: u8 = 40;
 /// The first type that MariaDB has for itself.
 const MARIA_EVENTS: u8 = 160;
-/// What follows in the log is encrypted.
-const START_ENCRYPTION_EVENT: u8 = 164;
 
 /// Returns the event of a fault, where it lies below a position.
 fn event_of_fault<'a>(log: &Log<'a>, fault: &Fault, below: u32) -> Option<Event<'a>> {
@@ -45,7 +43,6 @@ fn event_words(kind: u8) -> Option<&'static str> {
         XA_PREPARE_LOG_EVENT => Some("a prepared XA transaction"),
         INCIDENT_EVENT => Some("an incident"),
         VIEW_CHANGE_EVENT => Some("a change of view in group replication"),
-        START_ENCRYPTION_EVENT => Some("the start of encryption"),
         165..=171 => Some("a compressed event of MariaDB"),
         _ if kind >= MARIA_EVENTS => Some("an event of MariaDB"),
         _ => None,
