@@ -30,17 +30,24 @@ def setup(schema):
     yield f"INSERT INTO {notes} VALUES " + ", ".join(f"('note {n % 5}', {n % 3}.25)" for n in numbers)
 
 
-def mistake(schema):
-    """Orders, with their lines by a cascade, and notes: among these some of several equal rows."""
+def of_lines(server, schema, first, last):
+    """Lines of orders, which MySQL's log has where a cascade deletes them, and MariaDB's doesn't: there they are deleted first."""
+    lines = name_of(schema, "order_lines")
+    return [f"DELETE FROM {lines} WHERE order_id BETWEEN {first} AND {last}"] if server.kind is MARIADB else []
+
+
+def mistake(server, schema):
+    """Orders, with their lines, and notes: among these some of several equal rows."""
     _, orders, _, notes = names_in(schema, *TABLES)
-    return ["BEGIN", f"DELETE FROM {orders} WHERE id BETWEEN 21 AND 60", f"DELETE FROM {notes} WHERE text = 'note 3' LIMIT 15", "COMMIT"]
+    return ["BEGIN", *of_lines(server, schema, 21, 60), f"DELETE FROM {orders} WHERE id BETWEEN 21 AND 60",
+            f"DELETE FROM {notes} WHERE text = 'note 3' LIMIT 15", "COMMIT"]
 
 
-def mistake_in_two(schema):
+def mistake_in_two(server, schema):
     """The same in two transactions, which delete 20 orders each."""
     _, orders, _, notes = names_in(schema, *TABLES)
-    yield [f"DELETE FROM {orders} WHERE id BETWEEN 21 AND 40"]
-    yield ["BEGIN", f"DELETE FROM {orders} WHERE id BETWEEN 41 AND 60", f"DELETE FROM {notes} WHERE text = 'note 3' LIMIT 15", "COMMIT"]
+    yield ["BEGIN", *of_lines(server, schema, 21, 40), f"DELETE FROM {orders} WHERE id BETWEEN 21 AND 40", "COMMIT"]
+    yield ["BEGIN", *of_lines(server, schema, 41, 60), f"DELETE FROM {orders} WHERE id BETWEEN 41 AND 60", f"DELETE FROM {notes} WHERE text = 'note 3' LIMIT 15", "COMMIT"]
 
 
 def mistake_beside_statements(schema):
@@ -107,12 +114,12 @@ class MistakeInTwo:
     def __init__(self, server, programs, changes):
         server.query(joined(setup(SHOP)))
         server.next_log()
-        first, second = mistake_in_two(SHOP)
+        first, second = mistake_in_two(server, SHOP)
         for statements in (first, changes[:4], second, changes[4:]):
             server.query(joined(statements))
         self.log, self.later = server.next_log(), []
         lines = [json.loads(line) for line in programs.command("list", self.log, "--json").splitlines()]
-        units = [line for line in lines if any(table["deletes"] == 20 for table in line.get("tables", ()))]
+        units = [line for line in lines if any(table["table"] == "orders" and table["deletes"] == 20 for table in line.get("tables", ()))]
         ways = [("--at", "start")] + [("--thread", "thread")] * (server.kind is not MARIADB) + [("--gtid", "gtid")] * server.has_gtids
         self.choices = [[word for unit in units for word in (option, str(unit[key]))] for option, key in ways]
         self.part = self.choices[0]
@@ -141,9 +148,9 @@ class MistakeOfOneClient:
 def try_later(server, programs, report, _):
     changes = list(right_changes(SHOP))
     with report.trial("5: a mistake is undone after right changes: the tables are as without it"):
-        hold_as_without(server, programs, Mistake(server, programs, mistake(SHOP), changes))
+        hold_as_without(server, programs, Mistake(server, programs, mistake(server, SHOP), changes))
     with report.trial("5: the same with right changes in two later logs, too"):
-        hold_as_without(server, programs, Mistake(server, programs, mistake(SHOP), changes[:3], changes[3:6], changes[6:]))
+        hold_as_without(server, programs, Mistake(server, programs, mistake(server, SHOP), changes[:3], changes[3:6], changes[6:]))
     with report.trial("5: a mistake in two transactions is undone, with right changes between them"):
         made = MistakeInTwo(server, programs, changes)
         texts = {programs.command("undo", made.log, *choice, "--keep-times") for choice in made.choices}
@@ -163,7 +170,7 @@ def try_later(server, programs, report, _):
         made = Mistake(server, programs, forgotten_where(SHOP), changes[:3], changes_of_these(SHOP))
         hold_refused(server, programs, made, "ChangedSince: 3 rows ", f"{name_of(SHOP, 'customers')}: update", 2)
     with report.trial("5: a column was added since: nothing is written"):
-        made = Mistake(server, programs, mistake(SHOP), added_column(SHOP))
+        made = Mistake(server, programs, mistake(server, SHOP), added_column(SHOP))
         hold_refused(server, programs, made, "UnknownSince: ", ": may change these tables, and can't be looked into", 1)
 
 

@@ -9,7 +9,7 @@ ROWS = 60
 BIG_ROWS = 300
 # tables that both servers have, those that MySQL alone has, and those that one transaction with others may not change
 # where GTIDs are on
-BOTH, MYSQL_ONLY, NO_GTIDS = "both", "mysql`only", "no_gtids"
+BOTH, MYSQL_ONLY, NO_GTIDS, ARIA = "both", "mysql`only", "no_gtids", "aria"
 
 
 def name_of(*parts):
@@ -65,6 +65,8 @@ def of_structures():
     yield Table(BOTH, "partitions", [("INT", number), (word, text)], options="ENGINE=InnoDB PARTITION BY HASH (id) PARTITIONS 5")
     yield Table(BOTH, "select", [("INT", number), (word, text)], names=["a`b", "äß あ"])
     yield Table(NO_GTIDS, "no_transactions", [("INT", number), (word, text)], options="ENGINE=MyISAM")
+    yield Table(ARIA, "aria", [("INT", number), (word, text)], options="ENGINE=Aria TRANSACTIONAL=1")
+    yield Table(ARIA, "aria_no_crash", [("INT", number), (word, text)], options="ENGINE=Aria TRANSACTIONAL=0")
     yield Table(BOTH, "compressed", [(f"TEXT {UTF8}", string(900, "utf8mb4"))], options="ENGINE=InnoDB ROW_FORMAT=COMPRESSED")
     yield Table(BOTH, "wide_chars", [("CHAR(60) CHARACTER SET utf16", string(60, "utf8mb4")), ("VARCHAR(200) CHARACTER SET utf32", string(200, "utf8mb4"))])
     yield Table(BOTH, "parents", [("INT", number)])
@@ -116,7 +118,7 @@ def creation(tables):
 def changes(tables):
     """The statements that change each table: in transactions of some tables each, then over several tables, then large ones."""
     plain = [table for table in tables if table.table not in ("parents", "children", "grandchildren", "big")]
-    safe = [table for table in plain if "MyISAM" not in table.create]
+    safe = [table for table in plain if table.schema not in (NO_GTIDS, ARIA)]
     for start in range(0, len(safe), 3):
         some = safe[start:start + 3]
         yield from ["BEGIN", *of_each(some), "SAVEPOINT kept", *of_each(some, 2000), "COMMIT"]

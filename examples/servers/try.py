@@ -23,7 +23,7 @@ from types_trial import try_types
 SETTINGS = {
     MYSQL: (("GTIDs on", ("--gtid-mode=ON", "--enforce-gtid-consistency=ON")),
             ("GTIDs off, row metadata FULL", ("--gtid-mode=OFF", "--enforce-gtid-consistency=OFF", "--binlog-row-metadata=FULL"))),
-    MARIADB: (("defaults", ()),),
+    MARIADB: (("defaults", ()), ("no checksums", ("--binlog-checksum=NONE",))),
 }
 TRIALS = {"types": try_types, "errors": try_errors, "privileges": try_privileges, "later": try_later}
 
