@@ -3,7 +3,7 @@ use Rattle.std.proofs.Common.{◌≡◌, ℕ, ◌+◌, ◌≤◌, Bool, true, fa
 use Rattle.std.specs.List.{flat_map}
 use Rattle.std.proofs.lemmas.List.{append-nil}
 use Rattle.blog_event.specs.declared.event.Header.{Header}
-use Rattle.blog_event.specs.Event.{event_size, event_text}
+use Rattle.blog_event.specs.Event.{event_text}
 use Rattle.blog_event.specs.File.{Placed, end_of}
 use Rattle.blog_source.specs.declared.form.Form.{Form}
 use Rattle.blog_source.specs.declared.form.Form.TheVariants.{Places, Plain}

@@ -17,3 +17,4 @@ pub mod Checks
 pub mod WhatBecomes
 pub mod Ending
 pub mod Puts
+pub mod Appending

@@ -4,6 +4,7 @@ pub mod Found
 pub mod Handed
 pub mod Plain
 pub mod Places
+pub mod Appended
 pub mod Laws
 pub mod Whole
 pub mod code

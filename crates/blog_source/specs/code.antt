@@ -2,3 +2,4 @@
 pub mod Walk
 pub mod Fronts
 pub mod SourceView
+pub mod Appending

@@ -2,6 +2,7 @@
 //! where in the server's log it stands.
 #![tactic(auto)]
 
+mod append;
 mod becoming;
 mod form;
 mod front;
@@ -14,6 +15,7 @@ mod source;
 mod walk;
 mod whole;
 
+pub use append::AppendFault;
 pub use laws::{
     handed_log_has_the_events, handed_logs_open, places_are_of_the_source,
     unsummed_logs_keep_their_places, whole_reading_finds_the_sums_faults,

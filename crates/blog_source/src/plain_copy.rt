@@ -28,8 +28,8 @@ fn plain_in_place(bytes: &mut [u8]) -> Result<u32, SumFault>
 }
 
 /// Returns the same log without checksums, in the bytes themselves: each event without its checksum, its `log_pos` where it ends,
-/// behind a format description with the checksum algorithm 0. A tagged GTID event becomes a Gtid event without the tag. No memory
-/// is taken.
+/// behind a format description with the checksum algorithm 0. A tagged GTID event becomes a Gtid event without the tag; of
+/// MariaDB's events, the one that begins a transaction becomes `BEGIN`, and those that change nothing are left out. No memory is taken.
 ///
 /// Fails at the first of these that holds: with `Log` if the bytes are no log of any algorithm (`TooLong` or `NotABinlog` at 0,
 /// `CutEvent`, `BadFormat` or `OldServer` at 4); with `UnknownAlgorithm` at 4 if the checksum algorithm is neither 0 nor 1; with

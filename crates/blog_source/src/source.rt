@@ -17,10 +17,10 @@ use std::alloc::{Allocator, Global};
 /// A server's log that was read: the same log without checksums, whose events know where in the server's log they stand.
 #[derive(Drop)]
 pub struct Source<A: Allocator = Global> {
-    bytes: Vec<u8, A>,
-    end: u32,
-    damaged: u32,
-    fault: Option<SumFault>,
+    pub(crate) bytes: Vec<u8, A>,
+    pub(crate) end: u32,
+    pub(crate) damaged: u32,
+    pub(crate) fault: Option<SumFault>,
     pub ghost short: { length bytes.items < 2 ^ 32 },
 }
 
@@ -130,7 +130,7 @@ impl<A: Allocator> Source<A> {
     }
 
     /// Where the event behind the format description begins.
-    fn first(&self) -> u32
+    pub(crate) fn first(&self) -> u32
         ensures { result ≡ first_of (log_of self.now) }
     {
         match event_at(self.bytes(), 4) {
