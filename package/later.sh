@@ -66,4 +66,14 @@ undoes 1 altered_since.binlog 499 1957 61 << 'END'
 binlog.000042 1957: may change these tables, and can't be looked into
 binlog: UnknownSince: what came later may have changed these tables: give --anyway if it left these rows as they were
 END
+
+# the deletes of one session in two logs, among the changes of others
+cp "$logs/deleted_by_session_1.binlog" binlog.000042
+cp "$logs/deleted_by_session_2.binlog" binlog.000043
+cat > wanted << 'END'
+undoes 30 transactions of binlog.000042, binlog.000043: `shop`.`orders` inserts 30; `shop`.`order_lines` inserts 57
+END
+"$binlog" undo --keep-times --thread 75 binlog.000042 binlog.000043 --dry-run > printed
+head -n 1 printed | diff -u wanted - >&2
+grep -q '^looked at [0-9]* later transactions, up to 9332 of binlog.000043: none changes these rows$' printed
 echo "package/later.sh: what came later is found in each log"

@@ -125,6 +125,30 @@ class MistakeInTwo:
         self.part = self.choices[0]
 
 
+class MistakeInTwoLogs:
+    """A server on which a mistake was made in two transactions, in two logs. Where transactions are chosen by their threads right changes
+    are between these. MariaDB's logs are read without threads: there all from the one to the other is the mistake."""
+
+    def __init__(self, server, programs, changes):
+        server.query(joined(setup(SHOP)))
+        server.next_log()
+        first, second = mistake_in_two(server, SHOP)
+        between = [] if server.kind is MARIADB else changes[:4]
+        logs, units = [], []
+        for statements in ((first, between[:2]), (between[2:], second, changes[len(between):])):
+            for one in filter(None, statements):
+                server.query(joined(one))
+            logs.append(server.next_log())
+            lines = [json.loads(line) for line in programs.command("list", logs[-1], "--json").splitlines()]
+            units += [line for line in lines if any(table["table"] == "orders" and table["deletes"] == 20 for table in line.get("tables", ()))]
+        # the further log is one that is undone, and not one of --later
+        self.log, self.later = logs[0], logs[1:]
+        if server.kind is MARIADB:
+            self.part = "-j", str(units[0]["start"]), "--stop-position", str(units[1]["stop"])
+        else:
+            self.part = [word for unit in units for word in ("--thread", str(unit["thread"]))]
+
+
 class MistakeOfOneClient:
     """A server on which one client made a mistake, and gave statements about another table. On MariaDB, whose logs are read
     without threads, the mistake and the statements are chosen by their places."""
@@ -156,6 +180,8 @@ def try_later(server, programs, report, _):
         texts = {programs.command("undo", made.log, *choice, "--keep-times") for choice in made.choices}
         hold(len(texts) <= 1, "the SQL differs by how the transactions are chosen")
         hold_as_without(server, programs, made)
+    with report.trial("5: a mistake in two logs, which are undone as one"):
+        hold_as_without(server, programs, MistakeInTwoLogs(server, programs, changes))
     with report.trial("5: the client of a mistake gave statements about another table, too: -T passes them over"):
         made = MistakeOfOneClient(server, programs, changes)
         told = programs.refusal("undo", made.log, *made.choice)

@@ -1,5 +1,5 @@
 -- What a run is asked to do, by the values of the options.
-use Rattle.std.specs.Prelude.{◌≡◌, ◌⊎◌, ◌&&◌, ◌||◌, ◌≤◌, ℕ, Bool, true, false, not, if◌then◌else◌, List, [], length, ⊤, IsSome, is_some, map, ◌∷◌, Option, Some, None, Result, Ok, Err, codes, option_map, slice_get, string_bytes, unwrap_or, String}
+use Rattle.std.specs.Prelude.{◌≡◌, ◌⊎◌, ◌&&◌, ◌||◌, ◌≤◌, ℕ, Bool, true, false, not, if◌then◌else◌, List, [], length, drop, nat_lt, ⊤, IsSome, is_some, map, ◌∷◌, Option, Some, None, Result, Ok, Err, codes, option_map, slice_get, string_bytes, unwrap_or, String}
 use Rattle.std.specs.Option.{option_map_or, option_or}
 use Rattle.std.specs.List.{AllByRecursion}
 use Rattle.std.specs.Str.{bytes_eq}
@@ -234,9 +234,18 @@ abbrev pub HasUnits : {A : Type 0} → UnitChoice A → Option Wanted → Type 0
 HasUnits choice None = chooses_units choice ≡ false
 HasUnits choice (Some wanted) = (chooses_units choice ≡ true) × HasChosen choice wanted
 
--- each part of the task is the value of its option, or are its values
+-- several logs are given, and a place of one
+abbrev pub has_place_of_several : Found → Bool
+has_place_of_several found = not (is_nil (all_values found (codes "at"))) && nat_lt 1 (length (all_values found (codes "LOG")))
+
+abbrev pub HasLogs : Found → Type 0
+HasLogs found = has_place_of_several found ≡ false
+
+-- each part of the task is the value of its option, or are its values; the further logs are all but the first
 pub record IsPartTask {A : Type 0} (found : Found) (direction : Order) (task : PartTask A) : Type 0 where
   pub sql : IsSqlTask found task.sql
+  pub further : map (λ path. path.now) task.further.items ≡ drop 1 (all_values found (codes "LOG"))
+  pub logs : HasLogs found
   pub part : (start stop : Option ℕ) × IsPositionOf (first_value found (codes "start-position")) start
       × IsPositionOf (first_value found (codes "stop-position")) stop × IsPart found start stop (selection_of task.part)
   pub order : task.order ≡ direction
@@ -342,11 +351,17 @@ abbrev pub RefusesUnits : {A : Type 0} → Found → ArgumentsFault A → Type 0
 RefusesUnits found fault = RefusesNumbers (all_values found (codes "at")) fault ⊎ RefusesTimes found fault
     ⊎ RefusesNumbers (all_values found (codes "thread")) fault ⊎ RefusesIds (all_values found (codes "gtid")) fault
 
+-- why no logs are asked for: there are several, and a place of one, or memory was refused
+abbrev pub RefusesLogs : {A : Type 0} → Found → ArgumentsFault A → Type 0
+RefusesLogs found (Wrong text) = has_place_of_several found ≡ true
+RefusesLogs found NotText = ⊥
+RefusesLogs found OutOfMemory = ⊤
+
 -- why no part of a log is asked for: a position, the number of bytes or a pair of schemas is wrong, the name of a zone may be, no transactions
--- are chosen for such a reason, or memory was refused
+-- are chosen for such a reason, a place is given with several logs, or memory was refused
 abbrev pub RefusesPart : {A : Type 0} → Found → ArgumentsFault A → Type 0
 RefusesPart found fault = RefusesRange found fault ⊎ RefusesSql found fault
-    ⊎ RefusesTime (first_value found (codes "time-zone")) fault ⊎ RefusesUnits found fault
+    ⊎ RefusesTime (first_value found (codes "time-zone")) fault ⊎ RefusesUnits found fault ⊎ RefusesLogs found fault
 
 -- the parser found the command of this name
 abbrev pub names : ArgMatches → List ℕ → Bool

@@ -12,9 +12,9 @@ binlog list [-d NAME] [-T NAME] [-j POS] [--stop-position POS]
                    [--utc | --time-zone NAME] [--json] LOG..
        binlog undo [--later LOG].. [--anyway] [-j POS] [--stop-position POS]
                    [-d NAME] [-T NAME]
-                   [--dry-run] [-r FILE [--force]] LOG
+                   [--dry-run] [-r FILE [--force]] LOG..
        binlog redo [-j POS] [--stop-position POS] [-d NAME] [-T NAME]
-                   [--dry-run] [-r FILE [--force]] LOG
+                   [--dry-run] [-r FILE [--force]] LOG..
        binlog plain [-r FILE [--force]] LOG
        binlog split [--size BYTES] [-r FILE [--force]] LOG
        binlog sql [--each-transaction] [--keep-times] [--size BYTES]
@@ -210,9 +210,10 @@ rows back, the last change first. Any mysql or mariadb client runs it, in one tr
 after any error nothing. What is undone are the changes of the transactions from one position to another,
 which binlog list shows. --at, --thread, --gtid, --start-datetime and --stop-datetime choose some of these
 transactions. The others stay, those between the chosen ones too.
-LOG is a server's log as it is, with checksums or without.
+LOG.. are logs of one server as they are, with checksums or without, in its order and without a gap.
+With several, -j is a position of the first, and --stop-position one of the last. --at goes with one.
 What can't be undone is refused, with its position, and then nothing is written.
-What came later is looked at, to the end of LOG and in the later logs that are given, and so is each
+What came later is looked at, to the end of the last LOG and in the later logs that are given, and so is each
 transaction between the chosen ones. If it changed rows that would be undone, or may have changed these
 tables in a way that can't be looked into, such as by ALTER TABLE, nothing is written, and lines say where.
 With --anyway nothing is looked at: later changes of these rows are overwritten.
@@ -225,7 +226,7 @@ binlog undo [--later LOG].. [--anyway] [-j POS] [--stop-position POS] [--at POS]
                    [--thread N].. [--gtid GTID].. [--start-datetime TIME] [--stop-datetime TIME]
                    [-d NAME] [-T [NAME.]NAME]
                    [--each-transaction] [--keep-times] [--rewrite-db FROM:TO].. [--size BYTES]
-                   [--utc | --time-zone NAME] [--binlog] [--dry-run] [-r FILE [--force]] LOG";
+                   [--utc | --time-zone NAME] [--binlog] [--dry-run] [-r FILE [--force]] LOG..";
 
 /// What there is to know of `undo`, with examples.
 pub const UNDO_AFTER_HELP: &str = "\
@@ -257,6 +258,8 @@ Examples:
       the transaction that starts at this position; --at can be given several times
   binlog undo --thread 13 binlog.000042 --dry-run
       all transactions of one connection of a client, and none of the others between them
+  binlog undo --thread 13 binlog.000042 binlog.000043 --dry-run
+      the same in two logs, of which the second goes on where the first ends
   binlog undo --gtid 283c105d-e730-11f1-97ff-02fc00000001:6 binlog.000042 | mysql
       the transaction with this GTID; 5-9 in place of 6: those from 5 to 9
   binlog undo --start-datetime '2026-11-21 02:02:00' --stop-datetime '2026-11-21 02:03:00' binlog.000042 --dry-run
@@ -286,8 +289,9 @@ Prints SQL that makes changes of LOG once more, in their order: after an undo th
 table that was brought back from a backup. Any mysql or mariadb client runs it, in one transaction: all of
 it, or after any error nothing. The changes are those of the transactions from one position to another,
 which binlog list shows. --at, --thread, --gtid, --start-datetime and --stop-datetime choose some of these
-transactions: only their changes are made. LOG is a server's log as it is, with checksums or without. What is
-after the stop position doesn't count.
+transactions: only their changes are made. LOG.. are logs of one server as they are, with checksums or without,
+in its order and without a gap. With several, -j is a position of the first, and --stop-position one of the
+last. --at goes with one. What is after the stop position doesn't count.
 What can't be made once more is refused, with its position, and then nothing is written.
 A report says what is made: on standard output with -r and with --dry-run, else on standard error.";
 
@@ -297,7 +301,7 @@ binlog redo [-j POS] [--stop-position POS] [--at POS]..
                    [--thread N].. [--gtid GTID].. [--start-datetime TIME] [--stop-datetime TIME]
                    [-d NAME] [-T [NAME.]NAME]
                    [--each-transaction] [--keep-times] [--rewrite-db FROM:TO].. [--size BYTES]
-                   [--utc | --time-zone NAME] [--binlog] [--dry-run] [-r FILE [--force]] LOG";
+                   [--utc | --time-zone NAME] [--binlog] [--dry-run] [-r FILE [--force]] LOG..";
 
 /// What there is to know of `redo`, with examples.
 pub const REDO_AFTER_HELP: &str = "\

@@ -125,7 +125,8 @@ fn undo_arguments<'a>(alloc: Global) -> Result<Command<'a>, AllocError> {
     let command = add_arguments(alloc, command, &UNITS)?;
     let command = add_arguments(alloc, command, &ZONES)?;
     let command = add_arguments(alloc, command, &WRITTEN)?;
-    add_arguments(alloc, command, &RESULTS)
+    let command = add_arguments(alloc, command, &RESULTS)?;
+    add_arguments(alloc, command, &LOGS)
 }
 
 /// The command `redo`, with its options.
@@ -138,7 +139,8 @@ fn redo_arguments<'a>(alloc: Global) -> Result<Command<'a>, AllocError> {
     let command = add_arguments(alloc, command, &UNITS)?;
     let command = add_arguments(alloc, command, &ZONES)?;
     let command = add_arguments(alloc, command, &WRITTEN)?;
-    add_arguments(alloc, command, &RESULTS)
+    let command = add_arguments(alloc, command, &RESULTS)?;
+    add_arguments(alloc, command, &LOGS)
 }
 
 /// The command `plain`, with its options.
@@ -147,7 +149,8 @@ fn plain_arguments<'a>(alloc: Global) -> Result<Command<'a>, AllocError> {
         .about(PLAIN_ABOUT)
         .override_usage(PLAIN_USAGE)
         .after_help(PLAIN_AFTER_HELP);
-    add_arguments(alloc, command, &RESULTS)
+    let command = add_arguments(alloc, command, &RESULTS)?;
+    add_arguments(alloc, command, &ONE_LOG)
 }
 
 /// The command `split`, with its options.
@@ -157,7 +160,8 @@ fn split_arguments<'a>(alloc: Global) -> Result<Command<'a>, AllocError> {
         .override_usage(SPLIT_USAGE)
         .after_help(SPLIT_AFTER_HELP);
     let command = add_arguments(alloc, command, &SIZES)?;
-    add_arguments(alloc, command, &RESULTS)
+    let command = add_arguments(alloc, command, &RESULTS)?;
+    add_arguments(alloc, command, &ONE_LOG)
 }
 
 /// The command `sql`, with its options.
@@ -167,11 +171,12 @@ fn sql_arguments<'a>(alloc: Global) -> Result<Command<'a>, AllocError> {
         .override_usage(SQL_USAGE)
         .after_help(SQL_AFTER_HELP);
     let command = add_arguments(alloc, command, &OF_SQL)?;
-    add_arguments(alloc, command, &RESULTS)
+    let command = add_arguments(alloc, command, &RESULTS)?;
+    add_arguments(alloc, command, &ONE_LOG)
 }
 
-/// Where a result goes, and the log.
-static RESULTS: [Described<'static>; 3] = [
+/// Where a result goes.
+static RESULTS: [Described<'static>; 2] = [
     Described {
         name: RESULT_FILE,
         short: Some('r'),
@@ -184,13 +189,23 @@ static RESULTS: [Described<'static>; 3] = [
         help: "With -r: replace FILE if it is there",
         ..FLAG
     },
-    Described {
-        name: LOG,
-        takes: Takes::Argument,
-        help: "The binary log, a file",
-        ..FLAG
-    },
 ];
+
+/// The log.
+static ONE_LOG: [Described<'static>; 1] = [Described {
+    name: LOG,
+    takes: Takes::Argument,
+    help: "The binary log, a file",
+    ..FLAG
+}];
+
+/// The logs.
+static LOGS: [Described<'static>; 1] = [Described {
+    name: LOG,
+    takes: Takes::Arguments,
+    help: "The binary logs, files, in the order in which the server wrote them",
+    ..FLAG
+}];
 
 /// The size of statements.
 static SIZES: [Described<'static>; 1] = [Described {

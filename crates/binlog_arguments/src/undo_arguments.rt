@@ -1,15 +1,15 @@
 //! Which arguments of `undo` and `redo` mean what.
 
-ghost use Rattle.std.specs.Prelude.{◌≡◌, IfErr, IfOk, map};
+ghost use Rattle.std.specs.Prelude.{◌≡◌, IfErr, IfOk, codes, drop, map};
 ghost use Rattle.clap.specs.Words.{found_of};
 ghost use Rattle.blog_run.specs.Writing.{HasShortWriting};
 ghost use Rattle.blog_sql.specs.Changed.{HaveShortNames};
 ghost use Rattle.blog_trans.specs.Selection.{selection_of};
-ghost use Rattle.binlog_arguments.specs.Request.{HasPartWriting, IsPart, IsPartTask, RefusesPart, later_paths, looks_later};
+ghost use Rattle.binlog_arguments.specs.Request.{HasPartWriting, HasLogs, IsPart, IsPartTask, IsWrong, RefusesLogs, RefusesPart, all_values, later_paths, looks_later};
 
 use crate::arguments::{ArgumentsFault, is_given};
 use crate::list_arguments::{read_paths, read_range, read_zone};
-use crate::options::{ANYWAY, AS_LOG, DATABASE, DRY_RUN, LATER, TABLE};
+use crate::options::{ANYWAY, AS_LOG, AT, DATABASE, DRY_RUN, LATER, LOG, TABLE};
 use crate::sql_arguments::{SqlTask, read_sql};
 use crate::unit_choice::{UnitChoice, read_unit_choice};
 use crate::zones::Zone;
@@ -17,16 +17,19 @@ use blog_choice::TableName;
 use blog_row::Order;
 use blog_run::Writing;
 use blog_trans::Selection;
+use clap::error::ErrorKind;
 use clap::{ArgMatches, Command};
 use std::alloc::{AllocError, Allocator};
 use std::rt::{Env, Files};
 
-/// The changes of a part of a log, which are undone, or made once more.
+/// The changes of a part of logs, which are undone, or made once more.
 #[derive(Drop)]
 pub struct PartTask<'a, A: Allocator> {
-    /// The log, where what is written goes, and how it is printed as SQL.
+    /// The first log, where what is written goes, and how it is printed as SQL.
     pub sql: SqlTask<'a, A>,
-    /// The part, by places in the log.
+    /// The paths of the further logs, in order.
+    pub further: Vec<&'a str, A>,
+    /// The part: its start is a place in the first log, and its stop one in the last.
     pub part: Selection<'a>,
     /// Which of its transactions are chosen.
     pub units: UnitChoice<'a, A>,
@@ -78,8 +81,10 @@ pub(crate) fn read_part<'a, R: Files + Env + AllocGlobal, A: Allocator + Copy>(
     let sql = read_sql(alloc, command, found)?;
     let zone = read_zone(rt, alloc, command, found)?;
     let units = read_unit_choice(alloc, command, found, zone.time_zone())?;
+    let further = read_further(alloc, command, found)?;
     Ok(PartTask {
         sql,
+        further,
         part: part_of(found, range.start, range.stop),
         units,
         order,
@@ -100,6 +105,42 @@ fn looks(found: &ArgMatches<'_>, order: Order) -> bool
         Order::Backward => !is_given(found, ANYWAY),
     }
 }
+
+/// The paths of all logs but the first. Where a place of a log is given there is one log.
+fn read_further<'a, A: Allocator + Copy>(
+    alloc: A,
+    command: &mut Command<'a>,
+    found: &ArgMatches<'a>,
+) -> Result<Vec<&'a str, A>, ArgumentsFault<A>>
+    ensures paths { IfOk result (λ paths. map (λ path. path.now) paths.items ≡ drop 1 (all_values (found_of found.now) (codes "LOG"))) }
+    ensures one { IfOk result (λ _. HasLogs (found_of found.now)) }
+    ensures refused { IfErr result (RefusesLogs (found_of found.now)) }
+{
+    let logs = read_paths(alloc, found, LOG)?;
+    let places = read_paths(alloc, found, AT)?;
+    if !places.is_empty() && logs.len() > 1 {
+        return Err(wrong_place(alloc, command)?);
+    }
+    let mut further = Vec::new(alloc);
+    if let Some((_, rest)) = logs.split_first() {
+        further.extend_from_slice(rest)?;
+    }
+    Ok(further)
+}
+
+/// Why no place is given with several logs.
+fn wrong_place<A: Allocator + Copy>(
+    alloc: A,
+    command: &mut Command<'_>,
+) -> Result<ArgumentsFault<A>, AllocError>
+    ensures { IfOk result (λ fault. IsWrong fault) }
+{
+    let error = command.error(ErrorKind::ArgumentConflict, AT_ALONE)?;
+    Ok(ArgumentsFault::Wrong(error.to_string(alloc)?))
+}
+
+/// The same, as it is told.
+const AT_ALONE: &str = "the argument '--at <POS>' cannot be used with several logs";
 
 /// The paths of later logs: `redo` has none.
 fn read_later<'a, A: Allocator>(

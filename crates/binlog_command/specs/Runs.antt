@@ -1,6 +1,7 @@
 -- What a run does to the bytes of its devices. Of a device that does not tell its bytes these definitions say that there
 -- are such bytes.
-use Rattle.std.specs.Prelude.{◌≡◌, ◌⊎◌, ◌||◌, ◌<◌, ℕ, Bool, true, false, List, [], ◌∷◌, length, ⊤, String, Vec, Option, None, Some, Result, Ok, Err, slice_get}
+use Rattle.std.specs.Prelude.{◌≡◌, ◌⊎◌, ◌||◌, ◌<◌, ◌-◌, ◌==◌, ℕ, if◌then◌else◌, option_map, Bool, true, false, List, [], ◌∷◌, length, ⊤, String, Vec, Option, None, Some, Result, Ok, Err, slice_get}
+use Rattle.std.specs.Option.{option_map_or}
 use Rattle.std.specs.Io.KnownBytes.{Keeps, Appends}
 use Rattle.blog_event.specs.declared.fault.Fault.{Fault}
 use Rattle.blog_event.specs.declared.fault.Fault.TheVariants.{TooLong, OutOfMemory as NoMemory}
@@ -26,14 +27,15 @@ use Rattle.binlog_arguments.specs.Request.{HasPartWriting, HasTask, HasUnits, as
 use Rattle.binlog_arguments.specs.declared.undo_arguments.PartTask.{PartTask}
 use Rattle.undo_run.specs.Parts.{IsPlaced}
 use Rattle.undo_run.specs.Writes.{ReportsPart, WritesPart}
-use Rattle.undo_run.specs.declared.fault.PartFault.{PartFault}
+use Rattle.undo_run.specs.declared.fault.LogsFault.{LogsFault}
+use Rattle.undo_run.specs.declared.fault.LogsFault.TheVariants.{Opening, Further, Part}
 use Rattle.undo_run.specs.declared.fault.PartFault.TheVariants.{LaterLog, NoUnitWithGtid}
 use Rattle.undo_run.specs.declared.request.UnitRequest.{UnitRequest}
 use Rattle.binlog_arguments.specs.declared.unit_choice.UnitChoice.{UnitChoice}
 use Rattle.binlog_arguments.specs.Zones.{IsZoneOf}
 use Rattle.binlog_arguments.specs.declared.list_arguments.ListTask.{ListTask}
 use Rattle.binlog_command.specs.declared.commands.Failure.{Failure}
-use Rattle.binlog_command.specs.declared.commands.Failure.TheVariants.{NewLog as NoNewLog, List as NoList, Part as NoPart, Later as NoLater, NoGtid}
+use Rattle.binlog_command.specs.declared.commands.Failure.TheVariants.{NewLog as NoNewLog, List as NoList, Part as NoPart, First as NoFirst, Further as NoFurther, Later as NoLater, NoGtid}
 use Rattle.binlog_command.specs.declared.commands.NewLogFault.{NewLogFault}
 use Rattle.binlog_command.specs.declared.commands.NewLogFault.TheVariants.{Run, Sums, Split as Cut, NoSchema}
 use Rattle.binlog_arguments.specs.declared.arguments.Making.{Making}
@@ -151,21 +153,34 @@ abbrev pub may_report : {A B E : Type 0} → Result (Vec (String A) B) E → Boo
 may_report (Ok arguments) = asks_for_list arguments.items || asks_for_part arguments.items
 may_report (Err error) = false
 
--- a run fails with this fault of its part: in place of the number of a later log it has its path, and in place of that of a global transaction
--- id its text
-abbrev pub IsFailureOf : {A : Type 0} → PartTask A → PartFault A → Failure A → Type 0
-IsFailureOf task fault (NoPart same) = same ≡ fault
-IsFailureOf task fault (NoLater path cause) = (n : ℕ) × (slice_get task.later.items n ≡ Some path) × (fault ≡ LaterLog n cause)
-IsFailureOf task fault (NoGtid text) = (n : ℕ) × (slice_get task.units.gtid_texts.items n ≡ Some text) × (fault ≡ NoUnitWithGtid n)
+-- the path of the log of a number, from 0 on; and where there are several
+abbrev pub log_path : {A : Type 0} → PartTask A → ℕ → List ℕ
+log_path task n = if n == 0 then task.sql.log.now else option_map_or (λ path. path.now) (slice_get task.further.items (n - 1)) task.sql.log.now
+
+abbrev pub shown_beside : {X : Type 0} → List X → List ℕ → Option (List ℕ)
+shown_beside [] path = None
+shown_beside (x ∷ xs) path = Some path
+
+abbrev pub shown_path : {A : Type 0} → PartTask A → ℕ → Option (List ℕ)
+shown_path task n = shown_beside task.further.items (log_path task n)
+
+-- a run fails with this fault of its part: in place of the number of a log it has its path, and in place of that of a global transaction id its
+-- text
+abbrev pub IsFailureOf : {A : Type 0} → PartTask A → LogsFault A → Failure A → Type 0
+IsFailureOf task fault (NoPart path same) = (n : ℕ) × (fault ≡ Part n same) × (option_map (λ p. p.now) path ≡ shown_path task n)
+IsFailureOf task fault (NoFirst path cause) = (fault ≡ Opening cause) × (option_map (λ p. p.now) path ≡ shown_path task 0)
+IsFailureOf task fault (NoFurther path before cause) = (n : ℕ) × (fault ≡ Further n cause) × (path.now ≡ log_path task n) × (before.now ≡ log_path task (n - 1))
+IsFailureOf task fault (NoLater path cause) = (n k : ℕ) × (slice_get task.later.items n ≡ Some path) × (fault ≡ Part k (LaterLog n cause))
+IsFailureOf task fault (NoGtid text) = (n k : ℕ) × (slice_get task.units.gtid_texts.items n ≡ Some text) × (fault ≡ Part k (NoUnitWithGtid n))
 IsFailureOf task fault failure = ⊥
 
 -- the outcome is that of writing a part of a log, of which this holds
-abbrev pub OfTold : {A : Type 0} → PartTask A → (Result (Vec ℕ A) (PartFault A) → Type 0) → Result (Vec ℕ A) (Failure A) → Type 0
+abbrev pub OfTold : {A : Type 0} → PartTask A → (Result (Vec ℕ A) (LogsFault A) → Type 0) → Result (Vec ℕ A) (Failure A) → Type 0
 OfTold task P (Ok told) = P (Ok told)
-OfTold task P (Err failure) = (fault : PartFault _) × IsFailureOf task fault failure × P (Err fault)
+OfTold task P (Err failure) = (fault : LogsFault _) × IsFailureOf task fault failure × P (Err fault)
 
 -- the same of an outcome without a report
-abbrev pub OfPart : {A : Type 0} → PartTask A → (Result (Vec ℕ A) (PartFault A) → Type 0) → Result Unit (Failure A) → Type 0
+abbrev pub OfPart : {A : Type 0} → PartTask A → (Result (Vec ℕ A) (LogsFault A) → Type 0) → Result Unit (Failure A) → Type 0
 OfPart task P (Ok done) = (told : Vec ℕ _) × P (Ok told)
 OfPart task P (Err failure) = OfTold task P (Err failure)
 
@@ -175,18 +190,18 @@ HasRequest choice None = HasUnits choice None
 HasRequest choice (Some asked) = HasUnits choice (Some asked.wanted) × (asked.at.now ≡ choice.at.items)
 
 -- a task's part is written, or the chosen transactions of that, as it is written at this time
-abbrev pub WritesTask : {A R : Type 0} → (R → Option (List ℕ)) → List (GivenLog R) → PartTask A → ℕ → Option (List ℕ) → Option (List ℕ) → Option (List ℕ) → Option (List ℕ) → Result Unit (Failure A) → Type 0
-WritesTask known givens task now old new had has result = (how : Writing) × HasPartWriting task now how × ((asked : Option UnitRequest) × HasRequest task.units asked
-    × OfPart task (WritesPart task.looks known givens how task.sql.log.now (selection_of task.part) asked old new had has) result)
+abbrev pub WritesTask : {A R : Type 0} → (R → Option (List ℕ)) → List (GivenLog R) → List (GivenLog R) → PartTask A → ℕ → Option (List ℕ) → Option (List ℕ) → Option (List ℕ) → Option (List ℕ) → Result Unit (Failure A) → Type 0
+WritesTask known givens further task now old new had has result = (how : Writing) × HasPartWriting task now how × ((asked : Option UnitRequest) × HasRequest task.units asked
+    × OfPart task (WritesPart task.looks known givens how task.sql.log.now further (selection_of task.part) asked old new had has) result)
 
 -- this is reported of it, of the log that was read
-abbrev pub IsToldOf : {A R : Type 0} → (R → Option (List ℕ)) → List (GivenLog R) → Writing → PartTask A → Option UnitRequest → Option (List ℕ) → Option (List ℕ) → List ℕ → Type 0
-IsToldOf known givens how task asked old new told = ReportsPart task.looks known givens how task.sql.log.now (selection_of task.part) asked old new told
+abbrev pub IsToldOf : {A R : Type 0} → (R → Option (List ℕ)) → List (GivenLog R) → List (GivenLog R) → Writing → PartTask A → Option UnitRequest → Option (List ℕ) → Option (List ℕ) → List ℕ → Type 0
+IsToldOf known givens further how task asked old new told = ReportsPart task.looks known givens how task.sql.log.now further (selection_of task.part) asked old new told
 
 -- and it is written
-abbrev pub TellsPart : {A R : Type 0} → (R → Option (List ℕ)) → List (GivenLog R) → PartTask A → ℕ → Option (List ℕ) → Option (List ℕ) → Option (List ℕ) → Option (List ℕ) → Type 0
-TellsPart known givens task now old new had has = (how : Writing) × HasPartWriting task now how × ((asked : Option UnitRequest) × HasRequest task.units asked
-    × ((told : List ℕ) × IsToldOf known givens how task asked old new told × Appends had has told))
+abbrev pub TellsPart : {A R : Type 0} → (R → Option (List ℕ)) → List (GivenLog R) → List (GivenLog R) → PartTask A → ℕ → Option (List ℕ) → Option (List ℕ) → Option (List ℕ) → Option (List ℕ) → Type 0
+TellsPart known givens further task now old new had has = (how : Writing) × HasPartWriting task now how × ((asked : Option UnitRequest) × HasRequest task.units asked
+    × ((told : List ℕ) × IsToldOf known givens further how task asked old new told × Appends had has told))
 
 -- ---- lists
 

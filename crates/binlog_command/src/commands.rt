@@ -11,7 +11,7 @@ ghost use Rattle.binlog_command.specs.Status.{status_of};
 ghost use Rattle.blog_source.specs.code.SourceView.{end_of, log_of};
 ghost use Rattle.binlog_command.specs.Runs.{OpensWhole, WritesSource, MayFollowList, OfNewLog, WritesNewLog, is_failed_read, is_failed_write, may_list, may_report};
 ghost use Rattle.blog_device.specs.Devices.{is_read_fault, is_write_fault};
-ghost use Rattle.binlog_command.specs.declared.commands.Failure.TheVariants.{Arguments, List, NewLog, Part, ResultFile};
+ghost use Rattle.binlog_command.specs.declared.commands.Failure.TheVariants.{Arguments, List, NewLog, ResultFile};
 ghost use Rattle.blog_event.specs.declared.fault.Fault.TheVariants.{OutOfMemory};
 ghost use Rattle.list_run.specs.declared.fault.ListFault.TheVariants.{Run as OfRun};
 ghost use Rattle.blog_device.specs.declared.fault.RunFault.TheVariants.{Log as OfLog};
@@ -39,7 +39,7 @@ use std::io;
 use std::io::{Read, Write};
 use std::process::ExitCode;
 use std::rt::{Env, Files};
-use undo_run::{OpeningFault, PartFault};
+use undo_run::{FurtherFault, OpeningFault, PartFault};
 
 /// What the program knows of its own process.
 #[derive(Clone, Copy, Debug)]
@@ -69,8 +69,12 @@ pub enum Failure<'a, A: Allocator> {
     NewLog(NewLogFault<A>),
     /// The log of the first path is that of the second.
     GivenTwice(&'a str, &'a str),
-    /// The part of a log isn't written.
-    Part(PartFault<A>),
+    /// The part of logs isn't written. The path is that of the log in which the fault has its place, where there are several.
+    Part(Option<&'a str>, PartFault<A>),
+    /// The log can't be read, so the part isn't written. The path is its own, where there are several.
+    First(Option<&'a str>, OpeningFault),
+    /// The log of the first path can't be read behind that of the second, so the part isn't written.
+    Further(&'a str, &'a str, FurtherFault),
     /// The later log of this path can't be read, so the part isn't written.
     Later(&'a str, OpeningFault),
     /// No unit of the part has this global transaction id, or one of these, so the part isn't written.
@@ -138,14 +142,6 @@ impl<'a, A: Allocator> From<NewLogFault<A>> for Failure<'a, A> {
 
     fn from(fault: NewLogFault<A>) -> Failure<'a, A> {
         Failure::NewLog(fault)
-    }
-}
-
-impl<'a, A: Allocator> From<PartFault<A>> for Failure<'a, A> {
-    ghost from_gives = { λ fault failure. failure ≡ Part fault };
-
-    fn from(fault: PartFault<A>) -> Failure<'a, A> {
-        Failure::Part(fault)
     }
 }
 

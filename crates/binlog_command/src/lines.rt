@@ -12,7 +12,7 @@ use result_file::FileFault;
 use std::alloc::Allocator;
 use std::fmt;
 use std::io::Write;
-use undo_run::{OpeningFault, PartFault};
+use undo_run::{FurtherFault, OpeningFault, PartFault};
 
 impl<A: Allocator> Failure<'_, A> {
     /// Prints the failure, below what it comes with. What can't be printed is dropped.
@@ -30,8 +30,8 @@ impl<A: Allocator> Failure<'_, A> {
     /// The lines above the failure's own: where what came later touches the part of a log.
     fn lines_above(&self) -> &[u8] {
         match self {
-            Failure::Part(PartFault::ChangedSince(_, lines)) => lines,
-            Failure::Part(PartFault::UnknownSince(lines)) => lines,
+            Failure::Part(_, PartFault::ChangedSince(_, lines)) => lines,
+            Failure::Part(_, PartFault::UnknownSince(lines)) => lines,
             _ => &[],
         }
     }
@@ -64,7 +64,17 @@ impl<A: Allocator> fmt::Display for Failure<'_, A> {
                 f,
                 "the log is given twice: {path} is {same}: give it once"
             ),
-            Failure::Part(fault) => print_part_fault(f, fault),
+            Failure::Part(Some(path), fault) if has_place(fault) => {
+                write!(f, "{path}: ")?;
+                print_part_fault(f, fault)
+            }
+            Failure::Part(_, fault) => print_part_fault(f, fault),
+            Failure::First(None, fault) => print_opening_fault(f, fault),
+            Failure::First(Some(path), fault) => {
+                write!(f, "{path}: ")?;
+                print_opening_fault(f, fault)
+            }
+            Failure::Further(path, before, fault) => print_further_fault(f, path, before, fault),
             Failure::Later(path, fault) => {
                 write!(f, "{path}: ")?;
                 print_opening_fault(f, fault)
@@ -90,6 +100,39 @@ impl<A: Allocator> fmt::Display for Failure<'_, A> {
             Failure::NewLog(NewLogFault::Split(SplitFault::TooLong)) => f.write_str(CUT_TOO_LONG),
             Failure::NewLog(NewLogFault::NoSchema(text)) => f.write_str(text.as_str()),
         }
+    }
+}
+
+/// Whether a fault has a place in one of the logs.
+fn has_place<A: Allocator>(fault: &PartFault<A>) -> bool {
+    match fault {
+        PartFault::Sums(_) | PartFault::NoEventAt(_) | PartFault::NoUnitAt(_) => true,
+        PartFault::Log(fault) => fault.at().is_some(),
+        _ => false,
+    }
+}
+
+/// Why a log can't be read behind another.
+fn print_further_fault<W: fmt::Write>(
+    f: &mut fmt::Formatter<W>,
+    path: &str,
+    before: &str,
+    fault: &FurtherFault,
+) -> fmt::Result {
+    match fault {
+        FurtherFault::Opening(fault) => {
+            write!(f, "{path}: ")?;
+            print_opening_fault(f, fault)
+        }
+        FurtherFault::Damaged(fault) => write!(f, "{before}: {fault}: {}", advice::of_sums(fault)),
+        FurtherFault::OtherServer => write!(
+            f,
+            "OtherServer: {path} is of another server than {before}, or of another version: give logs of one server"
+        ),
+        FurtherFault::TooLong => write!(
+            f,
+            "TooLong: with {path} the logs have more than 4294967295 bytes: give fewer at a time"
+        ),
     }
 }
 

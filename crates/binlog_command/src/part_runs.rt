@@ -1,14 +1,15 @@
 //! Runs of `undo` and `redo`.
 
-ghost use Rattle.std.specs.Prelude.{◌≡◌, ◌<◌, IfErr, IfOk, None, OnErr, OnOk, false, length, true};
+ghost use Rattle.std.specs.Prelude.{◌≡◌, ◌<◌, IfErr, IfOk, None, OnErr, OnOk, false, length, option_map, true};
 ghost use Rattle.std.specs.Io.KnownBytes.{Appends};
 ghost use Rattle.blog_device.specs.Watched.{device_of, has_failed};
 ghost use Rattle.blog_run.specs.Writing.{HasShortWriting};
 ghost use Rattle.blog_sql.specs.Changed.{HaveShortNames};
 ghost use Rattle.blog_trans.specs.Selection.{selection_of};
-ghost use Rattle.binlog_command.specs.Runs.{HasRequest, IsFailureOf, IsToldOf, OfTold, TellsPart, WritesTask};
+ghost use Rattle.binlog_command.specs.Runs.{HasRequest, IsFailureOf, IsToldOf, OfTold, TellsPart, WritesTask, log_path, shown_path};
 ghost use Rattle.binlog_command.specs.Status.{status_of};
 ghost use Rattle.undo_run.specs.Writes.{WritesPart};
+ghost use Rattle.undo_run.specs.declared.fault.LogsFault.TheVariants.{Part};
 
 use crate::commands::{Failure, Process};
 use crate::log_file::open_logs;
@@ -21,7 +22,7 @@ use std::alloc::{AllocError, Allocator};
 use std::io;
 use std::io::{Read, Write};
 use std::rt::Files;
-use undo_run::{PartFault, UnitRequest, write_part};
+use undo_run::{LogsFault, PartFault, UnitRequest, write_part};
 
 /// A device that takes everything, and keeps nothing.
 #[derive(Drop)]
@@ -37,7 +38,7 @@ impl Write for Nowhere {
     }
 }
 
-/// Opens the log of a task and its later logs, of which no two may be the same file, and runs it.
+/// Opens the logs of a task and its later logs, of which no two may be the same file, and runs it.
 pub(crate) fn run_part_of<'a, R: Files, A: Allocator + Copy, O: Write, E: Write>(
     rt: &R,
     alloc: A,
@@ -53,19 +54,48 @@ pub(crate) fn run_part_of<'a, R: Files, A: Allocator + Copy, O: Write, E: Write>
     let paths = paths_of(alloc, task)?;
     let mut logs = open_logs(rt, alloc, &paths)?;
     let mut given = logs.remove(0);
+    let parts = split_logs(alloc, logs, task.further.len())?;
     run_part(
         rt,
         alloc,
         process,
         &mut given.reader,
-        logs,
+        parts.further,
+        parts.later,
         task,
         output,
         errors,
     )
 }
 
-/// The paths of a task's log and of its later logs.
+/// Logs behind a first one.
+#[derive(Drop)]
+struct OpenedLogs<'a, L: Read, A: Allocator> {
+    /// Those of which a part is taken, too.
+    further: Vec<GivenLog<'a, L>, A>,
+    /// Those of which what came later is looked at.
+    later: Vec<GivenLog<'a, L>, A>,
+}
+
+/// The logs behind the first: so many further ones, and the later ones.
+fn split_logs<'a, L: Read + Drop, A: Allocator + Copy>(
+    alloc: A,
+    logs: Vec<GivenLog<'a, L>, A>,
+    count: usize,
+) -> Result<OpenedLogs<'a, L, A>, AllocError> {
+    let mut further = Vec::new(alloc);
+    let mut later = Vec::new(alloc);
+    for given in logs {
+        if further.len() < count {
+            further.push(given)?;
+        } else {
+            later.push(given)?;
+        }
+    }
+    Ok(OpenedLogs { further, later })
+}
+
+/// The paths of a task's logs and of its later logs.
 fn paths_of<'a, A: Allocator>(
     alloc: A,
     task: &PartTask<'a, A>,
@@ -74,11 +104,12 @@ fn paths_of<'a, A: Allocator>(
 {
     let mut paths = Vec::new(alloc);
     paths.push(task.sql.log)?;
+    paths.extend_from_slice(&task.further)?;
     paths.extend_from_slice(&task.later)?;
     Ok(paths)
 }
 
-/// Undoes a part of the log that is read, or makes it once more: writes that to standard output, to the result file, or nowhere. Reports
+/// Undoes a part of the logs that are read, or makes it once more: writes that to standard output, to the result file, or nowhere. Reports
 /// it on standard output, unless what is written goes there; else on standard error.
 pub(crate) fn run_part<
     'a,
@@ -93,6 +124,7 @@ pub(crate) fn run_part<
     alloc: A,
     process: Process,
     reader: &mut Watched<D>,
+    further: Vec<GivenLog<'a, L>, A>,
     later: Vec<GivenLog<'a, L>, A>,
     task: &PartTask<'a, A>,
     output: &mut Watched<O>,
@@ -101,9 +133,9 @@ pub(crate) fn run_part<
     requires { HaveShortNames task.now.sql.schemas.items }
     ensures status { IfErr result (λ f. status_of f ≡ 1) }
     ensures refused { OnErr result (has_failed output.new ≡ false → output.new ≡ output.old) }
-    ensures writes { task.now.sql.result_file ≡ None → task.now.dry_run ≡ false → WritesTask L.remaining later.entry.items task.now process.began (D.remaining (device_of reader.old)) (D.remaining (device_of reader.new))
+    ensures writes { task.now.sql.result_file ≡ None → task.now.dry_run ≡ false → WritesTask L.remaining later.entry.items further.entry.items task.now process.began (D.remaining (device_of reader.old)) (D.remaining (device_of reader.new))
         (O.contents (device_of output.old)) (O.contents (device_of output.new)) result }
-    ensures tells { (task.now.sql.result_file ≡ None → task.now.dry_run ≡ true) → OnOk result (TellsPart L.remaining later.entry.items task.now process.began (D.remaining (device_of reader.old)) (D.remaining (device_of reader.new))
+    ensures tells { (task.now.sql.result_file ≡ None → task.now.dry_run ≡ true) → OnOk result (TellsPart L.remaining later.entry.items further.entry.items task.now process.began (D.remaining (device_of reader.old)) (D.remaining (device_of reader.new))
         (O.contents (device_of output.old)) (O.contents (device_of output.new))) }
 {
     let writing = task.writing(process.began);
@@ -114,6 +146,7 @@ pub(crate) fn run_part<
             alloc,
             process,
             reader,
+            further,
             later,
             task,
             units,
@@ -124,7 +157,9 @@ pub(crate) fn run_part<
     }
     match task.sql.result_file {
         None => {
-            let told = part_to(alloc, process, reader, later, task, units, &writing, output)?;
+            let told = part_to(
+                alloc, process, reader, further, later, task, units, &writing, output,
+            )?;
             // what can't be printed is dropped
             let _ = put(errors, &told);
             Ok(())
@@ -137,7 +172,7 @@ pub(crate) fn run_part<
                 process: process.id,
             };
             let told = part_to_file(
-                rt, alloc, process, reader, later, task, units, &writing, &wanted,
+                rt, alloc, process, reader, further, later, task, units, &writing, &wanted,
             )?;
             tell(&told, output)
         }
@@ -157,11 +192,12 @@ fn request<'u, A: Allocator>(units: &'u UnitChoice<'_, A>) -> Option<UnitRequest
     }
 }
 
-/// Writes the part of a task's log to a device, or the units of it that are asked for, and returns the report.
+/// Writes the part of a task's logs to a device, or the units of it that are asked for, and returns the report.
 fn part_to<'a, A: Allocator + Copy, D: Read, L: Read + Drop, W: Write>(
     alloc: A,
     process: Process,
     reader: &mut Watched<D>,
+    further: Vec<GivenLog<'a, L>, A>,
     later: Vec<GivenLog<'a, L>, A>,
     task: &PartTask<'a, A>,
     units: Option<UnitRequest<'_>>,
@@ -169,8 +205,9 @@ fn part_to<'a, A: Allocator + Copy, D: Read, L: Read + Drop, W: Write>(
     writer: &mut Watched<W>,
 ) -> Result<Vec<u8, A>, Failure<'a, A>>
     requires { HasShortWriting writing.now }
-    ensures writes { OfTold task.now (WritesPart task.now.looks L.remaining later.entry.items writing.now task.now.sql.log.now (selection_of task.now.part) units.entry (D.remaining (device_of reader.old)) (D.remaining (device_of reader.new))
+    ensures writes { OfTold task.now (WritesPart task.now.looks L.remaining later.entry.items writing.now task.now.sql.log.now further.entry.items (selection_of task.now.part) units.entry (D.remaining (device_of reader.old)) (D.remaining (device_of reader.new))
         (W.contents (device_of writer.old)) (W.contents (device_of writer.new))) result }
+    ensures told { IfOk result (λ told. IsToldOf L.remaining later.entry.items further.entry.items writing.now task.now units.entry (D.remaining (device_of reader.old)) (D.remaining (device_of reader.new)) told.items) }
     ensures untouched { OnErr result (has_failed writer.new ≡ false → writer.new ≡ writer.old) }
     ensures status { IfErr result (λ f. status_of f ≡ 1) }
 {
@@ -178,6 +215,7 @@ fn part_to<'a, A: Allocator + Copy, D: Read, L: Read + Drop, W: Write>(
         alloc,
         reader,
         task.sql.log.as_bytes(),
+        further,
         &task.part,
         units,
         task.looks,
@@ -192,30 +230,74 @@ fn part_to<'a, A: Allocator + Copy, D: Read, L: Read + Drop, W: Write>(
     }
 }
 
-/// Why a part isn't written, with the path of the later log at fault, or the global transaction id.
-fn failure_of<'a, A: Allocator>(task: &PartTask<'a, A>, fault: PartFault<A>) -> Failure<'a, A>
+/// The path of the log of a number, from 0 on.
+fn path_of<'a, A: Allocator>(task: &PartTask<'a, A>, n: usize) -> &'a str
+    ensures { result.now ≡ log_path task.now n }
+{
+    if n == 0 {
+        return task.sql.log;
+    }
+    match task.further.get(n - 1) {
+        Some(path) => path,
+        None => task.sql.log,
+    }
+}
+
+/// The path of the log of a number, where there are several.
+fn shown_path<'a, A: Allocator>(task: &PartTask<'a, A>, n: usize) -> Option<&'a str>
+    ensures { option_map (λ path. path.now) result ≡ shown_path task.now n }
+{
+    match task.further.first() {
+        None => None,
+        Some(_) => Some(path_of(task, n)),
+    }
+}
+
+/// Why a part isn't written, with the path of the log at fault, or the global transaction id.
+fn failure_of<'a, A: Allocator>(task: &PartTask<'a, A>, fault: LogsFault<A>) -> Failure<'a, A>
     ensures told { IsFailureOf task.now fault result }
+    ensures status { status_of result ≡ 1 }
+{
+    match fault {
+        LogsFault::Opening(fault) => Failure::First(shown_path(task, 0), fault),
+        LogsFault::Further(n, fault) => Failure::Further(
+            path_of(task, n),
+            path_of(task, n.saturating_sub(1)),
+            fault,
+        ),
+        LogsFault::Part(number, fault) => part_failure_of(task, number, fault),
+    }
+}
+
+/// The same of logs that were read. A place of the fault is one of the log of a number.
+fn part_failure_of<'a, A: Allocator>(
+    task: &PartTask<'a, A>,
+    number: usize,
+    fault: PartFault<A>,
+) -> Failure<'a, A>
+    ensures told { IsFailureOf task.now (Part number fault) result }
     ensures status { status_of result ≡ 1 }
 {
     match fault {
         PartFault::LaterLog(n, fault) => match task.later.get(n) {
             Some(path) => Failure::Later(path, fault),
-            None => Failure::Part(PartFault::LaterLog(n, fault)),
+            None => Failure::Part(shown_path(task, number), PartFault::LaterLog(n, fault)),
         },
         PartFault::NoUnitWithGtid(n) => match task.units.gtid_texts.get(n) {
             Some(text) => Failure::NoGtid(text),
-            None => Failure::Part(PartFault::NoUnitWithGtid(n)),
+            None => Failure::Part(shown_path(task, number), PartFault::NoUnitWithGtid(n)),
         },
-        fault => Failure::Part(fault),
+        fault => Failure::Part(shown_path(task, number), fault),
     }
 }
 
-/// Writes the part of a task's log, or the units of it that are asked for, to the result file, which has its name once it is whole, and returns the report.
+/// Writes the part of a task's logs, or the units of it that are asked for, to the result file, which has its name once it is whole, and returns the report.
 fn part_to_file<'a, R: Files, A: Allocator + Copy, D: Read, L: Read + Drop>(
     rt: &R,
     alloc: A,
     process: Process,
     reader: &mut Watched<D>,
+    further: Vec<GivenLog<'a, L>, A>,
     later: Vec<GivenLog<'a, L>, A>,
     task: &PartTask<'a, A>,
     units: Option<UnitRequest<'_>>,
@@ -224,13 +306,14 @@ fn part_to_file<'a, R: Files, A: Allocator + Copy, D: Read, L: Read + Drop>(
 ) -> Result<Vec<u8, A>, Failure<'a, A>>
     requires { HasShortWriting writing.now }
     ensures status { IfErr result (λ f. status_of f ≡ 1) }
-    ensures told { IfOk result (λ told. IsToldOf L.remaining later.entry.items writing.now task.now units.entry (D.remaining (device_of reader.old)) (D.remaining (device_of reader.new)) told.items) }
+    ensures told { IfOk result (λ told. IsToldOf L.remaining later.entry.items further.entry.items writing.now task.now units.entry (D.remaining (device_of reader.old)) (D.remaining (device_of reader.new)) told.items) }
 {
     let mut file = ResultFile::create(rt, alloc, wanted)?;
     match part_to(
         alloc,
         process,
         reader,
+        further,
         later,
         task,
         units,
@@ -259,6 +342,6 @@ fn tell<'a, A: Allocator, O: Write>(
 {
     match put(output, told) {
         Ok(()) => Ok(()),
-        Err(fault) => Err(Failure::Part(PartFault::Run(fault))),
+        Err(fault) => Err(Failure::Part(None, PartFault::Run(fault))),
     }
 }

@@ -18,9 +18,9 @@ Usage: binlog list [-d NAME] [-T NAME] [-j POS] [--stop-position POS]
                    [--utc | --time-zone NAME] [--json] LOG..
        binlog undo [--later LOG].. [--anyway] [-j POS] [--stop-position POS]
                    [-d NAME] [-T NAME]
-                   [--dry-run] [-r FILE [--force]] LOG
+                   [--dry-run] [-r FILE [--force]] LOG..
        binlog redo [-j POS] [--stop-position POS] [-d NAME] [-T NAME]
-                   [--dry-run] [-r FILE [--force]] LOG
+                   [--dry-run] [-r FILE [--force]] LOG..
        binlog plain [-r FILE [--force]] LOG
        binlog split [--size BYTES] [-r FILE [--force]] LOG
        binlog sql [--each-transaction] [--keep-times] [--size BYTES]

@@ -9,7 +9,7 @@ use std::io;
 use std::process::Abort;
 use std::test::Fail;
 use testkit::devices::{ALL, Failure, SlowReader, SlowWriter};
-use undo_run::{OpeningFault, PartFault, write_part};
+use undo_run::{LogsFault, OpeningFault, PartFault, write_part};
 
 /// Where the log of one transaction ends.
 const STOP: u32 = 259;
@@ -38,6 +38,7 @@ fn check_failed_read<'l, R: AllocGlobal + Abort>(
         rt.alloc(),
         &mut reader,
         b"",
+        Vec::new(rt.alloc()),
         &between(4, Some(stop)),
         None,
         true,
@@ -47,7 +48,7 @@ fn check_failed_read<'l, R: AllocGlobal + Abort>(
         &UNDO,
         &mut writer,
     ) {
-        Err(PartFault::LaterLog(1, OpeningFault::Run(RunFault::Read))) => {}
+        Err(LogsFault::Part(0, PartFault::LaterLog(1, OpeningFault::Run(RunFault::Read)))) => {}
         _ => return Err("the read wasn't missed".into()),
     }
     assert!(rt; writer.device().calls == 0);

@@ -10,11 +10,12 @@ use linked_list_allocator::LocalHeap;
 use refusing::Refusing;
 use sample_logs::builder::{BEGIN, Part, T, XID, build, delete, insert};
 use sample_logs::summed::{CLOSED, IN_USE};
+use std::alloc::Allocator;
 use std::io;
 use std::process::Abort;
 use std::test::Fail;
 use testkit::devices::{ALL, Failure, SlowReader, SlowWriter};
-use undo_run::{OpeningFault, PartFault, write_part};
+use undo_run::{LogsFault, OpeningFault, PartFault, write_part};
 
 /// `CLOSED` with another byte at a place.
 fn changed<R: AllocGlobal>(rt: &R, at: usize) -> Result<Vec<u8>, Fail> {
@@ -134,6 +135,19 @@ const OTHER_STATEMENT: Part<'static> = Part::Query {
 /// A heap with room for a run, in bytes.
 const ROOM: usize = 1 << 18;
 
+/// Whether memory was refused.
+fn lacks_memory<A: Allocator>(fault: &LogsFault<A>) -> bool {
+    const NONE: OpeningFault = OpeningFault::Run(RunFault::Log(Fault::OutOfMemory));
+    match fault {
+        LogsFault::Opening(fault) => *fault == NONE,
+        LogsFault::Further(_, _) => false,
+        LogsFault::Part(_, PartFault::Run(fault)) => *fault == RunFault::Log(Fault::OutOfMemory),
+        LogsFault::Part(_, PartFault::Log(fault)) => *fault == Fault::OutOfMemory,
+        LogsFault::Part(_, PartFault::LaterLog(_, fault)) => *fault == NONE,
+        LogsFault::Part(_, _) => false,
+    }
+}
+
 /// Each request for memory of a run over a part of a log is refused in turn. There are at least so many.
 fn refuse_each<'l, R: AllocGlobal + Abort>(
     rt: &R,
@@ -153,10 +167,11 @@ fn refuse_each<'l, R: AllocGlobal + Abort>(
             assert!(rt; alloc.has_refused());
             continue;
         };
-        match write_part(
+        let lacking = match write_part(
             &alloc,
             &mut reader,
             b"",
+            Vec::new(&alloc),
             part,
             None,
             looks,
@@ -166,7 +181,11 @@ fn refuse_each<'l, R: AllocGlobal + Abort>(
             &UNDO,
             &mut writer,
         ) {
-            Ok(_) => {
+            Ok(_) => None,
+            Err(fault) => Some(lacks_memory(&fault)),
+        };
+        match lacking {
+            None => {
                 // a unit in front of the part may have lacked memory, and isn't looked at
                 assert!(rt; writer.device().taken.as_slice() == wanted.as_slice());
                 if !alloc.has_refused() {
@@ -175,11 +194,8 @@ fn refuse_each<'l, R: AllocGlobal + Abort>(
                 }
                 continue;
             }
-            Err(PartFault::Run(RunFault::Log(Fault::OutOfMemory)))
-            | Err(PartFault::Log(Fault::OutOfMemory))
-            | Err(PartFault::LaterLog(_, OpeningFault::Run(RunFault::Log(Fault::OutOfMemory)))) =>
-                {}
-            Err(_) => return Err("another fault".into()),
+            Some(true) => {}
+            Some(false) => return Err("another fault".into()),
         }
         assert!(rt; alloc.has_refused());
         assert!(rt; writer.device().calls == 0);
@@ -224,6 +240,7 @@ fn a_failed_read_writes_nothing(rt: HostRuntime) -> Result<(), Fail> {
             rt.alloc(),
             &mut reader,
             b"",
+            Vec::new(rt.alloc()),
             &part,
             None,
             false,
@@ -233,7 +250,7 @@ fn a_failed_read_writes_nothing(rt: HostRuntime) -> Result<(), Fail> {
             &UNDO,
             &mut writer,
         ) {
-            Err(PartFault::Run(RunFault::Read)) => {}
+            Err(LogsFault::Opening(OpeningFault::Run(RunFault::Read))) => {}
             _ => return Err("the read wasn't missed".into()),
         }
         assert!(rt; writer.device().calls == 0);
@@ -253,6 +270,7 @@ fn a_failed_write_is_told(rt: HostRuntime) -> Result<(), Fail> {
             rt.alloc(),
             &mut reader,
             b"",
+            Vec::new(rt.alloc()),
             &part,
             None,
             false,
@@ -262,7 +280,7 @@ fn a_failed_write_is_told(rt: HostRuntime) -> Result<(), Fail> {
             &UNDO,
             &mut writer,
         ) {
-            Err(PartFault::Run(RunFault::Write)) => {}
+            Err(LogsFault::Part(0, PartFault::Run(RunFault::Write))) => {}
             _ => return Err("the write wasn't missed".into()),
         }
         assert!(rt; wanted.starts_with(writer.device().taken.as_slice()));

@@ -12,7 +12,7 @@ use list_run::GivenLog;
 use std::alloc::{AllocError, Allocator};
 use std::test::Fail;
 use testkit::devices::{ALL, Failure, SlowReader, SlowWriter};
-use undo_run::{OpeningFault, PartFault, UnitRequest, write_part};
+use undo_run::{LogsFault, OpeningFault, PartFault, UnitRequest, write_part};
 
 /// Changes that undo others, as a log.
 pub(crate) const UNDO: Writing<'static> = Writing {
@@ -47,6 +47,15 @@ pub(crate) enum Came {
     Other,
 }
 
+/// Why nothing is written of one log.
+fn came_of_log<A: Allocator>(fault: &LogsFault<A>) -> Came {
+    match fault {
+        LogsFault::Opening(OpeningFault::Sums(fault)) => Came::Sums(*fault),
+        LogsFault::Part(0, fault) => came_of(fault),
+        _ => Came::Other,
+    }
+}
+
 /// Why a part isn't written.
 fn came_of<A: Allocator>(fault: &PartFault<A>) -> Came {
     match fault {
@@ -64,10 +73,10 @@ fn came_of<A: Allocator>(fault: &PartFault<A>) -> Came {
 }
 
 /// The lines that a refusal comes with.
-fn lines_of<R: AllocGlobal, A: Allocator>(rt: &R, fault: &PartFault<A>) -> Result<Vec<u8>, Fail> {
+fn lines_of<R: AllocGlobal, A: Allocator>(rt: &R, fault: &LogsFault<A>) -> Result<Vec<u8>, Fail> {
     let lines: &[u8] = match fault {
-        PartFault::ChangedSince(_, lines) => lines,
-        PartFault::UnknownSince(lines) => lines,
+        LogsFault::Part(_, PartFault::ChangedSince(_, lines)) => lines,
+        LogsFault::Part(_, PartFault::UnknownSince(lines)) => lines,
         _ => &[],
     };
     Ok(lines.to_vec(rt.alloc())?)
@@ -187,6 +196,7 @@ fn run<R: AllocGlobal>(
         rt.alloc(),
         &mut reader,
         name,
+        Vec::new(rt.alloc()),
         part,
         asked,
         looks,
@@ -198,7 +208,7 @@ fn run<R: AllocGlobal>(
     );
     let (came, told) = match result {
         Ok(told) => (Came::Done, told),
-        Err(fault) => (came_of(&fault), lines_of(rt, &fault)?),
+        Err(fault) => (came_of_log(&fault), lines_of(rt, &fault)?),
     };
     if came != Came::Done && writer.device().calls != 0 {
         return Err("something was written".into());

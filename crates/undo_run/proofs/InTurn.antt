@@ -19,6 +19,7 @@ use Rattle.blog_source.specs.declared.source.Source.{Source}
 use Rattle.blog_sum.specs.declared.fault.SumFault.{SumFault}
 use Rattle.list_run.specs.declared.given.GivenLog.{GivenLog}
 use Rattle.undo_run.specs.After.{Later, touches}
+use Rattle.undo_run.specs.Several.{one_name}
 use Rattle.undo_run.specs.Taken.{FailsToOpen, whole_log}
 use Rattle.undo_run.proofs.Counted.{touches-more}
 use Rattle.undo_run.specs.code.SinceView.{AreSeen, later_of}
@@ -93,23 +94,23 @@ not-opened A known given how left (opening.Run (run.Log f)) (inr (is, long)) = i
 not-opened A known given how left (opening.Sums f) (bytes, reads, refused) = (bytes, (left, reads), refused)
 
 -- of one that is opened all is looked at
-later-whole : {A : Type 0} (name bytes : List ℕ) (source : Source A) → IsSource whole_reading bytes source → later_of name source (later_units (log_of source) 0) ≡ whole_log (record { name = name; bytes = bytes })
+later-whole : {A : Type 0} (name bytes : List ℕ) (source : Source A) → IsSource whole_reading bytes source → later_of (one_name name) source (later_units (log_of source) 0) ≡ whole_log (record { name = name; bytes = bytes })
 later-whole name bytes source is =
-    ap (λ (handed : List ℕ). record { name = name; handed = handed; units = later_units handed 0; end = end_of source; fault = fault_of source }) is.log
-    ∙ ap (λ (end : ℕ). record { name = name; handed = handed_log whole_reading bytes; units = later_units (handed_log whole_reading bytes) 0; end = end; fault = fault_of source }) is.end
-    ∙ ap (λ (fault : Option SumFault). record { name = name; handed = handed_log whole_reading bytes; units = later_units (handed_log whole_reading bytes) 0; end = (found_of whole_reading bytes).end; fault = fault }) is.fault
+    ap (λ (handed : List ℕ). record { names = one_name name; handed = handed; units = later_units handed 0; end = end_of source; fault = fault_of source }) is.log
+    ∙ ap (λ (end : ℕ). record { names = one_name name; handed = handed_log whole_reading bytes; units = later_units (handed_log whole_reading bytes) 0; end = end; fault = fault_of source }) is.end
+    ∙ ap (λ (fault : Option SumFault). record { names = one_name name; handed = handed_log whole_reading bytes; units = later_units (handed_log whole_reading bytes) 0; end = (found_of whole_reading bytes).end; fault = fault }) is.fault
 
 pub one-looked : (A : Type 0) {R S : Type 0} (known : R → Option (List ℕ)) (n : ℕ) (given : GivenLog R) (kept : Left) (choice : Choice) (m : ℕ) (ls : List Later) (left : Option (List ℕ)) (source : Source S) (since : told.Since A)
     → OpensLog whole_reading (known (device_of given.reader)) left (Ok source)
-    → AreSeen (m + touches_in kept (log_of source) (later_units (log_of source) 0)) choice (ls ++ later_of given.name.now source (later_units (log_of source) 0) ∷ []) since
+    → AreSeen (m + touches_in kept (log_of source) (later_units (log_of source) 0)) choice (ls ++ later_of (one_name given.name.now) source (later_units (log_of source) 0) ∷ []) since
     → LooksInto {A = A} known n given kept choice m ls (Ok since)
 one-looked A known n given kept choice m ls left source since (bytes, reads, is) are =
     let log : NamedLog = record { name = given.name.now; bytes = bytes } in
     let same = later-whole given.name.now bytes source is in
-    let alone : touches_in kept (log_of source) (later_units (log_of source) 0) ≡ touches kept (later_of given.name.now source (later_units (log_of source) 0) ∷ []) =
+    let alone : touches_in kept (log_of source) (later_units (log_of source) 0) ≡ touches kept (later_of (one_name given.name.now) source (later_units (log_of source) 0) ∷ []) =
     ap (λ (cs : List Change). length (filter (takes_left kept) cs)) (sym (append-nil (changes_in (log_of source) (later_units (log_of source) 0)))) in (
       log,
       (refl, (left, reads)),
       subst (λ (l : Later). AreSeen (m + touches kept (l ∷ [])) choice (ls ++ l ∷ []) since) same
-          (subst (λ (k : ℕ). AreSeen (m + k) choice (ls ++ later_of given.name.now source (later_units (log_of source) 0) ∷ []) since) alone are),
+          (subst (λ (k : ℕ). AreSeen (m + k) choice (ls ++ later_of (one_name given.name.now) source (later_units (log_of source) 0) ∷ []) since) alone are),
     )

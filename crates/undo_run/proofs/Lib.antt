@@ -1,6 +1,7 @@
 mod Asked
 mod Counted
 mod InTurn
+pub mod Joining
 mod Judged
 mod Kept
 mod LastEvent

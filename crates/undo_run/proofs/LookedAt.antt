@@ -13,7 +13,7 @@ use Rattle.blog_later.specs.Later.{is_accepted, is_apart, may_concern}
 use Rattle.blog_later.specs.code.Counted.{at_most, starts}
 use Rattle.blog_later.specs.declared.looked.Looked.{Looked}
 use Rattle.blog_units.specs.Units.{Facts}
-use Rattle.undo_run.specs.After.{Later, Place, is_damaged, last_end, last_next, next_log, place_at, places_apart, unknown_units}
+use Rattle.undo_run.specs.After.{Later, Place, is_damaged, last_end, last_next, next_log, place_at, place_in, places_apart, unknown_units}
 use Rattle.undo_run.specs.code.SinceView.{AreSeen, IsLooked, place_seen}
 use Rattle.undo_run.specs.declared.since.Since as told
 
@@ -34,9 +34,9 @@ counted-starts us ns n are is small = let same : length ns ≡ length us = ap le
 pub counted-places : (f : ℕ → Place) (us : List Facts) (ns : List ℕ) (n : ℕ) → ns ≡ starts us → n ≡ length ns → n ≤ 2 ^ 64 - 1 → n ≡ at_most (length (map f (starts us)))
 counted-places f us ns n are is small = let same : length (map f (starts us)) ≡ length ns = length-map (starts us) f ∙ ap length (sym are) in omega (arith, is, small, same)
 
-pub last-more : (e : Option Place) (ls : List Later) (l : Later) → last_end e (ls ++ l ∷ []) ≡ Some (record { name = l.name; at = l.end })
+pub last-more : (e : Option Place) (ls : List Later) (l : Later) → last_end e (ls ++ l ∷ []) ≡ Some (place_in l.names l.end)
 last-more e [] l = refl
-last-more e (k ∷ ls) l = last-more (Some (record { name = k.name; at = k.end })) ls l
+last-more e (k ∷ ls) l = last-more (Some (place_in k.names k.end)) ls l
 
 next-more : (next : List ℕ) (ls : List Later) (l : Later) → last_next next (ls ++ l ∷ []) ≡ next_log l.handed
 next-more next [] l = refl
@@ -50,19 +50,19 @@ pub with-more : {A B : Type 0} (n m : ℕ) (choice : Choice) (ls : List Later) (
     → unknown ≡ length looked.unknown.items → unknown ≤ 2 ^ 64 - 1 → apart ≡ length looked.apart.items → apart ≤ 2 ^ 64 - 1
     → new.units ≡ min (old.units + looked.units) (2 ^ 64 - 1) → new.touched ≡ min (old.touched + looked.touched) (2 ^ 64 - 1)
     → new.unknown ≡ min (old.unknown + unknown) (2 ^ 64 - 1) → new.apart ≡ min (old.apart + apart) (2 ^ 64 - 1)
-    → ((ps : List Place) → option_map place_seen old.first ≡ slice_get ps 0 → option_map place_seen new.first ≡ slice_get (ps ++ map (place_at l.name l.handed l.end) looked.apart.items) 0)
-    → option_map place_seen new.end ≡ Some (record { name = l.name; at = l.end }) → new.next.items ≡ next_log l.handed → new.is_damaged ≡ (old.is_damaged || is_some l.fault)
+    → ((ps : List Place) → option_map place_seen old.first ≡ slice_get ps 0 → option_map place_seen new.first ≡ slice_get (ps ++ map (place_at l.names l.handed l.end) looked.apart.items) 0)
+    → option_map place_seen new.end ≡ Some (place_in l.names l.end) → new.next.items ≡ next_log l.handed → new.is_damaged ≡ (old.is_damaged || is_some l.fault)
     → AreSeen (n + m) choice (ls ++ l ∷ []) new
 with-more n m choice ls l looked old new unknown apart is are unknown-len unknown-small apart-len apart-small units-are touched-are unknown-are apart-are first-is end-is next-is damaged-is =
-    let apart-of : Later → List Place = λ k. map (place_at k.name k.handed k.end) (starts (filter (is_apart choice k.handed) k.units)) in record {
+    let apart-of : Later → List Place = λ k. map (place_at k.names k.handed k.end) (starts (filter (is_apart choice k.handed) k.units)) in record {
       units = units-are ∙ more-counted (λ k. filter (is_accepted k.handed) k.units) ls l old.units looked.units are.units is.units;
       touched = touched-are ∙ at-more old.touched looked.touched n m are.touched is.touched;
       unknown = unknown-are ∙ more-counted (λ k. filter (may_concern choice k.handed) k.units) ls l old.unknown unknown are.unknown
           (counted-starts (filter (may_concern choice l.handed) l.units) looked.unknown.items unknown is.unknown unknown-len unknown-small);
       apart = apart-are ∙ more-counted apart-of ls l old.apart apart are.apart
-          (counted-places (place_at l.name l.handed l.end) (filter (is_apart choice l.handed) l.units) looked.apart.items apart is.apart apart-len apart-small);
+          (counted-places (place_at l.names l.handed l.end) (filter (is_apart choice l.handed) l.units) looked.apart.items apart is.apart apart-len apart-small);
       first = first-is (places_apart choice ls) are.first
-          ∙ ap (λ (ats : List ℕ). slice_get (places_apart choice ls ++ map (place_at l.name l.handed l.end) ats) 0) is.apart
+          ∙ ap (λ (ats : List ℕ). slice_get (places_apart choice ls ++ map (place_at l.names l.handed l.end) ats) 0) is.apart
           ∙ ap (λ (ps : List Place). slice_get ps 0) (sym (one-more apart-of ls l));
       end = end-is ∙ sym (last-more None ls l);
       next = next-is ∙ sym (next-more [] ls l);
@@ -80,6 +80,10 @@ first-there p (q ∷ ps) qs e = e
 pub first-none : (o : Option Place) (ps qs : List Place) → None ≡ slice_get ps 0 → o ≡ slice_get qs 0 → o ≡ slice_get (ps ++ qs) 0
 first-none o [] qs e is = is
 first-none o (p ∷ ps) qs e is = absurd (false≢true (ap is_some e))
+
+pub mapped-first : (f : ℕ → Place) (ns : List ℕ) (n : ℕ) → Some n ≡ slice_get ns 0 → Some (f n) ≡ slice_get (map f ns) 0
+mapped-first f [] n e = absurd (false≢true (sym (ap is_some e)))
+mapped-first f (m ∷ ns) n e = ap (option_map f) e
 
 -- ---- what follows from it
 

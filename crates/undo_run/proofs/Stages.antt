@@ -4,15 +4,10 @@ use Rattle.std.specs.Prelude.{Vec, option_map}
 use Rattle.std.specs.Io.KnownBytes.{Keeps}
 use Rattle.std.proofs.lemmas.Bool.{false≢true}
 use Rattle.std.proofs.lemmas.List.{length-map}
-use Rattle.blog_device.specs.Devices.{ReadsLog}
 use Rattle.blog_device.specs.declared.fault.RunFault.TheVariants as run
 use Rattle.blog_event.specs.declared.fault.Fault.TheVariants.{OutOfMemory}
 use Rattle.blog_run.specs.declared.writing.Writing.{Writing}
-use Rattle.blog_source.specs.Found.{found_of, source_refusal}
-use Rattle.blog_source.specs.Handed.{handed_log}
 use Rattle.blog_source.specs.code.SourceView.{end_of, fault_of, log_of}
-use Rattle.blog_source.specs.declared.reading.Reading.{Reading}
-use Rattle.blog_source.specs.declared.source.Source.{Source}
 use Rattle.blog_sum.specs.declared.fault.SumFault.{SumFault}
 use Rattle.blog_trans.specs.Groups.{groups, placed_groups, transaction_value}
 use Rattle.blog_trans.specs.Selection.{Selection}
@@ -20,17 +15,22 @@ use Rattle.blog_units.specs.Units.{Facts}
 use Rattle.list_run.specs.declared.given.GivenLog.{GivenLog}
 use Rattle.undo_run.specs.Parts.{Refuses as RefusesAll, RefusesStart, damage_before, has_start, reading_of, selection_in}
 use Rattle.undo_run.specs.Reports.{Since, report}
+use Rattle.undo_run.specs.Several.{Joined, Names, OfLogs, part_among, starts_in_first}
 use Rattle.undo_run.specs.Taken.{IsSafeIf, OfLater, Taken, WritesTaken, counts_taken, since_told}
 use Rattle.undo_run.specs.Units.{LacksUnit, RefusesChosen, RefusesUnits, is_asked}
-use Rattle.undo_run.specs.Writes.{WritesHanded, WritesPart, WritesRead, is_failed_write}
+use Rattle.undo_run.specs.Writes.{FailsJoined, IsLocated, IsLocatedIn, WritesHanded, WritesJoined, WritesPart, is_failed_write}
+use Rattle.undo_run.specs.code.NamesView.{names_told}
+use Rattle.undo_run.specs.code.Reading.{IsJoined, OpensLogs}
 use Rattle.undo_run.specs.code.SinceView.{since_seen}
-use Rattle.undo_run.specs.code.Steps.{Chooses, IsSource, Looks, OpensLog, WritesIndex, opening_cause}
-use Rattle.undo_run.specs.declared.fault.OpeningFault.{OpeningFault}
-use Rattle.undo_run.specs.declared.fault.OpeningFault.TheVariants as opening
+use Rattle.undo_run.specs.code.Steps.{Chooses, Looks, WritesIndex}
+use Rattle.undo_run.specs.declared.fault.LogsFault.{LogsFault}
+use Rattle.undo_run.specs.declared.fault.LogsFault.TheVariants.{Opening, Further, Part}
 use Rattle.undo_run.specs.declared.fault.PartFault.{PartFault}
 use Rattle.undo_run.specs.declared.fault.PartFault.TheVariants.{Run, Sums, NoEventAt, NoUnitAt, NoUnitWithGtid, Log, NothingSelected, LaterLog, ChangedSince, UnknownSince, TooLong, NoSchema}
 use Rattle.undo_run.specs.declared.request.UnitRequest.{UnitRequest}
+use Rattle.undo_run.specs.declared.several.Logs.{Logs}
 use Rattle.undo_run.specs.declared.since.Since as told
+use Rattle.undo_run.proofs.Joining.{of-logs}
 
 -- ---- what is taken
 
@@ -49,7 +49,7 @@ are-free A true known givens t None is = absurd is
 are-free A false known givens t since is = ([], refl, ((λ asked. absurd (false≢true asked)), ap (option_map (since_seen {A = A})) is))
 
 -- it is written by the groups of a log
-by-groups : {A R : Type 0} (looks : Bool) (known : R → Option (List ℕ)) (givens : List (GivenLog R)) (w : Writing) (name : List ℕ) (t : Taken) (Sound : Type 0) (Refuses : PartFault A → Type 0) (had has : Option (List ℕ)) (since : Option Since)
+by-groups : {A R : Type 0} (looks : Bool) (known : R → Option (List ℕ)) (givens : List (GivenLog R)) (w : Writing) (name : Names) (t : Taken) (Sound : Type 0) (Refuses : PartFault A → Type 0) (had has : Option (List ℕ)) (since : Option Since)
     (r : Result (Vec ℕ A) (PartFault A)) → Sound → IsFree looks known givens t since → WritesIndex w name since t.log t.sel had has r → WritesTaken looks known givens w name t Sound Refuses had has r
 by-groups looks known givens w name t Sound Refuses had has since (Ok told) sound (logs, read, (safe, seen)) (can, text, is) =
     (sound, (logs, read, ((safe, can), text, is ∙ ap (λ (s : Option Since). report w.order name (length (groups t.log t.sel)) (counts_taken t) s) seen)))
@@ -68,7 +68,7 @@ by-groups looks known givens w name t Sound Refuses had has since (Err (Sums f))
 by-groups looks known givens w name t Sound Refuses had has since (Err (Log f)) sound free none = absurd none
 by-groups looks known givens w name t Sound Refuses had has since (Err NothingSelected) sound free none = absurd none
 
-pub taken-written : {A R : Type 0} (looks : Bool) (known : R → Option (List ℕ)) (givens : List (GivenLog R)) (w : Writing) (name : List ℕ) (t : Taken) (Sound : Type 0) (Refuses : PartFault A → Type 0) (had has : Option (List ℕ)) (since : Option (told.Since A))
+pub taken-written : {A R : Type 0} (looks : Bool) (known : R → Option (List ℕ)) (givens : List (GivenLog R)) (w : Writing) (name : Names) (t : Taken) (Sound : Type 0) (Refuses : PartFault A → Type 0) (had has : Option (List ℕ)) (since : Option (told.Since A))
     (bytes : List ℕ) (sel : Selection) (r : Result (Vec ℕ A) (PartFault A)) → Sound → Looks {A = A} looks known givens t (Ok since) → bytes ≡ t.log → sel ≡ t.sel
     → WritesIndex w name (option_map since_seen since) bytes sel had has r → WritesTaken looks known givens w name t Sound Refuses had has r
 taken-written {A = A} looks known givens w name t Sound Refuses had has since bytes sel r sound looked same chosen is =
@@ -77,7 +77,7 @@ taken-written {A = A} looks known givens w name t Sound Refuses had has since by
     (subst (λ (b : List ℕ). WritesIndex w name (option_map since_seen since) b sel had has r) same is))
 
 -- what came later can't be looked at, or touches it
-pub not-free : {A R : Type 0} (looks : Bool) (known : R → Option (List ℕ)) (givens : List (GivenLog R)) (w : Writing) (name : List ℕ) (t : Taken) (Sound : Type 0) (Refuses : PartFault A → Type 0) (had has : Option (List ℕ)) (cause : PartFault A)
+pub not-free : {A R : Type 0} (looks : Bool) (known : R → Option (List ℕ)) (givens : List (GivenLog R)) (w : Writing) (name : Names) (t : Taken) (Sound : Type 0) (Refuses : PartFault A → Type 0) (had has : Option (List ℕ)) (cause : PartFault A)
     → Sound → Looks looks known givens t (Err cause) → Keeps had has → WritesTaken looks known givens w name t Sound Refuses had has (Err cause)
 not-free false known givens w name t Sound Refuses had has cause sound none keeps = absurd none
 not-free true known givens w name t Sound Refuses had has (ChangedSince rows lines) sound (logs, read, changed) keeps = ((sound, (logs, read, (refl, changed))), keeps)
@@ -124,7 +124,7 @@ IsRefused Refuses NothingSelected = Refuses NothingSelected
 IsRefused Refuses TooLong = Refuses TooLong
 IsRefused Refuses cause = ⊥
 
-pub not-selected : {A R : Type 0} (looks : Bool) (known : R → Option (List ℕ)) (givens : List (GivenLog R)) (w : Writing) (name : List ℕ) (t : Taken) (Sound : Type 0) (Refuses : PartFault A → Type 0) (had has : Option (List ℕ)) (cause : PartFault A)
+pub not-selected : {A R : Type 0} (looks : Bool) (known : R → Option (List ℕ)) (givens : List (GivenLog R)) (w : Writing) (name : Names) (t : Taken) (Sound : Type 0) (Refuses : PartFault A → Type 0) (had has : Option (List ℕ)) (cause : PartFault A)
     → IsRefused Refuses cause → Keeps had has → WritesTaken looks known givens w name t Sound Refuses had has (Err cause)
 not-selected looks known givens w name t Sound Refuses had has (Run (run.Log f)) is keeps = (is, keeps)
 not-selected looks known givens w name t Sound Refuses had has (NoEventAt pos) is keeps = (is, keeps)
@@ -157,7 +157,7 @@ part-refused part handed end damage (UnknownSince lines) none = absurd none
 part-refused part handed end damage (NoSchema text) none = absurd none
 part-refused part handed end damage TooLong none = absurd none
 
-pub all-refused : {A R : Type 0} (looks : Bool) (known : R → Option (List ℕ)) (givens : List (GivenLog R)) (w : Writing) (name : List ℕ) (t : Taken) (Sound : Type 0) (had has : Option (List ℕ)) (part : Selection) (handed : List ℕ) (end : ℕ) (damage : Option SumFault)
+pub all-refused : {A R : Type 0} (looks : Bool) (known : R → Option (List ℕ)) (givens : List (GivenLog R)) (w : Writing) (name : Names) (t : Taken) (Sound : Type 0) (had has : Option (List ℕ)) (part : Selection) (handed : List ℕ) (end : ℕ) (damage : Option SumFault)
     (cause : PartFault A) → RefusesAll part handed end damage cause → Keeps had has → WritesTaken looks known givens w name t Sound (RefusesAll part handed end damage) had has (Err cause)
 all-refused looks known givens w name t Sound had has part handed end damage cause is keeps =
     not-selected looks known givens w name t Sound (RefusesAll part handed end damage) had has cause (part-refused part handed end damage cause is) keeps
@@ -230,45 +230,68 @@ not-chosen looks r part handed end fault damage (NoSchema text) start none = abs
 pub of-units : (P : (Facts → Bool) → Selection → Type 0) (p q : Facts → Bool) (sel there : Selection) → p ≡ q → sel ≡ there → P p sel → P q there
 of-units P p q sel there same chosen here = subst (λ (s : Selection). P q s) chosen (subst (λ (test : Facts → Bool). P test sel) same here)
 
--- ---- of a log that is read
+-- ---- of logs that are read
 
-of-read : {A R : Type 0} (looks : Bool) (known : R → Option (List ℕ)) (givens : List (GivenLog R)) (w : Writing) (name : List ℕ) (part : Selection) (asked : Option UnitRequest) (old new had has : Option (List ℕ)) (bytes : List ℕ)
-    → ReadsLog old new bytes → source_refusal bytes ≡ None → (r : Result (Vec ℕ A) (PartFault A)) → WritesRead looks known givens w name part asked had has r bytes → WritesPart looks known givens w name part asked old new had has r
-of-read looks known givens w name part asked old new had has bytes reads sound (Err (Run run.Read)) none = absurd none
-of-read looks known givens w name part asked old new had has bytes reads sound (Err (Run (run.Log f))) (is, keeps) = (inl is, keeps)
-of-read looks known givens w name part asked old new had has bytes reads sound (Err (Sums f)) is = inr (bytes, reads, sound, is)
-of-read looks known givens w name part asked old new had has bytes reads sound (Ok told) is = (bytes, reads, sound, is)
-of-read looks known givens w name part asked old new had has bytes reads sound (Err (Run run.Write)) is = (bytes, reads, sound, is)
-of-read looks known givens w name part asked old new had has bytes reads sound (Err (NoEventAt pos)) is = (bytes, reads, sound, is)
-of-read looks known givens w name part asked old new had has bytes reads sound (Err (NoUnitAt place)) is = (bytes, reads, sound, is)
-of-read looks known givens w name part asked old new had has bytes reads sound (Err (NoUnitWithGtid gtid)) is = (bytes, reads, sound, is)
-of-read looks known givens w name part asked old new had has bytes reads sound (Err (Log f)) is = (bytes, reads, sound, is)
-of-read looks known givens w name part asked old new had has bytes reads sound (Err (LaterLog n f)) is = (bytes, reads, sound, is)
-of-read looks known givens w name part asked old new had has bytes reads sound (Err (ChangedSince rows lines)) is = (bytes, reads, sound, is)
-of-read looks known givens w name part asked old new had has bytes reads sound (Err (UnknownSince lines)) is = (bytes, reads, sound, is)
-of-read looks known givens w name part asked old new had has bytes reads sound (Err (NoSchema text)) is = (bytes, reads, sound, is)
-of-read looks known givens w name part asked old new had has bytes reads sound (Err NothingSelected) is = (bytes, reads, sound, is)
-of-read looks known givens w name part asked old new had has bytes reads sound (Err TooLong) is = (bytes, reads, sound, is)
+-- a part of them is written, or isn't
+pub read-written : {A R S : Type 0} (looks : Bool) (known : R → Option (List ℕ)) (later more : List (GivenLog R)) (w : Writing) (name : List ℕ) (part inside : Selection) (asked : Option UnitRequest) (stop : Option ℕ)
+    (old new had has : Option (List ℕ)) (logs : Logs S) (told : Vec ℕ A) → stop ≡ (reading_of looks asked part).stop → OfLogs known stop name more old new (λ j. IsJoined j logs)
+    → true ≡ starts_in_first (names_told logs.names).more part.start → inside ≡ part_among (names_told logs.names) part
+    → WritesHanded {A = A} looks known later w (names_told logs.names) inside asked (log_of logs.source) (end_of logs.source) (fault_of logs.source) had has (Ok told)
+    → WritesPart {A = A} looks known later w name more part asked old new had has (Ok told)
+read-written {A = A} looks known later more w name part inside asked stop old new had has logs told stop_is of_logs starts inside_is is =
+    subst (λ (s : Option ℕ). OfLogs known s name more old new (λ j. (starts_in_first j.names.more part.start ≡ true) × WritesJoined {A = A} looks known later w part asked had has j (Ok told))) stop_is
+    (of-logs known stop name more old new (λ j. IsJoined j logs) _ of_logs
+    (λ j joined. subst (λ (k : Joined). (starts_in_first k.names.more part.start ≡ true) × WritesJoined {A = A} looks known later w part asked had has k (Ok told)) joined.is
+    (sym starts, subst (λ (s : Selection). WritesHanded {A = A} looks known later w (names_told logs.names) s asked (log_of logs.source) (end_of logs.source) (fault_of logs.source) had has (Ok told)) inside_is is)))
 
-pub opened-written : {A R S : Type 0} (looks : Bool) (known : R → Option (List ℕ)) (givens : List (GivenLog R)) (w : Writing) (name : List ℕ) (part : Selection) (asked : Option UnitRequest) (old new had has : Option (List ℕ)) (source : Source S)
-    (r : Result (Vec ℕ A) (PartFault A)) → ((bytes : List ℕ) × ReadsLog old new bytes × IsSource (reading_of looks asked part) bytes source)
-    → WritesHanded looks known givens w name part asked (log_of source) (end_of source) (fault_of source) had has r → WritesPart looks known givens w name part asked old new had has r
-opened-written looks known givens w name part asked old new had has source r (bytes, reads, opened) is =
-    let how = reading_of looks asked part in
-    of-read looks known givens w name part asked old new had has bytes reads opened.sound r
-    (subst (λ (d : Option SumFault). WritesHanded looks known givens w name part asked (handed_log how bytes) (found_of how bytes).end d had has r) opened.fault
-    (subst (λ (n : ℕ). WritesHanded looks known givens w name part asked (handed_log how bytes) n (fault_of source) had has r) opened.end
-    (subst (λ (b : List ℕ). WritesHanded looks known givens w name part asked b (end_of source) (fault_of source) had has r) opened.log is)))
+pub read-failed : {A R S : Type 0} (looks : Bool) (known : R → Option (List ℕ)) (later more : List (GivenLog R)) (w : Writing) (name : List ℕ) (part inside : Selection) (asked : Option UnitRequest) (stop : Option ℕ)
+    (old new had has : Option (List ℕ)) (logs : Logs S) (inner : PartFault A) (n : ℕ) (cause : PartFault A) → stop ≡ (reading_of looks asked part).stop → OfLogs known stop name more old new (λ j. IsJoined j logs)
+    → true ≡ starts_in_first (names_told logs.names).more part.start → inside ≡ part_among (names_told logs.names) part
+    → WritesHanded {A = A} looks known later w (names_told logs.names) inside asked (log_of logs.source) (end_of logs.source) (fault_of logs.source) had has (Err inner)
+    → IsLocated (names_told logs.names) inner n cause → WritesPart {A = A} looks known later w name more part asked old new had has (Err (Part n cause))
+read-failed {A = A} looks known later more w name part inside asked stop old new had has logs inner n cause stop_is of_logs starts inside_is is located =
+    inr (subst (λ (s : Option ℕ). OfLogs known s name more old new (FailsJoined {A = A} looks known later w part asked had has n cause)) stop_is
+    (of-logs known stop name more old new (λ j. IsJoined j logs) _ of_logs
+    (λ j joined. subst (FailsJoined {A = A} looks known later w part asked had has n cause) joined.is
+    (inr (sym starts, (inner, located, subst (λ (s : Selection). WritesHanded {A = A} looks known later w (names_told logs.names) s asked (log_of logs.source) (end_of logs.source) (fault_of logs.source) had has (Err inner)) inside_is is))))))
 
--- it isn't opened
-unopened : (A : Type 0) {R : Type 0} (S : Type 0) (looks : Bool) (known : R → Option (List ℕ)) (givens : List (GivenLog R)) (w : Writing) (name : List ℕ) (part : Selection) (asked : Option UnitRequest) (old new had has : Option (List ℕ)) (how : Reading)
-    (fault : OpeningFault) → OpensLog {A = S} how old new (Err fault) → Keeps had has → WritesPart {A = A} looks known givens w name part asked old new had has (Err (opening_cause fault))
-unopened A S looks known givens w name part asked old new had has how (opening.Run run.Read) is keeps = keeps
-unopened A S looks known givens w name part asked old new had has how (opening.Run run.Write) none keeps = absurd none
-unopened A S looks known givens w name part asked old new had has how (opening.Run (run.Log f)) is keeps = (is, keeps)
-unopened A S looks known givens w name part asked old new had has how (opening.Sums f) is keeps = inl (is, keeps)
+-- its start isn't in the first log
+pub read-without-start : {A R S : Type 0} (looks : Bool) (known : R → Option (List ℕ)) (later more : List (GivenLog R)) (w : Writing) (name : List ℕ) (part : Selection) (asked : Option UnitRequest) (stop : Option ℕ)
+    (old new had has : Option (List ℕ)) (logs : Logs S) → stop ≡ (reading_of looks asked part).stop → OfLogs known stop name more old new (λ j. IsJoined j logs)
+    → false ≡ starts_in_first (names_told logs.names).more part.start → Keeps had has → WritesPart {A = A} looks known later w name more part asked old new had has (Err (Part 0 (NoEventAt part.start)))
+read-without-start {A = A} looks known later more w name part asked stop old new had has logs stop_is of_logs starts keeps =
+    inr (subst (λ (s : Option ℕ). OfLogs known s name more old new (FailsJoined {A = A} looks known later w part asked had has 0 (NoEventAt part.start))) stop_is
+    (of-logs known stop name more old new (λ j. IsJoined j logs) _ of_logs
+    (λ j joined. subst (FailsJoined {A = A} looks known later w part asked had has 0 (NoEventAt part.start)) joined.is (inl (sym starts, refl, refl, keeps)))))
 
-pub unopened-written : {A R : Type 0} (S : Type 0) (looks : Bool) (known : R → Option (List ℕ)) (givens : List (GivenLog R)) (w : Writing) (name : List ℕ) (part : Selection) (asked : Option UnitRequest) (old new had has : Option (List ℕ)) (how : Reading)
-    (fault : OpeningFault) (cause : PartFault A) → cause ≡ opening_cause fault → OpensLog {A = S} how old new (Err fault) → Keeps had has → WritesPart looks known givens w name part asked old new had has (Err cause)
-unopened-written {A = A} S looks known givens w name part asked old new had has how fault cause same is keeps =
-    subst (λ (c : PartFault A). WritesPart looks known givens w name part asked old new had has (Err c)) (sym same) (unopened A S looks known givens w name part asked old new had has how fault is keeps)
+-- the same by the fault that is told
+pub read-located : {A R S : Type 0} (looks : Bool) (known : R → Option (List ℕ)) (later more : List (GivenLog R)) (w : Writing) (name : List ℕ) (part inside : Selection) (asked : Option UnitRequest) (stop : Option ℕ)
+    (old new had has : Option (List ℕ)) (logs : Logs S) (inner : PartFault A) (fault : LogsFault A) → stop ≡ (reading_of looks asked part).stop → OfLogs known stop name more old new (λ j. IsJoined j logs)
+    → true ≡ starts_in_first (names_told logs.names).more part.start → inside ≡ part_among (names_told logs.names) part
+    → WritesHanded {A = A} looks known later w (names_told logs.names) inside asked (log_of logs.source) (end_of logs.source) (fault_of logs.source) had has (Err inner)
+    → IsLocatedIn (names_told logs.names) inner fault → WritesPart {A = A} looks known later w name more part asked old new had has (Err fault)
+read-located looks known later more w name part inside asked stop old new had has logs inner (Part n cause) stop_is of_logs starts inside_is is located =
+    read-failed looks known later more w name part inside asked stop old new had has logs inner n cause stop_is of_logs starts inside_is is located
+read-located looks known later more w name part inside asked stop old new had has logs inner (Opening f) stop_is of_logs starts inside_is is none = absurd none
+read-located looks known later more w name part inside asked stop old new had has logs inner (Further n cause) stop_is of_logs starts inside_is is none = absurd none
+
+-- they aren't read
+pub not-read : {A R : Type 0} (looks : Bool) (known : R → Option (List ℕ)) (later more : List (GivenLog R)) (w : Writing) (name : List ℕ) (part : Selection) (asked : Option UnitRequest) (stop : Option ℕ)
+    (old new had has : Option (List ℕ)) (fault : LogsFault A) → OpensLogs {A = A} known stop name more old new (Err fault) → Keeps had has
+    → WritesPart {A = A} looks known later w name more part asked old new had has (Err fault)
+not-read looks known later more w name part asked stop old new had has (Opening f) is keeps = (is, keeps)
+not-read looks known later more w name part asked stop old new had has (Further n cause) is keeps = (is, keeps)
+not-read looks known later more w name part asked stop old new had has (Part n (Run (run.Log f))) (number, is) keeps = inl (ap (λ f. Run (run.Log f)) is, keeps)
+not-read looks known later more w name part asked stop old new had has (Part n (Run run.Read)) none keeps = absurd none
+not-read looks known later more w name part asked stop old new had has (Part n (Run run.Write)) none keeps = absurd none
+not-read looks known later more w name part asked stop old new had has (Part n (Sums f)) none keeps = absurd none
+not-read looks known later more w name part asked stop old new had has (Part n (NoEventAt pos)) none keeps = absurd none
+not-read looks known later more w name part asked stop old new had has (Part n (NoUnitAt place)) none keeps = absurd none
+not-read looks known later more w name part asked stop old new had has (Part n (NoUnitWithGtid gtid)) none keeps = absurd none
+not-read looks known later more w name part asked stop old new had has (Part n (Log f)) none keeps = absurd none
+not-read looks known later more w name part asked stop old new had has (Part n NothingSelected) none keeps = absurd none
+not-read looks known later more w name part asked stop old new had has (Part n (LaterLog k f)) none keeps = absurd none
+not-read looks known later more w name part asked stop old new had has (Part n (ChangedSince rows lines)) none keeps = absurd none
+not-read looks known later more w name part asked stop old new had has (Part n (UnknownSince lines)) none keeps = absurd none
+not-read looks known later more w name part asked stop old new had has (Part n TooLong) none keeps = absurd none
+not-read looks known later more w name part asked stop old new had has (Part n (NoSchema text)) none keeps = absurd none

@@ -15,11 +15,12 @@ use Rattle.blog_undo.specs.Laws.{AsIfNever}
 use Rattle.blog_undo.specs.Mixed.{all_changes, is_untouched}
 use Rattle.blog_flash.specs.States.{State, apply_all}
 use Rattle.blog_units.specs.Units.{Facts}
+use Rattle.undo_run.specs.Several.{Names, located}
 
--- A log after changes: its name; what is handed out of it; the units there that come after the changes and aren't selected; where in the
+-- A log after changes, or several that are read as one: their names; what is handed out of them; the units there that come after the changes and aren't selected; where in the
 -- server's log the reading ended, and why, if the log is damaged there.
 pub record Later : Type 0 where
-  pub name : List ℕ
+  pub names : Names
   pub handed : List ℕ
   pub units : List Facts
   pub end : ℕ
@@ -51,12 +52,16 @@ touches left ls = length (filter (takes_left left) (later_changes ls))
 abbrev pub unknown_units : Choice → List Later → List Facts
 unknown_units choice ls = flat_map (λ l. filter (may_concern choice l.handed) l.units) ls
 
+-- a place by the name of the log in which it is
+abbrev pub place_in : Names → ℕ → Place
+place_in names place = record { name = (located names place).name; at = (located names place).at }
+
 -- where a position in what is handed out of a log is in the server's log
-abbrev pub place_at : List ℕ → List ℕ → ℕ → ℕ → Place
-place_at name handed end at = record { name = name; at = place_of handed end at }
+abbrev pub place_at : Names → List ℕ → ℕ → ℕ → Place
+place_at names handed end at = place_in names (place_of handed end at)
 
 abbrev pub places_apart : Choice → List Later → List Place
-places_apart choice ls = flat_map (λ l. map (place_at l.name l.handed l.end) (starts (filter (is_apart choice l.handed) l.units))) ls
+places_apart choice ls = flat_map (λ l. map (place_at l.names l.handed l.end) (starts (filter (is_apart choice l.handed) l.units))) ls
 
 -- ---- the logs' ends
 
@@ -66,7 +71,7 @@ is_damaged ls = list_any (λ l. is_some l.fault) ls
 -- where the reading of the last log ended
 abbrev pub last_end : Option Place → List Later → Option Place
 last_end end [] = end
-last_end end (l ∷ ls) = last_end (Some (record { name = l.name; at = l.end })) ls
+last_end end (l ∷ ls) = last_end (Some (place_in l.names l.end)) ls
 
 -- the log in which a log goes on: the name in the Rotate event at its end, behind 8 bytes (MySQL Internals manual, "Rotate_event"); no bytes
 -- where there is none

@@ -1,3 +1,4 @@
+pub mod Several
 pub mod After
 pub mod Parts
 pub mod Reports

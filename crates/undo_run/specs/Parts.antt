@@ -15,6 +15,7 @@ use Rattle.blog_trans.specs.Changes.{TableCount, changes, counts_of}
 use Rattle.blog_trans.specs.Groups.{groups}
 use Rattle.blog_trans.specs.Selection.{Selection}
 use Rattle.undo_run.specs.After.{Later, later_step}
+use Rattle.undo_run.specs.Several.{Names}
 use Rattle.undo_run.specs.Taken.{Taken}
 use Rattle.undo_run.specs.declared.fault.PartFault.{PartFault}
 use Rattle.undo_run.specs.declared.fault.PartFault.TheVariants.{Sums, NoEventAt, Log, NothingSelected}
@@ -113,18 +114,18 @@ abbrev pub stop_in : Selection → List ℕ → ℕ
 stop_in part handed = option_map_or (position_of handed) part.stop (length handed)
 
 -- the log itself, from the stop on
-abbrev pub rest_of : List ℕ → Selection → List ℕ → ℕ → Option SumFault → Later
-rest_of name part handed end fault = record { name = name; handed = handed; units = later_units handed (stop_in part handed); end = end; fault = fault }
+abbrev pub rest_of : Names → Selection → List ℕ → ℕ → Option SumFault → Later
+rest_of names part handed end fault = record { names = names; handed = handed; units = later_units handed (stop_in part handed); end = end; fault = fault }
 
 -- ---- what is taken
 
 -- all of a part, and what comes after its stop
-abbrev pub part_taken : List ℕ → Selection → List ℕ → ℕ → Option SumFault → Taken
-part_taken name part handed end fault = record {
+abbrev pub part_taken : Names → Selection → List ℕ → ℕ → Option SumFault → Taken
+part_taken names part handed end fault = record {
   log = handed;
   sel = selection_in part handed;
-  steps = Selected (changes handed (selection_in part handed)) ∷ later_step (rest_of name part handed end fault) ∷ [];
-  rest = rest_of name part handed end fault;
+  steps = Selected (changes handed (selection_in part handed)) ∷ later_step (rest_of names part handed end fault) ∷ [];
+  rest = rest_of names part handed end fault;
 }
 
 -- why a part has no start: what was read may end before it

@@ -8,6 +8,7 @@ use Rattle.blog_text.specs.Escapes.{escaped}
 use Rattle.blog_text.specs.Tables.{count_text, next_count}
 use Rattle.blog_trans.specs.Changes.{TableCount}
 use Rattle.undo_run.specs.After.{Place}
+use Rattle.undo_run.specs.Several.{Begun, Names}
 
 -- the rows of a table: as they are changed, and undone the other way round
 abbrev pub turned : Order → TableCount → TableCount
@@ -89,11 +90,18 @@ abbrev pub cascades_text : Order → List TableCount → List ℕ
 cascades_text order counts =
     if list_any (λ c. has_followers (turned order c)) counts then codes "child rows of foreign keys that cascade follow the updated and deleted rows, and are not counted\n" else []
 
--- how many transactions of the log of a name, and how many rows of which tables
-abbrev pub changes_told : Order → List ℕ → ℕ → List TableCount → List ℕ
-changes_told order name n counts =
-    verb order ++ (transactions_text n ++ (codes " of " ++ (escaped name ++ (codes ": " ++ (rows_told order counts ++ codes "\n")))))
+-- the names of logs
+abbrev pub next_name : Begun → List ℕ
+next_name b = codes ", " ++ escaped b.name
+
+abbrev pub names_text : Names → List ℕ
+names_text names = escaped names.first ++ flat_map next_name names.more
+
+-- how many transactions of the logs of these names, and how many rows of which tables
+abbrev pub changes_told : Order → Names → ℕ → List TableCount → List ℕ
+changes_told order names n counts =
+    verb order ++ (transactions_text n ++ (codes " of " ++ (names_text names ++ (codes ": " ++ (rows_told order counts ++ codes "\n")))))
 
 -- the report
-abbrev pub report : Order → List ℕ → ℕ → List TableCount → Option Since → List ℕ
-report order name n counts since = changes_told order name n counts ++ (since_text order since ++ cascades_text order counts)
+abbrev pub report : Order → Names → ℕ → List TableCount → Option Since → List ℕ
+report order names n counts since = changes_told order names n counts ++ (since_text order since ++ cascades_text order counts)

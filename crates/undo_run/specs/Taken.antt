@@ -22,6 +22,7 @@ use Rattle.list_run.specs.Listed.{AreRead, NamedLog}
 use Rattle.list_run.specs.declared.given.GivenLog.{GivenLog}
 use Rattle.undo_run.specs.After.{AreChanged, AreSafe, Later, MayBeChanged, accepted_units, last_end, last_next, later_step, places_apart}
 use Rattle.undo_run.specs.Reports.{Since, report}
+use Rattle.undo_run.specs.Several.{Names, one_name}
 use Rattle.undo_run.specs.declared.fault.OpeningFault.{OpeningFault}
 use Rattle.undo_run.specs.declared.fault.OpeningFault.TheVariants as opening
 use Rattle.undo_run.specs.declared.fault.PartFault.{PartFault}
@@ -40,7 +41,7 @@ pub record Taken : Type 0 where
 -- a later log, from its first event on
 abbrev pub whole_log : NamedLog → Later
 whole_log log = record {
-  name = log.name;
+  names = one_name log.name;
   handed = handed_log whole_reading log.bytes;
   units = later_units (handed_log whole_reading log.bytes) 0;
   end = (found_of whole_reading log.bytes).end;
@@ -112,34 +113,34 @@ OfLater looks known givens P = (logs : List NamedLog) × AreLater looks known gi
 abbrev pub CanBe : Bool → Writing → Taken → List NamedLog → Type 0
 CanBe looks w t logs = IsSafeIf looks t logs × CanBeWritten w.sql w.order w.limit t.log t.sel
 
--- what is written of it, and reported, for a log of this name
+-- what is written of it, and reported, for logs of these names
 abbrev pub text_taken : Writing → Taken → List ℕ
 text_taken w t = text_of w.sql w.order w.limit t.log t.sel
 
-abbrev pub report_taken : Bool → Writing → List ℕ → Taken → List NamedLog → List ℕ
-report_taken looks w name t logs = report w.order name (length (groups t.log t.sel)) (counts_taken t) (since_told looks t logs)
+abbrev pub report_taken : Bool → Writing → Names → Taken → List NamedLog → List ℕ
+report_taken looks w names t logs = report w.order names (length (groups t.log t.sel)) (counts_taken t) (since_told looks t logs)
 
 -- What comes of writing what is taken out of a log, which is sound, or is refused: all of it is written, and this is the report; or a
 -- beginning, where a write failed; or nothing.
-abbrev pub WritesTaken : {A R : Type 0} → Bool → (R → Option (List ℕ)) → List (GivenLog R) → Writing → List ℕ → Taken → Type 0 → (PartFault A → Type 0) → Option (List ℕ) → Option (List ℕ) → Result (Vec ℕ A) (PartFault A) → Type 0
-WritesTaken looks known givens w name t Sound Refuses had has (Ok told) = Sound × OfLater looks known givens
-    (λ logs. CanBe looks w t logs × Appends had has (text_taken w t) × (told.items ≡ report_taken looks w name t logs))
-WritesTaken looks known givens w name t Sound Refuses had has (Err (Run run.Write)) = Sound × OfLater looks known givens
+abbrev pub WritesTaken : {A R : Type 0} → Bool → (R → Option (List ℕ)) → List (GivenLog R) → Writing → Names → Taken → Type 0 → (PartFault A → Type 0) → Option (List ℕ) → Option (List ℕ) → Result (Vec ℕ A) (PartFault A) → Type 0
+WritesTaken looks known givens w names t Sound Refuses had has (Ok told) = Sound × OfLater looks known givens
+    (λ logs. CanBe looks w t logs × Appends had has (text_taken w t) × (told.items ≡ report_taken looks w names t logs))
+WritesTaken looks known givens w names t Sound Refuses had has (Err (Run run.Write)) = Sound × OfLater looks known givens
     (λ logs. CanBe looks w t logs × AppendsBeginning had has (text_taken w t))
-WritesTaken looks known givens w name t Sound Refuses had has (Err (Run run.Read)) = ⊥
-WritesTaken looks known givens w name t Sound Refuses had has (Err (Run (run.Log f))) = (f ≡ OutOfMemory) × Keeps had has
-WritesTaken looks known givens w name t Sound Refuses had has (Err TooLong) = ((Sound × OfLater looks known givens
+WritesTaken looks known givens w names t Sound Refuses had has (Err (Run run.Read)) = ⊥
+WritesTaken looks known givens w names t Sound Refuses had has (Err (Run (run.Log f))) = (f ≡ OutOfMemory) × Keeps had has
+WritesTaken looks known givens w names t Sound Refuses had has (Err TooLong) = ((Sound × OfLater looks known givens
     (λ logs. IsSafeIf looks t logs × (4294967295 < end_of_text w.sql w.order w.limit t.log t.sel))) ⊎ Refuses TooLong) × Keeps had has
-WritesTaken looks known givens w name t Sound Refuses had has (Err (NoSchema text)) = (Sound × OfLater looks known givens
+WritesTaken looks known givens w names t Sound Refuses had has (Err (NoSchema text)) = (Sound × OfLater looks known givens
     (λ logs. IsSafeIf looks t logs × ((n : ℕ) × (lacks w.sql (groups t.log t.sel) ≡ Some n)))) × Keeps had has
-WritesTaken looks known givens w name t Sound Refuses had has (Err (LaterLog n f)) = (Sound × (looks ≡ true) × FailsLater known givens n f) × Keeps had has
-WritesTaken looks known givens w name t Sound Refuses had has (Err (ChangedSince rows lines)) = (Sound × OfLater looks known givens
+WritesTaken looks known givens w names t Sound Refuses had has (Err (LaterLog n f)) = (Sound × (looks ≡ true) × FailsLater known givens n f) × Keeps had has
+WritesTaken looks known givens w names t Sound Refuses had has (Err (ChangedSince rows lines)) = (Sound × OfLater looks known givens
     (λ logs. (looks ≡ true) × AreChanged (steps_after t logs) rows)) × Keeps had has
-WritesTaken looks known givens w name t Sound Refuses had has (Err (UnknownSince lines)) = (Sound × OfLater looks known givens
+WritesTaken looks known givens w names t Sound Refuses had has (Err (UnknownSince lines)) = (Sound × OfLater looks known givens
     (λ logs. (looks ≡ true) × MayBeChanged (steps_after t logs) (tables_taken t) (after t logs))) × Keeps had has
-WritesTaken looks known givens w name t Sound Refuses had has (Err (NoEventAt pos)) = Refuses (NoEventAt pos) × Keeps had has
-WritesTaken looks known givens w name t Sound Refuses had has (Err (NoUnitAt place)) = Refuses (NoUnitAt place) × Keeps had has
-WritesTaken looks known givens w name t Sound Refuses had has (Err (NoUnitWithGtid n)) = Refuses (NoUnitWithGtid n) × Keeps had has
-WritesTaken looks known givens w name t Sound Refuses had has (Err (Sums f)) = Refuses (Sums f) × Keeps had has
-WritesTaken looks known givens w name t Sound Refuses had has (Err (Log f)) = Refuses (Log f) × Keeps had has
-WritesTaken looks known givens w name t Sound Refuses had has (Err NothingSelected) = Refuses NothingSelected × Keeps had has
+WritesTaken looks known givens w names t Sound Refuses had has (Err (NoEventAt pos)) = Refuses (NoEventAt pos) × Keeps had has
+WritesTaken looks known givens w names t Sound Refuses had has (Err (NoUnitAt place)) = Refuses (NoUnitAt place) × Keeps had has
+WritesTaken looks known givens w names t Sound Refuses had has (Err (NoUnitWithGtid n)) = Refuses (NoUnitWithGtid n) × Keeps had has
+WritesTaken looks known givens w names t Sound Refuses had has (Err (Sums f)) = Refuses (Sums f) × Keeps had has
+WritesTaken looks known givens w names t Sound Refuses had has (Err (Log f)) = Refuses (Log f) × Keeps had has
+WritesTaken looks known givens w names t Sound Refuses had has (Err NothingSelected) = Refuses NothingSelected × Keeps had has

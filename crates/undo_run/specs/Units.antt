@@ -23,6 +23,7 @@ use Rattle.blog_trans.specs.Selection.{Selection, all}
 use Rattle.blog_units.specs.Units.{Facts, Id, range_of_unit}
 use Rattle.undo_run.specs.After.{Later}
 use Rattle.undo_run.specs.Parts.{IsPlaced, RefusesStart, begins_at, damage_before, has_rows, has_start, is_at_end, selection_in}
+use Rattle.undo_run.specs.Several.{Names}
 use Rattle.undo_run.specs.Taken.{Taken}
 use Rattle.undo_run.specs.declared.fault.PartFault.{PartFault}
 use Rattle.undo_run.specs.declared.fault.PartFault.TheVariants.{Sums, NoUnitAt, NoUnitWithGtid, Log, NothingSelected, TooLong}
@@ -133,15 +134,15 @@ abbrev pub units_on : (Facts → Bool) → Selection → List ℕ → List Facts
 units_on p sel handed = from_first p (units_of_part sel handed)
 
 -- those of them that aren't chosen
-abbrev pub rest_among : List ℕ → (Facts → Bool) → Selection → List ℕ → ℕ → Option SumFault → Later
-rest_among name p sel handed end fault = record { name = name; handed = handed; units = others_of p (units_on p sel handed); end = end; fault = fault }
+abbrev pub rest_among : Names → (Facts → Bool) → Selection → List ℕ → ℕ → Option SumFault → Later
+rest_among names p sel handed end fault = record { names = names; handed = handed; units = others_of p (units_on p sel handed); end = end; fault = fault }
 
-abbrev pub chosen_taken : List ℕ → (Facts → Bool) → Selection → List ℕ → ℕ → Option SumFault → Taken
-chosen_taken name p sel handed end fault = record {
+abbrev pub chosen_taken : Names → (Facts → Bool) → Selection → List ℕ → ℕ → Option SumFault → Taken
+chosen_taken names p sel handed end fault = record {
   log = kept_log sel handed (chosen_units p sel handed);
   sel = all;
   steps = map (step_of p sel handed) (units_on p sel handed);
-  rest = rest_among name p sel handed end fault;
+  rest = rest_among names p sel handed end fault;
 }
 
 -- ---- their faults
@@ -202,8 +203,8 @@ RefusesChosen p sel handed end damage cause = ⊥
 
 -- ---- of a part
 
-abbrev pub units_taken : UnitRequest → List ℕ → Selection → List ℕ → ℕ → Option SumFault → Taken
-units_taken r name part handed end fault = chosen_taken name (is_asked r part handed) (selection_in part handed) handed end fault
+abbrev pub units_taken : UnitRequest → Names → Selection → List ℕ → ℕ → Option SumFault → Taken
+units_taken r names part handed end fault = chosen_taken names (is_asked r part handed) (selection_in part handed) handed end fault
 
 -- Where what came later is looked at, damage of the log is told with that. Else the log has to be read up to the part's stop.
 abbrev pub damage_among : Bool → Selection → ℕ → Option SumFault → Option SumFault

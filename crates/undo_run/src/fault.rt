@@ -3,8 +3,8 @@
 ghost use Rattle.std.specs.Prelude.{◌≡◌};
 ghost use Rattle.blog_device.specs.declared.fault.RunFault.TheVariants.{Log as OfLog};
 ghost use Rattle.blog_event.specs.declared.fault.Fault.TheVariants.{OutOfMemory};
-ghost use Rattle.undo_run.specs.code.Steps.{opening_cause};
 ghost use Rattle.undo_run.specs.declared.fault.OpeningFault.TheVariants as opening;
+ghost use Rattle.undo_run.specs.declared.fault.LogsFault.TheVariants.{Part};
 ghost use Rattle.undo_run.specs.declared.fault.PartFault.TheVariants.{Run};
 
 use blog_device::RunFault;
@@ -29,12 +29,36 @@ impl From<RunFault> for OpeningFault {
     }
 }
 
-/// Why a part of a log isn't written. But for `Run(Write)` nothing was written.
+/// Why a further log isn't read behind those before it.
+#[derive(Clone, Copy, Debug, PartialEq, Eq)]
+pub enum FurtherFault {
+    /// It isn't opened.
+    Opening(OpeningFault),
+    /// The log before it ends inside an event, or is damaged, at this place in that log.
+    Damaged(SumFault),
+    /// It is of another server, or of another version.
+    OtherServer,
+    /// The logs have more than 4,294,967,295 bytes together.
+    TooLong,
+}
+
+/// Why a part of logs isn't written. But for `Part(_, Run(Write))` nothing was written.
+#[derive(Drop)]
+pub enum LogsFault<A: Allocator> {
+    /// The first log isn't opened.
+    Opening(OpeningFault),
+    /// The further log of this number, from 1 on, isn't read.
+    Further(usize, FurtherFault),
+    /// The part isn't written. If the fault has a place, that is one of the log of this number, from 0 on.
+    Part(usize, PartFault<A>),
+}
+
+/// Why a part isn't written of logs that were read.
 #[derive(Drop)]
 pub enum PartFault<A: Allocator> {
-    /// A device failed, or the log can't be held.
+    /// A write failed, or memory was refused.
     Run(RunFault),
-    /// The log can't be opened; or in front of the stop it ends inside an event, or is damaged, at this place.
+    /// In front of the stop the last log ends inside an event, or is damaged, at this place.
     Sums(SumFault),
     /// No event begins at this place, which is to be the start.
     NoEventAt(u32),
@@ -66,21 +90,18 @@ impl<A: Allocator> From<RunFault> for PartFault<A> {
     }
 }
 
-impl<A: Allocator> From<OpeningFault> for PartFault<A> {
-    ghost from_gives = { λ cause fault. fault ≡ opening_cause cause };
-
-    fn from(fault: OpeningFault) -> PartFault<A> {
-        match fault {
-            OpeningFault::Run(fault) => PartFault::Run(fault),
-            OpeningFault::Sums(fault) => PartFault::Sums(fault),
-        }
-    }
-}
-
 impl<A: Allocator> From<AllocError> for PartFault<A> {
     ghost from_gives = { λ _ fault. fault ≡ Run (OfLog OutOfMemory) };
 
     fn from(_error: AllocError) -> PartFault<A> {
         PartFault::Run(RunFault::Log(Fault::OutOfMemory))
+    }
+}
+
+impl<A: Allocator> From<AllocError> for LogsFault<A> {
+    ghost from_gives = { λ _ fault. fault ≡ Part 0 (Run (OfLog OutOfMemory)) };
+
+    fn from(error: AllocError) -> LogsFault<A> {
+        LogsFault::Part(0, PartFault::from(error))
     }
 }

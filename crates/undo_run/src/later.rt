@@ -12,11 +12,13 @@ ghost use Rattle.undo_run.specs.After.{Later};
 ghost use Rattle.undo_run.specs.Parts.{part_taken, selection_in, stop_in};
 ghost use Rattle.undo_run.specs.Taken.{Taken, tables_taken};
 ghost use Rattle.undo_run.specs.Units.{chosen_taken, chosen_units, kept_log, units_of_part};
+ghost use Rattle.undo_run.specs.code.NamesView.{names_told};
 ghost use Rattle.undo_run.specs.code.SinceView.{AreSeen};
 ghost use Rattle.undo_run.specs.code.Steps.{CountsOn, Judges, LooksAt, LooksInto, LooksOn, chosen_by, chosen_changes};
 
 use crate::fault::PartFault;
 use crate::lines::Lines;
+use crate::log_names::Names;
 use crate::opening::open_log;
 use crate::request::Among;
 use crate::seen::{look_between, look_on};
@@ -67,9 +69,9 @@ fn look_into<'n, A: Allocator + Copy, L: Read + Drop>(
         Ok(log) => log.with_seed(seed),
         Err(fault) => return Err(PartFault::Run(RunFault::Log(fault))),
     };
-    let name = given.name.as_bytes();
+    let logs = Names::one(alloc, given.name.as_bytes());
     Ok(look_on(
-        alloc, since, lines, name, &source, &log, 0, left, lists, names,
+        alloc, since, lines, &logs, &source, &log, 0, left, lists, names,
     )?)
 }
 
@@ -143,7 +145,7 @@ fn look_further<'n, A: Allocator + Copy, L: Read + Drop>(
 pub(crate) fn look_later<'n, 'l, A: Allocator + Copy, L: Read + Drop>(
     alloc: A,
     source: &'l Source<A>,
-    name: &'n [u8],
+    logs: &Names<'n, A>,
     part: &Selection<'_>,
     index: &Index<'l, 'l, A>,
     later: Vec<GivenLog<'n, L>, A>,
@@ -152,7 +154,7 @@ pub(crate) fn look_later<'n, 'l, A: Allocator + Copy, L: Read + Drop>(
 ) -> Result<Since<'n, A>, PartFault<A>>
     requires bytes { index_bytes index.now ≡ log_of source.now }
     requires selection { index_selection index.now ≡ selection_in (selection_of part.now) (log_of source.now) }
-    ensures { LooksAt L.remaining later.entry.items (part_taken name.now (selection_of part.now) (log_of source.now) (end_of source.now) (fault_of source.now)) result }
+    ensures { LooksAt L.remaining later.entry.items (part_taken (names_told logs.now) (selection_of part.now) (log_of source.now) (end_of source.now) (fault_of source.now)) result }
 {
     let tables = tables_named(alloc, index)?;
     let choice = TableChoice {
@@ -167,7 +169,7 @@ pub(crate) fn look_later<'n, 'l, A: Allocator + Copy, L: Read + Drop>(
         alloc,
         &Since::none(alloc),
         &mut lines,
-        name,
+        logs,
         source,
         &index.log(),
         stop_in(source, part),
@@ -184,7 +186,7 @@ pub(crate) fn look_later<'n, 'l, A: Allocator + Copy, L: Read + Drop>(
 pub(crate) fn look_after_units<'n, A: Allocator + Copy, L: Read + Drop>(
     alloc: A,
     source: &Source<A>,
-    name: &'n [u8],
+    logs: &Names<'n, A>,
     log: &Log<'_>,
     inside: &Selection<'_>,
     among: &Among<'_, '_>,
@@ -200,7 +202,7 @@ pub(crate) fn look_after_units<'n, A: Allocator + Copy, L: Read + Drop>(
     requires selection { index_selection index.now ≡ all }
     requires chosen { chosen.now ≡ map (chosen_by among.now (selection_of inside.now) (log_of source.now)) (units_of_part (selection_of inside.now) (log_of source.now)) }
     requires left { HasLeft (chosen_changes (selection_of inside.now) (log_of source.now) (chosen_units (chosen_by among.now (selection_of inside.now) (log_of source.now)) (selection_of inside.now) (log_of source.now))) leaving }
-    ensures { LooksAt L.remaining later.entry.items (chosen_taken name.now (chosen_by among.now (selection_of inside.now) (log_of source.now)) (selection_of inside.now) (log_of source.now) (end_of source.now) (fault_of source.now)) result }
+    ensures { LooksAt L.remaining later.entry.items (chosen_taken (names_told logs.now) (chosen_by among.now (selection_of inside.now) (log_of source.now)) (selection_of inside.now) (log_of source.now) (end_of source.now) (fault_of source.now)) result }
 {
     let tables = tables_named(alloc, index)?;
     let choice = TableChoice {
@@ -214,7 +216,7 @@ pub(crate) fn look_after_units<'n, A: Allocator + Copy, L: Read + Drop>(
     let rest = look_between(
         alloc,
         &mut lines,
-        name,
+        logs,
         source,
         log,
         inside.start,

@@ -1,20 +1,22 @@
-//! The run behind `undo` and `redo`: the changes of a part of a server's log, or what undoes them, and a report of them.
+//! The run behind `undo` and `redo`: the changes of a part of a server's logs, or what undoes them, and a report of them.
 #![tactic(auto)]
 
 mod chosen;
 mod fault;
 mod later;
 mod lines;
+mod log_names;
 mod missing;
 mod opening;
 mod part;
 mod reports;
 mod request;
 mod seen;
+mod several;
 mod since;
 mod tables;
 mod written_part;
 
-pub use fault::{OpeningFault, PartFault};
+pub use fault::{FurtherFault, LogsFault, OpeningFault, PartFault};
 pub use request::UnitRequest;
 pub use written_part::write_part;

@@ -1,5 +1,7 @@
 //! The lines that say where a part was changed since, and what of it isn't known.
 
+use crate::log_names::Names;
+use crate::since::Place;
 use blog_later::{Looked, TouchedRows};
 use blog_list::time_text;
 use blog_row::RowsAction;
@@ -44,21 +46,21 @@ impl<'z, A: Allocator + Copy> Lines<'z, A> {
         }
     }
 
-    /// Appends the lines of one more log.
-    pub(crate) fn put<B: Allocator, C: Allocator>(
+    /// Appends the lines of one more log, or of several that are read as one.
+    pub(crate) fn put<N: Allocator, B: Allocator, C: Allocator>(
         &mut self,
-        name: &[u8],
+        logs: &Names<'_, N>,
         source: &Source<B>,
         looked: &Looked<'_, C>,
     ) -> Result<(), AllocError> {
         for rows in &looked.first {
-            self.put_rows(name, source.place(rows.at), rows)?;
+            self.put_rows(&logs.place(source.place(rows.at)), rows)?;
         }
         for at in &looked.unknown {
-            self.put_unit(name, source.place(*at))?;
+            self.put_unit(&logs.place(source.place(*at)))?;
         }
         if source.fault().is_some() {
-            put_place(&mut self.damage, name, source.end())?;
+            put_place(&mut self.damage, &logs.place(source.end()))?;
             put_text(
                 &mut self.damage,
                 b": the log is damaged, or ends inside an event\n",
@@ -68,27 +70,22 @@ impl<'z, A: Allocator + Copy> Lines<'z, A> {
     }
 
     /// Appends the line of a rows event, unless enough have one.
-    fn put_rows(
-        &mut self,
-        name: &[u8],
-        place: u32,
-        rows: &TouchedRows<'_>,
-    ) -> Result<(), AllocError> {
+    fn put_rows(&mut self, place: &Place<'_>, rows: &TouchedRows<'_>) -> Result<(), AllocError> {
         if self.events >= MOST {
             return Ok(());
         }
         self.events = self.events.saturating_add(1);
-        put_touched(&mut self.touched, self.zone, name, place, rows)
+        put_touched(&mut self.touched, self.zone, place, rows)
     }
 
     /// Appends the line of a unit, or counts it if enough have one.
-    fn put_unit(&mut self, name: &[u8], place: u32) -> Result<(), AllocError> {
+    fn put_unit(&mut self, place: &Place<'_>) -> Result<(), AllocError> {
         if self.units >= MOST {
             self.more = self.more.saturating_add(1);
             return Ok(());
         }
         self.units = self.units.saturating_add(1);
-        put_unknown(&mut self.unknown, name, place)
+        put_unknown(&mut self.unknown, place)
     }
 
     /// Returns them all.
@@ -116,25 +113,20 @@ fn action_text(action: RowsAction) -> &'static [u8] {
 }
 
 /// Appends the name of a log, and a place in it.
-fn put_place<A: Allocator>(
-    out: &mut Vec<u8, A>,
-    name: &[u8],
-    place: u32,
-) -> Result<(), AllocError> {
-    put_escaped(out, name)?;
+fn put_place<A: Allocator>(out: &mut Vec<u8, A>, place: &Place<'_>) -> Result<(), AllocError> {
+    put_escaped(out, place.name)?;
     put_text(out, b" ")?;
-    put_number(out, u64::from(place))
+    put_number(out, u64::from(place.at))
 }
 
 /// Appends the line of a rows event that takes rows of a part, with its time.
 fn put_touched<A: Allocator>(
     out: &mut Vec<u8, A>,
     zone: TimeZone<'_>,
-    name: &[u8],
-    place: u32,
+    place: &Place<'_>,
     rows: &TouchedRows<'_>,
 ) -> Result<(), AllocError> {
-    put_place(out, name, place)?;
+    put_place(out, place)?;
     put_text(out, b" ")?;
     put_text(out, time_text(zone, rows.time).as_str().as_bytes())?;
     put_text(out, b" ")?;
@@ -143,12 +135,8 @@ fn put_touched<A: Allocator>(
 }
 
 /// Appends the line of a unit that may concern the tables of a part.
-fn put_unknown<A: Allocator>(
-    out: &mut Vec<u8, A>,
-    name: &[u8],
-    place: u32,
-) -> Result<(), AllocError> {
-    put_place(out, name, place)?;
+fn put_unknown<A: Allocator>(out: &mut Vec<u8, A>, place: &Place<'_>) -> Result<(), AllocError> {
+    put_place(out, place)?;
     put_text(
         out,
         b": may change these tables, and can't be looked into\n",

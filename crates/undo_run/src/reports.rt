@@ -4,48 +4,72 @@ ghost use Rattle.std.specs.Prelude.{◌≡◌, ◌++◌, IfOk, OnOk, length, opt
 ghost use Rattle.std.specs.List.{list_any};
 ghost use Rattle.blog_text.specs.code.Counted.{counts_in};
 ghost use Rattle.blog_trans.specs.code.IndexView.{index_groups, table_counted};
-ghost use Rattle.undo_run.specs.Reports.{cascades_text, changes_told, has_followers, report, rows_told, since_text, transactions_text, turned, unlooked_text, verb};
+ghost use Rattle.undo_run.specs.Reports.{cascades_text, changes_told, has_followers, names_text, next_name, report, rows_told, since_text, transactions_text, turned, unlooked_text, verb};
+ghost use Rattle.undo_run.specs.code.NamesView.{begun_told, names_told};
 ghost use Rattle.undo_run.specs.code.SinceView.{since_seen};
 
+use crate::log_names::{Begun, Names};
 use crate::since::{Since, put_since};
 use blog_row::Order;
 use blog_text::{put_count, put_escaped, put_number, put_text};
 use blog_trans::{Index, TableCount};
 use std::alloc::{AllocError, Allocator};
 
-/// Returns the report of the groups of an index of a log of this name, which are written in this order.
-pub(crate) fn report_of<A: Allocator, B: Allocator>(
+/// Returns the report of the groups of an index of logs of these names, which are written in this order.
+pub(crate) fn report_of<A: Allocator, N: Allocator, B: Allocator>(
     alloc: A,
-    name: &[u8],
+    logs: &Names<'_, N>,
     order: Order,
     index: &Index<'_, '_, B>,
     since: &Option<Since<'_, A>>,
 ) -> Result<Vec<u8, A>, AllocError>
-    ensures { IfOk result (λ told. told.items ≡ report order name.now (length (index_groups index.now)) (counts_in index.now) (option_map since_seen since.now)) }
+    ensures { IfOk result (λ told. told.items ≡ report order (names_told logs.now) (length (index_groups index.now)) (counts_in index.now) (option_map since_seen since.now)) }
 {
     let mut out = Vec::new(alloc);
-    put_changes(&mut out, name, order, index)?;
+    put_changes(&mut out, logs, order, index)?;
     put_later(&mut out, order, since)?;
     put_text(&mut out, cascades_text(order, index))?;
     Ok(out)
 }
 
 /// Appends the first line of a report.
-fn put_changes<A: Allocator, B: Allocator>(
+fn put_changes<A: Allocator, N: Allocator, B: Allocator>(
     out: &mut Vec<u8, A>,
-    name: &[u8],
+    logs: &Names<'_, N>,
     order: Order,
     index: &Index<'_, '_, B>,
 ) -> Result<(), AllocError>
-    ensures { OnOk result (out.new.items ≡ out.old.items ++ changes_told order name.now (length (index_groups index.now)) (counts_in index.now)) }
+    ensures { OnOk result (out.new.items ≡ out.old.items ++ changes_told order (names_told logs.now) (length (index_groups index.now)) (counts_in index.now)) }
 {
     put_text(out, verb(order))?;
     put_transactions(out, index.transactions())?;
     put_text(out, b" of ")?;
-    put_escaped(out, name)?;
+    put_names(out, logs)?;
     put_text(out, b": ")?;
     put_rows(out, order, index)?;
     put_text(out, b"\n")
+}
+
+/// Appends the names of logs.
+fn put_names<A: Allocator, N: Allocator>(
+    out: &mut Vec<u8, A>,
+    logs: &Names<'_, N>,
+) -> Result<(), AllocError>
+    ensures { OnOk result (out.new.items ≡ out.old.items ++ names_text (names_told logs.now)) }
+{
+    put_escaped(out, logs.first)?;
+    for n in 0..logs.more.len() {
+        put_next_name(out, logs.more[n])?;
+    }
+    Ok(())
+}
+
+/// Appends the name of a further log.
+fn put_next_name<A: Allocator>(out: &mut Vec<u8, A>, begun: Begun<'_>) -> Result<(), AllocError>
+    ensures { OnOk result (out.new.items ≡ out.old.items ++ next_name (begun_told begun.entry)) }
+{
+    put_text(out, b", ")?;
+    put_escaped(out, begun.name)
 }
 
 /// What is done with changes in an order.

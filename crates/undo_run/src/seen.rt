@@ -11,9 +11,11 @@ ghost use Rattle.blog_units.specs.Units.{Facts};
 ghost use Rattle.blog_source.specs.code.SourceView.{end_of, fault_of, log_of};
 ghost use Rattle.blog_trans.specs.Places.{placed};
 ghost use Rattle.undo_run.specs.After.{Later, Place as APlace, next_log, place_at, rotated_to};
+ghost use Rattle.undo_run.specs.code.NamesView.{names_told};
 ghost use Rattle.undo_run.specs.code.SinceView.{AreSeen, IsLooked, later_of, place_seen};
 
 use crate::lines::Lines;
+use crate::log_names::Names;
 use crate::since::{Place, Since};
 use blog_choice::ChosenNames;
 use blog_event::constants::ROTATE_EVENT;
@@ -23,22 +25,19 @@ use blog_source::Source;
 use std::alloc::{AllocError, Allocator};
 
 /// The first place, where the first so far is given, and the first of more is the place of the first of some positions.
-fn first_place<'n, B: Allocator>(
+fn first_place<'n, N: Allocator, B: Allocator>(
     first: Option<Place<'n>>,
-    name: &'n [u8],
+    logs: &Names<'n, N>,
     source: &Source<B>,
     positions: &[u32],
 ) -> Option<Place<'n>>
     ensures { (ps : List APlace) → option_map place_seen first.entry ≡ slice_get ps 0
-        → option_map place_seen result ≡ slice_get (ps ++ map (place_at name.now (log_of source.now) (end_of source.now)) positions.now) 0 }
+        → option_map place_seen result ≡ slice_get (ps ++ map (place_at (names_told logs.now) (log_of source.now) (end_of source.now)) positions.now) 0 }
 {
     match first {
         Some(place) => Some(place),
         None => match positions.first() {
-            Some(at) => Some(Place {
-                name,
-                at: source.place(*at),
-            }),
+            Some(at) => Some(logs.place(source.place(*at))),
             None => None,
         },
     }
@@ -89,17 +88,17 @@ impl<'n, A: Allocator> Since<'n, A> {
     }
 
     /// What was seen with one more log, which goes on in that of a name.
-    fn with<B: Allocator, C: Allocator>(
+    fn with<N: Allocator, B: Allocator, C: Allocator>(
         &self,
         alloc: A,
-        name: &'n [u8],
+        logs: &Names<'n, N>,
         source: &Source<B>,
         looked: &Looked<'_, C>,
         next: &[u8],
     ) -> Result<Since<'n, A>, AllocError>
         requires { next.now ≡ next_log (log_of source.now) }
-        ensures { (n m : ℕ) → (choice : Choice) → (us : List Facts) → (ls : List Later) → IsLooked m choice (later_of name.now source.now us) looked.now → AreSeen n choice ls self.now
-            → IfOk result (AreSeen (n + m) choice (ls ++ later_of name.now source.now us ∷ [])) }
+        ensures { (n m : ℕ) → (choice : Choice) → (us : List Facts) → (ls : List Later) → IsLooked m choice (later_of (names_told logs.now) source.now us) looked.now → AreSeen n choice ls self.now
+            → IfOk result (AreSeen (n + m) choice (ls ++ later_of (names_told logs.now) source.now us ∷ [])) }
     {
         let mut goes_on = Vec::new(alloc);
         goes_on.extend_from_slice(next)?;
@@ -108,23 +107,20 @@ impl<'n, A: Allocator> Since<'n, A> {
             touched: self.touched.saturating_add(looked.touched),
             unknown: self.unknown.saturating_add(looked.unknown.len() as u64),
             apart: self.apart.saturating_add(looked.apart.len() as u64),
-            first: first_place(self.first, name, source, &looked.apart),
-            end: Some(Place {
-                name,
-                at: source.end(),
-            }),
+            first: first_place(self.first, logs, source, &looked.apart),
+            end: Some(logs.place(source.end())),
             next: goes_on,
             is_damaged: self.is_damaged || source.fault().is_some(),
         })
     }
 }
 
-/// Looks at what one more log has after a position, in bytes from the start of what is handed out of it, and returns what was seen so far.
-pub(crate) fn look_on<'n, A: Allocator + Copy, B: Allocator>(
+/// Looks at what one more log has after a position, or several that are read as one, in bytes from the start of what is handed out of it, and returns what was seen so far.
+pub(crate) fn look_on<'n, A: Allocator + Copy, N: Allocator, B: Allocator>(
     alloc: A,
     since: &Since<'n, A>,
     lines: &mut Lines<'_, A>,
-    name: &'n [u8],
+    logs: &Names<'n, N>,
     source: &Source<B>,
     log: &Log<'_>,
     at: u32,
@@ -135,19 +131,19 @@ pub(crate) fn look_on<'n, A: Allocator + Copy, B: Allocator>(
     requires { log_bytes log.now ≡ log_of source.now }
     ensures { (n : ℕ) → (ls : List Later) → AreSeen n (names_choice names.now) ls since.now
         → IfOk result (AreSeen (n + touches_in (left_before left.now lists) (log_of source.now) (later_units (log_of source.now) at)) (names_choice names.now)
-        (ls ++ later_of name.now source.now (later_units (log_of source.now) at) ∷ [])) }
+        (ls ++ later_of (names_told logs.now) source.now (later_units (log_of source.now) at) ∷ [])) }
 {
     let looked = look(alloc, left, lists, names, log, at)?;
-    lines.put(name, source, &looked)?;
-    since.with(alloc, name, source, &looked, next_log(log))
+    lines.put(logs, source, &looked)?;
+    since.with(alloc, logs, source, &looked, next_log(log))
 }
 
 /// Looks at what a log has after the first chosen unit, from a position on, but for the chosen units, and returns what was seen. `chosen` says of
 /// each unit in turn whether it is chosen.
-pub(crate) fn look_between<'n, A: Allocator + Copy, B: Allocator>(
+pub(crate) fn look_between<'n, A: Allocator + Copy, N: Allocator, B: Allocator>(
     alloc: A,
     lines: &mut Lines<'_, A>,
-    name: &'n [u8],
+    logs: &Names<'n, N>,
     source: &Source<B>,
     log: &Log<'_>,
     at: u32,
@@ -158,9 +154,9 @@ pub(crate) fn look_between<'n, A: Allocator + Copy, B: Allocator>(
     requires { log_bytes log.now ≡ log_of source.now }
     ensures { (p : Facts → Bool) → chosen.now ≡ map p (later_units (log_of source.now) at)
         → IfOk result (AreSeen (0 + touches_by (left_before left.now) p (log_of source.now) 0 (from_first p (later_units (log_of source.now) at))) (names_choice names.now)
-        (later_of name.now source.now (others_of p (from_first p (later_units (log_of source.now) at))) ∷ [])) }
+        (later_of (names_told logs.now) source.now (others_of p (from_first p (later_units (log_of source.now) at))) ∷ [])) }
 {
     let looked = look_among(alloc, left, names, chosen, log, at)?;
-    lines.put(name, source, &looked)?;
-    Since::none(alloc).with(alloc, name, source, &looked, next_log(log))
+    lines.put(logs, source, &looked)?;
+    Since::none(alloc).with(alloc, logs, source, &looked, next_log(log))
 }

@@ -11,18 +11,20 @@ ghost use Rattle.blog_trans.specs.Selection.{all, selection_of};
 ghost use Rattle.blog_trans.specs.code.IndexView.{index_bytes, index_selection};
 ghost use Rattle.undo_run.specs.Parts.{part_taken, reading_of, selection_in};
 ghost use Rattle.undo_run.specs.Units.{chosen_taken, chosen_units, damage_among, kept_log, units_of_part};
-ghost use Rattle.undo_run.specs.Writes.{WritesHanded, WritesPart, is_failed_read, is_failed_write};
+ghost use Rattle.undo_run.specs.Writes.{IsLocatedIn, WritesHanded, WritesPart, has_failed_read, has_failed_write, is_failed_write};
+ghost use Rattle.undo_run.specs.code.NamesView.{names_told};
 ghost use Rattle.undo_run.specs.code.SinceView.{since_seen};
 ghost use Rattle.undo_run.specs.code.Steps.{LacksUnits, Looks, WritesIndex, chosen_by, chosen_changes};
 
 use crate::chosen::{Chosen, choose, index_of_chosen};
-use crate::fault::PartFault;
+use crate::fault::{LogsFault, PartFault};
 use crate::later::{look_after_units, look_later};
+use crate::log_names::Names;
 use crate::missing::{first_missing, first_without_unit};
-use crate::opening::open_log;
 use crate::part::{damage_before, has_start, inside_of, no_start, select_part};
 use crate::reports::report_of;
 use crate::request::{Among, UnitRequest, positions_of};
+use crate::several::{Logs, open_logs};
 use crate::since::Since;
 use advice::no_schema;
 use blog_device::{RunFault, Watched};
@@ -38,30 +40,35 @@ use list_run::GivenLog;
 use std::alloc::{AllocError, Allocator};
 use std::io::{Read, Write};
 
-/// Reads a server's log, and writes the changes of a part, or what undoes them, as a log or as SQL. Each new name of a schema must have
-/// at most 255 bytes. Returns a report for people, with the name of the log: how many transactions, and how many rows of which tables. All
+/// Reads logs of one server, and writes the changes of a part, or what undoes them, as a log or as SQL. Each new name of a schema must have
+/// at most 255 bytes. Returns a report for people, with the names of the logs: how many transactions, and how many rows of which tables. All
 /// memory is taken before the first write.
 ///
-/// The part is a selection by places: positions in the server's log, with its checksums. Its start is where an event begins, or the end
-/// of the log; one up to 4 is the first event.
+/// The logs are a first one, and further ones, each begun where the one before ended. They are read as one, and held in memory together. All but
+/// the last are read to their ends.
+///
+/// The part is a selection by places: positions in the server's logs, with their checksums. Its start is where an event of the first log begins,
+/// or, of one log alone, its end; one up to 4 is the first event. Its stop is a place of the last log.
 ///
 /// Without `asked` all of the part is written. With it units are made of the events from the start on, and those are written that
 /// start before the stop, and are asked for; but if the part has a database or a table, a statement that names none of its tables is
-/// passed over, as `list` does it. Each is accepted by itself, up to the stop, and the others stay as they are.
+/// passed over, as `list` does it. Each is accepted by itself, up to the stop, and the others stay as they are. Places that are asked for are
+/// counted from the start of the first log.
 ///
 /// `looks` says whether what came after is looked at: the units after the stop, or from the first chosen one on those that aren't chosen, to
-/// the end of the log; and then the later logs, each of which is read when its turn comes, to its end. It fails with `ChangedSince` if these
-/// take rows that changes before them left, which are written, and else with `UnknownSince` if one of the logs is damaged, for a part
+/// the end of the logs; and then the later logs, each of which is read when its turn comes, to its end. It fails with `ChangedSince` if these
+/// take rows that changes before them left, which are written, and else with `UnknownSince` if the last log or a later one is damaged, for a part
 /// after its stop, or if something there may concern the changed tables, and can't be looked into. Without `looks` no later log is read, and
-/// of the log itself what is at the stop or after it only if units are asked for.
+/// of the last log what is at the stop or after it only if units are asked for.
 ///
-/// Fails at the first of these that holds: with `Run` if the reader fails or the log is too long, or if memory is refused; with `Sums` if
-/// the log can't be opened; with `NoEventAt` if no event begins at the start, or with `Sums` if the log ends too early or is damaged in
-/// front of it; with `NoUnitAt` at the first of the asked places that no unit of the part has, or with `NoUnitWithGtid` of the first of the
-/// global transaction ids, or with `Sums` if the part is damaged then; with `Log` or `Sums` of the first fault in the order of the log; with `NothingSelected` if no rows are changed; with
+/// Fails at the first of these that holds: with `Opening` if the reader fails, the first log is too long or can't be opened, or if memory is
+/// refused; with `Further` of the first further log that can't be opened, or read behind those before it; and else with `Part`: with `NoEventAt` if no
+/// event of the first log begins at the start, or with `Sums` if the log ends too early or is damaged in front of it; with `NoUnitAt` at the
+/// first of the asked places that no unit of the part has, or with `NoUnitWithGtid` of the first of the global transaction ids, or with `Sums` if
+/// the part is damaged then; with `Log` or `Sums` of the first fault in the order of the logs; with `NothingSelected` if no rows are changed; with
 /// `LaterLog` of the first later log that isn't opened, by its number; with `ChangedSince` or `UnknownSince`; with `NoSchema` if the changes
 /// have no table of a schema that is to have another name; with `TooLong`. The writer wasn't called then. With `looks` and `asked` damage of
-/// the log is no fault of its own, but `UnknownSince`.
+/// the last log is no fault of its own, but `UnknownSince`.
 /// Fails with `Run(Write)` if a write failed; the writer then has a beginning of what is written.
 ///
 /// Names and ids of tables are hashed by the seed (`Log::with_seed`). What is written doesn't depend on it. The lines of `ChangedSince` have
@@ -70,6 +77,67 @@ pub fn write_part<'n, A: Allocator + Copy, R: Read, L: Read + Drop, W: Write>(
     alloc: A,
     reader: &mut Watched<R>,
     name: &'n [u8],
+    more: Vec<GivenLog<'n, L>, A>,
+    part: &Selection<'_>,
+    asked: Option<UnitRequest<'_>>,
+    looks: bool,
+    later: Vec<GivenLog<'n, L>, A>,
+    seed: u64,
+    zone: TimeZone<'_>,
+    writing: &Writing<'_>,
+    writer: &mut Watched<W>,
+) -> Result<Vec<u8, A>, LogsFault<A>>
+    requires { HasShortWriting writing.now }
+    ensures writes { WritesPart looks L.remaining later.entry.items writing.now name.now more.entry.items (selection_of part.now) asked.entry (R.remaining (device_of reader.old)) (R.remaining (device_of reader.new))
+        (W.contents (device_of writer.old)) (W.contents (device_of writer.new)) result }
+    ensures untouched { OnErr result (has_failed writer.new ≡ false → writer.new ≡ writer.old) }
+    ensures reader_mark { has_failed reader.new ≡ (has_failed reader.old || has_failed_read result) }
+    ensures writer_mark { has_failed writer.new ≡ (has_failed writer.old || has_failed_write result) }
+{
+    let logs = match open_logs(alloc, reader, name, more, read_to(part, &asked, looks)) {
+        Ok(logs) => logs,
+        Err(fault) => return Err(fault),
+    };
+    if !logs.names.starts_in_first(part.start) {
+        return Err(LogsFault::Part(0, PartFault::NoEventAt(part.start)));
+    }
+    let inside = logs.names.part_among(part);
+    match write_read(
+        alloc, &logs, &inside, asked, looks, later, seed, zone, writing, writer,
+    ) {
+        Ok(told) => Ok(told),
+        Err(fault) => Err(located_fault(&logs.names, fault)),
+    }
+}
+
+/// A fault of logs that were read as one, by its log.
+fn located_fault<A: Allocator, N: Allocator>(
+    names: &Names<'_, N>,
+    fault: PartFault<A>,
+) -> LogsFault<A>
+    ensures { IsLocatedIn (names_told names.now) fault result }
+{
+    match fault {
+        PartFault::Log(fault) => match fault.at() {
+            Some(place) => {
+                let located = names.located(place);
+                LogsFault::Part(located.number, PartFault::Log(fault.moved_to(located.at)))
+            }
+            None => LogsFault::Part(0, PartFault::Log(fault)),
+        },
+        PartFault::Sums(fault) => LogsFault::Part(names.more.len(), PartFault::Sums(fault)),
+        PartFault::NoUnitAt(place) => {
+            let located = names.located(place);
+            LogsFault::Part(located.number, PartFault::NoUnitAt(located.at))
+        }
+        fault => LogsFault::Part(0, fault),
+    }
+}
+
+/// Writes a part of logs that were read as one.
+fn write_read<'n, A: Allocator + Copy, L: Read + Drop, W: Write>(
+    alloc: A,
+    logs: &Logs<'n, A>,
     part: &Selection<'_>,
     asked: Option<UnitRequest<'_>>,
     looks: bool,
@@ -79,23 +147,21 @@ pub fn write_part<'n, A: Allocator + Copy, R: Read, L: Read + Drop, W: Write>(
     writing: &Writing<'_>,
     writer: &mut Watched<W>,
 ) -> Result<Vec<u8, A>, PartFault<A>>
-    requires { HasShortWriting writing.now }
-    ensures writes { WritesPart looks L.remaining later.entry.items writing.now name.now (selection_of part.now) asked.entry (R.remaining (device_of reader.old)) (R.remaining (device_of reader.new))
-        (W.contents (device_of writer.old)) (W.contents (device_of writer.new)) result }
+    requires short { HasShortWriting writing.now }
+    requires opens { opening_fault (log_of logs.now.source) ≡ None }
+    ensures writes { WritesHanded looks L.remaining later.entry.items writing.now (names_told logs.now.names) (selection_of part.now) asked.entry
+        (log_of logs.now.source) (end_of logs.now.source) (fault_of logs.now.source) (W.contents (device_of writer.old)) (W.contents (device_of writer.new)) result }
     ensures untouched { OnErr result (has_failed writer.new ≡ false → writer.new ≡ writer.old) }
-    ensures reader_mark { has_failed reader.new ≡ (has_failed reader.old || is_failed_read result) }
-    ensures writer_mark { has_failed writer.new ≡ (has_failed writer.old || is_failed_write result) }
+    ensures mark { has_failed writer.new ≡ (has_failed writer.old || is_failed_write result) }
 {
-    let source = match open_log(alloc, reader, read_to(part, &asked, looks)) {
-        Ok(source) => source,
-        Err(fault) => return Err(PartFault::from(fault)),
-    };
+    let source = &logs.source;
+    let names = &logs.names;
     match asked {
         None => write_all(
-            alloc, &source, name, part, looks, later, seed, zone, writing, writer,
+            alloc, source, names, part, looks, later, seed, zone, writing, writer,
         ),
         Some(asked) => write_units(
-            alloc, &source, name, part, &asked, looks, later, seed, zone, writing, writer,
+            alloc, source, names, part, &asked, looks, later, seed, zone, writing, writer,
         ),
     }
 }
@@ -115,7 +181,7 @@ fn read_to(part: &Selection<'_>, asked: &Option<UnitRequest<'_>>, looks: bool) -
 fn look_if<'n, 'l, A: Allocator + Copy, L: Read + Drop>(
     alloc: A,
     source: &'l Source<A>,
-    name: &'n [u8],
+    logs: &Names<'n, A>,
     part: &Selection<'_>,
     index: &Index<'l, 'l, A>,
     looks: bool,
@@ -125,10 +191,10 @@ fn look_if<'n, 'l, A: Allocator + Copy, L: Read + Drop>(
 ) -> Result<Option<Since<'n, A>>, PartFault<A>>
     requires bytes { index_bytes index.now ≡ log_of source.now }
     requires selection { index_selection index.now ≡ selection_in (selection_of part.now) (log_of source.now) }
-    ensures { Looks looks L.remaining later.entry.items (part_taken name.now (selection_of part.now) (log_of source.now) (end_of source.now) (fault_of source.now)) result }
+    ensures { Looks looks L.remaining later.entry.items (part_taken (names_told logs.now) (selection_of part.now) (log_of source.now) (end_of source.now) (fault_of source.now)) result }
 {
     if looks {
-        match look_later(alloc, source, name, part, index, later, seed, zone) {
+        match look_later(alloc, source, logs, part, index, later, seed, zone) {
             Ok(since) => Ok(Some(since)),
             Err(fault) => Err(fault),
         }
@@ -141,7 +207,7 @@ fn look_if<'n, 'l, A: Allocator + Copy, L: Read + Drop>(
 fn write_all<'n, A: Allocator + Copy, L: Read + Drop, W: Write>(
     alloc: A,
     source: &Source<A>,
-    name: &'n [u8],
+    logs: &Names<'n, A>,
     part: &Selection<'_>,
     looks: bool,
     later: Vec<GivenLog<'n, L>, A>,
@@ -151,7 +217,7 @@ fn write_all<'n, A: Allocator + Copy, L: Read + Drop, W: Write>(
     writer: &mut Watched<W>,
 ) -> Result<Vec<u8, A>, PartFault<A>>
     requires { HasShortWriting writing.now }
-    ensures writes { WritesHanded looks L.remaining later.entry.items writing.now name.now (selection_of part.now) None (log_of source.now) (end_of source.now) (fault_of source.now)
+    ensures writes { WritesHanded looks L.remaining later.entry.items writing.now (names_told logs.now) (selection_of part.now) None (log_of source.now) (end_of source.now) (fault_of source.now)
         (W.contents (device_of writer.old)) (W.contents (device_of writer.new)) result }
     ensures untouched { OnErr result (has_failed writer.new ≡ false → writer.new ≡ writer.old) }
     ensures mark { has_failed writer.new ≡ (has_failed writer.old || is_failed_write result) }
@@ -160,11 +226,11 @@ fn write_all<'n, A: Allocator + Copy, L: Read + Drop, W: Write>(
         Ok(index) => index,
         Err(fault) => return Err(fault),
     };
-    let since = match look_if(alloc, source, name, part, &index, looks, later, seed, zone) {
+    let since = match look_if(alloc, source, logs, part, &index, looks, later, seed, zone) {
         Ok(since) => since,
         Err(fault) => return Err(fault),
     };
-    write_index(alloc, name, &index, &since, writing, writer)
+    write_index(alloc, logs, &index, &since, writing, writer)
 }
 
 /// Why the reading of a source ended, if units are asked for and it ended in front of the stop of their part; nothing if what came later is looked at.
@@ -211,7 +277,7 @@ fn missing<A: Allocator>(
 fn look_among_if<'n, A: Allocator + Copy, L: Read + Drop>(
     alloc: A,
     source: &Source<A>,
-    name: &'n [u8],
+    logs: &Names<'n, A>,
     log: &Log<'_>,
     inside: &Selection<'_>,
     among: &Among<'_, '_>,
@@ -228,11 +294,11 @@ fn look_among_if<'n, A: Allocator + Copy, L: Read + Drop>(
     requires selection { index_selection index.now ≡ all }
     requires chosen { chosen.now ≡ map (chosen_by among.now (selection_of inside.now) (log_of source.now)) (units_of_part (selection_of inside.now) (log_of source.now)) }
     requires left { looks ≡ true → HasLeft (chosen_changes (selection_of inside.now) (log_of source.now) (chosen_units (chosen_by among.now (selection_of inside.now) (log_of source.now)) (selection_of inside.now) (log_of source.now))) leaving }
-    ensures { Looks looks L.remaining later.entry.items (chosen_taken name.now (chosen_by among.now (selection_of inside.now) (log_of source.now)) (selection_of inside.now) (log_of source.now) (end_of source.now) (fault_of source.now)) result }
+    ensures { Looks looks L.remaining later.entry.items (chosen_taken (names_told logs.now) (chosen_by among.now (selection_of inside.now) (log_of source.now)) (selection_of inside.now) (log_of source.now) (end_of source.now) (fault_of source.now)) result }
 {
     if looks {
         match look_after_units(
-            alloc, source, name, log, inside, among, chosen, index, leaving, later, seed, zone,
+            alloc, source, logs, log, inside, among, chosen, index, leaving, later, seed, zone,
         ) {
             Ok(since) => Ok(Some(since)),
             Err(fault) => Err(fault),
@@ -246,7 +312,7 @@ fn look_among_if<'n, A: Allocator + Copy, L: Read + Drop>(
 fn write_units<'n, A: Allocator + Copy, L: Read + Drop, W: Write>(
     alloc: A,
     source: &Source<A>,
-    name: &'n [u8],
+    logs: &Names<'n, A>,
     part: &Selection<'_>,
     asked: &UnitRequest<'_>,
     looks: bool,
@@ -258,7 +324,7 @@ fn write_units<'n, A: Allocator + Copy, L: Read + Drop, W: Write>(
 ) -> Result<Vec<u8, A>, PartFault<A>>
     requires short { HasShortWriting writing.now }
     requires opens { opening_fault (log_of source.now) ≡ None }
-    ensures writes { WritesHanded looks L.remaining later.entry.items writing.now name.now (selection_of part.now) (Some asked.now) (log_of source.now) (end_of source.now) (fault_of source.now)
+    ensures writes { WritesHanded looks L.remaining later.entry.items writing.now (names_told logs.now) (selection_of part.now) (Some asked.now) (log_of source.now) (end_of source.now) (fault_of source.now)
         (W.contents (device_of writer.old)) (W.contents (device_of writer.new)) result }
     ensures untouched { OnErr result (has_failed writer.new ≡ false → writer.new ≡ writer.old) }
     ensures mark { has_failed writer.new ≡ (has_failed writer.old || is_failed_write result) }
@@ -304,30 +370,30 @@ fn write_units<'n, A: Allocator + Copy, L: Read + Drop, W: Write>(
         Err(fault) => return Err(fault),
     };
     let since = match look_among_if(
-        alloc, source, name, &log, &inside, &among, &marks, &index, leaving, looks, later, seed,
+        alloc, source, logs, &log, &inside, &among, &marks, &index, leaving, looks, later, seed,
         zone,
     ) {
         Ok(since) => since,
         Err(fault) => return Err(fault),
     };
-    write_index(alloc, name, &index, &since, writing, writer)
+    write_index(alloc, logs, &index, &since, writing, writer)
 }
 
 /// Writes the groups of an index, and returns the report of them and of what was seen of what came later.
 fn write_index<'n, A: Allocator + Copy, W: Write>(
     alloc: A,
-    name: &'n [u8],
+    logs: &Names<'n, A>,
     index: &Index<'_, '_, A>,
     since: &Option<Since<'n, A>>,
     writing: &Writing<'_>,
     writer: &mut Watched<W>,
 ) -> Result<Vec<u8, A>, PartFault<A>>
     requires { HasShortWriting writing.now }
-    ensures writes { WritesIndex writing.now name.now (option_map since_seen since.now) (index_bytes index.now) (index_selection index.now) (W.contents (device_of writer.old)) (W.contents (device_of writer.new)) result }
+    ensures writes { WritesIndex writing.now (names_told logs.now) (option_map since_seen since.now) (index_bytes index.now) (index_selection index.now) (W.contents (device_of writer.old)) (W.contents (device_of writer.new)) result }
     ensures untouched { OnErr result (has_failed writer.new ≡ false → writer.new ≡ writer.old) }
     ensures mark { has_failed writer.new ≡ (has_failed writer.old || is_failed_write result) }
 {
-    let told = report_of(alloc, name, writing.order, index, since)?;
+    let told = report_of(alloc, logs, writing.order, index, since)?;
     match write_groups(alloc, writer, index, writing) {
         Ok(()) => Ok(told),
         Err(WritingFault::Log(fault)) => Err(PartFault::Run(RunFault::Log(fault))),

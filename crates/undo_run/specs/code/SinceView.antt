@@ -9,6 +9,7 @@ use Rattle.blog_source.specs.declared.source.Source.{Source}
 use Rattle.blog_units.specs.Units.{Facts}
 use Rattle.undo_run.specs.After.{Later, Place, accepted_units, is_damaged, last_end, last_next, places_apart, unknown_units}
 use Rattle.undo_run.specs.Reports.{Since}
+use Rattle.undo_run.specs.Several.{Names}
 use Rattle.undo_run.specs.declared.since.Place as told_place
 use Rattle.undo_run.specs.declared.since.Since as told
 
@@ -19,8 +20,8 @@ abbrev pub since_seen : {A : Type 0} → told.Since A → Since
 since_seen since = record { units = since.units; end = option_map place_seen since.end; next = since.next.items; apart = since.apart; first = option_map place_seen since.first }
 
 -- the log of a source, of which these units are looked at
-abbrev pub later_of : {A : Type 0} → List ℕ → Source A → List Facts → Later
-later_of name source us = record { name = name; handed = log_of source; units = us; end = end_of source; fault = fault_of source }
+abbrev pub later_of : {A : Type 0} → Names → Source A → List Facts → Later
+later_of names source us = record { names = names; handed = log_of source; units = us; end = end_of source; fault = fault_of source }
 
 -- what is seen of one log, whose changes take so many rows that were left, of chosen tables
 pub record IsLooked {A : Type 0} (n : ℕ) (choice : Choice) (l : Later) (looked : Looked A) : Type 0 where

@@ -34,8 +34,10 @@ use Rattle.list_run.specs.declared.given.GivenLog.{GivenLog}
 use Rattle.undo_run.specs.After.{AreChanged, Later, MayBeChanged, is_damaged, later_step, touches, unknown_units}
 use Rattle.undo_run.specs.Parts.{IsPlaced, is_at_end}
 use Rattle.undo_run.specs.Reports.{Since, report}
+use Rattle.undo_run.specs.Several.{Names}
 use Rattle.undo_run.specs.Taken.{FailsLater, FailsToOpen, IsSafe, OfLater, Taken, after, since_told, steps_after, tables_taken, whole_log}
 use Rattle.undo_run.specs.Units.{AreSound, AreThere, IsMissing, IsWithout, LacksUnit, RefusesChosen, are_found, IsUnitAccepted, chosen_range, chosen_units, have_units, is_chosen, kept_log, units_of_part}
+use Rattle.undo_run.specs.Writes.{FailsFirst}
 use Rattle.undo_run.specs.code.SinceView.{AreSeen, since_seen}
 use Rattle.undo_run.specs.declared.chosen.Chosen.{Chosen}
 use Rattle.undo_run.specs.declared.fault.OpeningFault.{OpeningFault}
@@ -58,20 +60,12 @@ pub record IsSource {A : Type 0} (how : Reading) (bytes : List ℕ) (source : So
 
 abbrev pub OpensLog : {A : Type 0} → Reading → Option (List ℕ) → Option (List ℕ) → Result (Source A) OpeningFault → Type 0
 OpensLog how old new (Ok source) = (bytes : List ℕ) × ReadsLog old new bytes × IsSource how bytes source
-OpensLog how old new (Err (opening.Run run.Read)) = ⊤
-OpensLog how old new (Err (opening.Run run.Write)) = ⊥
-OpensLog how old new (Err (opening.Run (run.Log f))) = (f ≡ OutOfMemory) ⊎ ((f ≡ TooLongLog 0) × PassesLimit greatest_length old new)
-OpensLog how old new (Err (opening.Sums f)) = (bytes : List ℕ) × ReadsLog old new bytes × (source_refusal bytes ≡ Some f)
+OpensLog how old new (Err fault) = FailsFirst old new fault
 
 -- the answer is that a read failed
 abbrev pub is_failed_opening : {X : Type 0} → Result X OpeningFault → Bool
 is_failed_opening (Err (opening.Run run.Read)) = true
 is_failed_opening _ = false
-
--- why a part isn't written whose log isn't opened
-abbrev pub opening_cause : {A : Type 0} → OpeningFault → PartFault A
-opening_cause (opening.Run f) = Run f
-opening_cause (opening.Sums f) = Sums f
 
 -- ---- looking at what came later
 
@@ -191,11 +185,11 @@ Indexes p sel handed end (Err cause) = RefusesChosen p sel handed end None cause
 -- ---- writing it
 
 -- groups of a log are written, and this is reported of them; or a beginning; or nothing
-abbrev pub WritesIndex : {A : Type 0} → Writing → List ℕ → Option Since → List ℕ → Selection → Option (List ℕ) → Option (List ℕ) → Result (Vec ℕ A) (PartFault A) → Type 0
-WritesIndex w name since log sel had has (Ok told) = CanBeWritten w.sql w.order w.limit log sel × Appends had has (text_of w.sql w.order w.limit log sel)
-    × (told.items ≡ report w.order name (length (groups log sel)) (counts_of (groups log sel)) since)
-WritesIndex w name since log sel had has (Err (Run run.Write)) = CanBeWritten w.sql w.order w.limit log sel × AppendsBeginning had has (text_of w.sql w.order w.limit log sel)
-WritesIndex w name since log sel had has (Err (Run (run.Log f))) = (f ≡ OutOfMemory) × Keeps had has
-WritesIndex w name since log sel had has (Err TooLong) = (4294967295 < end_of_text w.sql w.order w.limit log sel) × Keeps had has
-WritesIndex w name since log sel had has (Err (NoSchema text)) = ((n : ℕ) × (lacks w.sql (groups log sel) ≡ Some n)) × Keeps had has
-WritesIndex w name since log sel had has (Err cause) = ⊥
+abbrev pub WritesIndex : {A : Type 0} → Writing → Names → Option Since → List ℕ → Selection → Option (List ℕ) → Option (List ℕ) → Result (Vec ℕ A) (PartFault A) → Type 0
+WritesIndex w names since log sel had has (Ok told) = CanBeWritten w.sql w.order w.limit log sel × Appends had has (text_of w.sql w.order w.limit log sel)
+    × (told.items ≡ report w.order names (length (groups log sel)) (counts_of (groups log sel)) since)
+WritesIndex w names since log sel had has (Err (Run run.Write)) = CanBeWritten w.sql w.order w.limit log sel × AppendsBeginning had has (text_of w.sql w.order w.limit log sel)
+WritesIndex w names since log sel had has (Err (Run (run.Log f))) = (f ≡ OutOfMemory) × Keeps had has
+WritesIndex w names since log sel had has (Err TooLong) = (4294967295 < end_of_text w.sql w.order w.limit log sel) × Keeps had has
+WritesIndex w names since log sel had has (Err (NoSchema text)) = ((n : ℕ) × (lacks w.sql (groups log sel) ≡ Some n)) × Keeps had has
+WritesIndex w names since log sel had has (Err cause) = ⊥

@@ -2,8 +2,6 @@ use Rattle.std.proofs.Common.{List, ℕ, subst}
 use Rattle.std.specs.Io.KnownBytes.{Appends}
 use Rattle.std.proofs.lemmas.Result.{on_ok_weaker}
 use Rattle.blog_device.specs.Watched.{device_of}
-use Rattle.blog_trans.specs.Selection.{selection_of}
-use Rattle.binlog_command.proofs.Telling.{told-of}
 use Rattle.binlog_command.proofs.part_runs.run_part.Goals as goal
 
 pub returns-then-task-clause-tells : goal.returns-then-task-clause-tells
@@ -20,8 +18,7 @@ returns-then-task-clause-tells g c = λ asked.
         c.request-units.ensures,
         (
           c.in_ok-told.told.items,
-          told-of task.looks g.L.Read.remaining c.args.later.items c.writing-writing.result task.sql.log.now (selection_of task.part) c.request-units.result (g.D.Read.remaining (device_of c.args.reader.now))
-              (g.D.Read.remaining (device_of c.part_to.new.reader)) _ c.in_ok-told.told c.in_ok-told.ensures.writes,
+          c.in_ok-told.ensures.told,
           subst (λ (text : List ℕ). Appends had has text) c.deref.ensures.value appends,
         ),
       ),

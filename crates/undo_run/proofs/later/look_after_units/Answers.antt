@@ -10,6 +10,7 @@ use Rattle.blog_trans.specs.Groups.{groups}
 use Rattle.blog_trans.specs.Selection.{selection_of}
 use Rattle.undo_run.specs.Taken.{tables_named, tables_taken}
 use Rattle.undo_run.specs.Units.{chosen_taken, chosen_units, units_on}
+use Rattle.undo_run.specs.code.NamesView.{names_told}
 use Rattle.undo_run.specs.code.Steps.{chosen_by, chosen_changes}
 use Rattle.undo_run.proofs.Counted.{units-count}
 use Rattle.undo_run.proofs.later.look_after_units.Goals as goal
@@ -20,7 +21,7 @@ returns g c =
     let sel = selection_of c.args.inside.now in
     let handed = log_of source in
     let p = chosen_by c.args.among.now sel handed in
-    let t = chosen_taken c.args.name.now p sel handed (end_of source) (fault_of source) in
+    let t = chosen_taken (names_told c.args.logs.now) p sel handed (end_of source) (fault_of source) in
     let left = c.sorted-left.result in
     let choice : Choice = names_choice c.in_ok-names.names in
     let as_choice : List Name → Choice = λ names. record { database = None; tables = names; excluded = [] } in

@@ -1,9 +1,10 @@
-use Rattle.std.proofs.Common.{◌+◌, ◌++◌, ◌∷◌, [], List, ℕ, subst}
+use Rattle.std.proofs.Common.{◌+◌, ◌++◌, ◌∷◌, [], List, ℕ, ap, subst, ◌∙◌}
 use Rattle.blog_choice.specs.code.ChosenView.{names_choice}
 use Rattle.blog_device.specs.Watched.{device_of}
 use Rattle.blog_later.specs.Later.{later_units, touches_in}
 use Rattle.blog_later.specs.code.LookedView.{left_before}
 use Rattle.blog_source.specs.code.SourceView.{log_of}
+use Rattle.undo_run.specs.Several.{Names, one_name}
 use Rattle.undo_run.specs.code.SinceView.{AreSeen, later_of}
 use Rattle.undo_run.proofs.InTurn.{one-looked}
 use Rattle.undo_run.proofs.later.look_into.Goals as goal
@@ -15,5 +16,5 @@ returns g c m ls seen =
     let since = c.in_ok-look_on.field-0 in
     let source = c.in-Ok.source in
     one-looked g.row.A.Denot g.L.Read.remaining c.args.n c.args.given kept choice m ls (g.L.Read.remaining (device_of c.open_log.new.reader)) source since c.in-Ok.ensures.opens
-    (subst (λ (name : List ℕ). AreSeen (m + touches_in kept (log_of source) (later_units (log_of source) 0)) choice (ls ++ later_of name source (later_units (log_of source) 0) ∷ []) since) c.as_bytes-name.ensures.value
+    (subst (λ (names : Names). AreSeen (m + touches_in kept (log_of source) (later_units (log_of source) 0)) choice (ls ++ later_of names source (later_units (log_of source) 0) ∷ []) since) (c.one-logs.ensures ∙ ap one_name c.as_bytes.ensures.value)
     (c.in_ok-look_on.ensures m ls seen))

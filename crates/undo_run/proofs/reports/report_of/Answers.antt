@@ -4,6 +4,7 @@ use Rattle.blog_text.proofs.Growing.{both-parts}
 use Rattle.blog_text.specs.code.Counted.{counts_in}
 use Rattle.blog_trans.specs.code.IndexView.{index_groups}
 use Rattle.undo_run.specs.Reports.{report}
+use Rattle.undo_run.specs.code.NamesView.{names_told}
 use Rattle.undo_run.specs.code.SinceView.{since_seen}
 use Rattle.undo_run.proofs.reports.report_of.Goals as goal
 
@@ -16,4 +17,4 @@ returns g c =
     both-parts start one new _ _ c.in_ok-put_changes.ensures
     (both-parts one two new _ _ c.in_ok-put_later.ensures
     (c.in_ok-put_text.ensures ∙ ap (λ (text : List ℕ). two ++ text) c.cascades_text.ensures))
-    ∙ ap (λ (front : List ℕ). front ++ report c.args.order c.args.name.now (length (index_groups c.args.index.now)) (counts_in c.args.index.now) (option_map since_seen c.args.since.now)) c.new-out.ensures.items
+    ∙ ap (λ (front : List ℕ). front ++ report c.args.order (names_told c.args.logs.now) (length (index_groups c.args.index.now)) (counts_in c.args.index.now) (option_map since_seen c.args.since.now)) c.new-out.ensures.items

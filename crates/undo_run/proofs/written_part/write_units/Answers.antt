@@ -13,6 +13,7 @@ use Rattle.blog_trans.specs.code.IndexView.{index_bytes, index_selection}
 use Rattle.blog_units.specs.Units.{Facts}
 use Rattle.undo_run.specs.Parts.{damage_before, has_start, selection_in}
 use Rattle.undo_run.specs.Units.{AreSound, AreSoundUnits, AreThere, LacksUnit, RefusesChosen, RefusesUnits, chosen_taken, chosen_units, damage_among, is_asked, is_chosen, kept_log, units_taken}
+use Rattle.undo_run.specs.code.NamesView.{names_told}
 use Rattle.undo_run.specs.code.Steps.{Chooses, Looks}
 use Rattle.undo_run.proofs.Stages.{chosen-refused, no-write-failed, not-chosen, not-free, not-selected, of-units, taken-written, unit-lacking}
 use Rattle.undo_run.proofs.written_part.write_units.Goals as goal
@@ -30,7 +31,7 @@ returns-in-Some-clause-writes g c =
     let start : has_start part handed end ≡ true = sym c.has_start.ensures ∙ c.if-not-has_start.false in
     let cause = c.in-Some.fault in
     let lacks = subst (λ (d : Option SumFault). LacksUnit {A = g.row.A.Denot} r sel handed end d cause) c.damage_before.ensures c.in-Some.ensures in
-    not-selected c.args.looks g.L.Read.remaining c.args.later.items c.args.writing.now c.args.name.now (units_taken r c.args.name.now part handed end fault) (AreSoundUnits r part handed end (damage_among c.args.looks part end fault)) (RefusesUnits {A = g.row.A.Denot} r part handed end fault (damage_among c.args.looks part end fault)) _ _ cause
+    not-selected c.args.looks g.L.Read.remaining c.args.later.items c.args.writing.now (names_told c.args.logs.now) (units_taken r (names_told c.args.logs.now) part handed end fault) (AreSoundUnits r part handed end (damage_among c.args.looks part end fault)) (RefusesUnits {A = g.row.A.Denot} r part handed end fault (damage_among c.args.looks part end fault)) _ _ cause
     (unit-lacking r part handed end fault (damage_among c.args.looks part end fault) cause start (subst (λ (s : Selection). LacksUnit {A = g.row.A.Denot} r s handed end (damage_before true part end fault) cause) chosen lacks))
     (Keeps-refl (g.W.Write.contents (device_of c.args.writer.now)))
 
@@ -53,7 +54,7 @@ returns-in-Err-choose-clause-writes g c =
     let damage = damage_among c.args.looks part end fault in
     let cause = c.in-Err-choose.fault in
     let fails = subst (λ (d : Option SumFault). Chooses {A = g.row.A.Denot} c.args.looks p sel handed end d (Err cause)) c.damage_among-damage.ensures c.in-Err-choose.ensures in
-    not-selected c.args.looks g.L.Read.remaining c.args.later.items c.args.writing.now c.args.name.now (units_taken r c.args.name.now part handed end fault) (AreSoundUnits r part handed end (damage_among c.args.looks part end fault)) (RefusesUnits {A = g.row.A.Denot} r part handed end fault (damage_among c.args.looks part end fault)) _ _ cause
+    not-selected c.args.looks g.L.Read.remaining c.args.later.items c.args.writing.now (names_told c.args.logs.now) (units_taken r (names_told c.args.logs.now) part handed end fault) (AreSoundUnits r part handed end (damage_among c.args.looks part end fault)) (RefusesUnits {A = g.row.A.Denot} r part handed end fault (damage_among c.args.looks part end fault)) _ _ cause
     (not-chosen c.args.looks r part handed end fault damage cause start (of-units (λ q s. Chooses {A = g.row.A.Denot} c.args.looks q s handed end damage (Err cause)) p (is_asked r part handed) sel (selection_in part handed) same chosen fails))
     (Keeps-refl (g.W.Write.contents (device_of c.args.writer.now)))
 
@@ -77,7 +78,7 @@ returns-in-Err-index_of_chosen-clause-writes g c =
     let damage = damage_among c.args.looks part end fault in
     let cause = c.in-Err-index_of_chosen.fault in
     let fails = subst (λ (d : Option SumFault). RefusesChosen p sel handed end d cause) (sym none) c.in-Err-index_of_chosen.ensures in
-    not-selected c.args.looks g.L.Read.remaining c.args.later.items c.args.writing.now c.args.name.now (units_taken r c.args.name.now part handed end fault) (AreSoundUnits r part handed end (damage_among c.args.looks part end fault)) (RefusesUnits {A = g.row.A.Denot} r part handed end fault (damage_among c.args.looks part end fault)) _ _ cause
+    not-selected c.args.looks g.L.Read.remaining c.args.later.items c.args.writing.now (names_told c.args.logs.now) (units_taken r (names_told c.args.logs.now) part handed end fault) (AreSoundUnits r part handed end (damage_among c.args.looks part end fault)) (RefusesUnits {A = g.row.A.Denot} r part handed end fault (damage_among c.args.looks part end fault)) _ _ cause
     (chosen-refused r part handed end fault damage cause start (of-units (λ q s. RefusesChosen q s handed end damage cause) p (is_asked r part handed) sel (selection_in part handed) same chosen fails))
     (Keeps-refl (g.W.Write.contents (device_of c.args.writer.now)))
 
@@ -103,8 +104,8 @@ returns-in-Err-look_among_if-clause-writes g c =
     let sound : AreSoundUnits r part handed end (damage_among c.args.looks part end fault) =
     (start, there, subst (λ (d : Option SumFault). AreSound (is_asked r part handed) (selection_in part handed) handed d) (sym none) (of-units (λ q s. AreSound q s handed None) p (is_asked r part handed) sel (selection_in part handed) same chosen are)) in
     let cause = c.in-Err-look_among_if.fault in
-    let looked = of-units (λ q s. Looks c.args.looks g.L.Read.remaining c.args.later.items (chosen_taken c.args.name.now q s handed end fault) (Err cause)) p (is_asked r part handed) sel (selection_in part handed) same chosen c.in-Err-look_among_if.ensures in
-    not-free c.args.looks g.L.Read.remaining c.args.later.items c.args.writing.now c.args.name.now (units_taken r c.args.name.now part handed end fault) (AreSoundUnits r part handed end (damage_among c.args.looks part end fault)) (RefusesUnits {A = g.row.A.Denot} r part handed end fault (damage_among c.args.looks part end fault)) _ _ cause sound looked (Keeps-refl (g.W.Write.contents (device_of c.args.writer.now)))
+    let looked = of-units (λ q s. Looks c.args.looks g.L.Read.remaining c.args.later.items (chosen_taken (names_told c.args.logs.now) q s handed end fault) (Err cause)) p (is_asked r part handed) sel (selection_in part handed) same chosen c.in-Err-look_among_if.ensures in
+    not-free c.args.looks g.L.Read.remaining c.args.later.items c.args.writing.now (names_told c.args.logs.now) (units_taken r (names_told c.args.logs.now) part handed end fault) (AreSoundUnits r part handed end (damage_among c.args.looks part end fault)) (RefusesUnits {A = g.row.A.Denot} r part handed end fault (damage_among c.args.looks part end fault)) _ _ cause sound looked (Keeps-refl (g.W.Write.contents (device_of c.args.writer.now)))
 
 pub returns-in-Err-look_among_if-clause-mark : goal.returns-in-Err-look_among_if-clause-mark
 returns-in-Err-look_among_if-clause-mark g c =
@@ -112,7 +113,7 @@ returns-in-Err-look_among_if-clause-mark g c =
     let source = c.args.source.now in
     let handed = log_of source in
     let w : Wanted = record c.args.asked.now.wanted { start = None; stop = c.inside_of-inside.result.stop } in
-    let t = chosen_taken c.args.name.now (is_chosen w c.deref.result.now sel handed) sel handed (end_of source) (fault_of source) in
+    let t = chosen_taken (names_told c.args.logs.now) (is_chosen w c.deref.result.now sel handed) sel handed (end_of source) (fault_of source) in
     sym (ap (λ (b : Bool). has_failed c.args.writer.now || b) (no-write-failed (Vec ℕ g.row.A.Denot) c.args.looks g.L.Read.remaining c.args.later.items t c.in-Err-look_among_if.fault c.in-Err-look_among_if.ensures) ∙ or-false (has_failed c.args.writer.now))
 
 pub returns-clause-writes : goal.returns-clause-writes
@@ -137,8 +138,8 @@ returns-clause-writes g c =
     let sound : AreSoundUnits r part handed end (damage_among c.args.looks part end fault) =
     (start, there, subst (λ (d : Option SumFault). AreSound (is_asked r part handed) (selection_in part handed) handed d) (sym none) (of-units (λ q s. AreSound q s handed None) p (is_asked r part handed) sel (selection_in part handed) same chosen are)) in
     let since = c.in-Ok-look_among_if.since in
-    let looked = of-units (λ q s. Looks c.args.looks g.L.Read.remaining c.args.later.items (chosen_taken c.args.name.now q s handed end fault) (Ok since)) p (is_asked r part handed) sel (selection_in part handed) same chosen c.in-Ok-look_among_if.ensures in
+    let looked = of-units (λ q s. Looks c.args.looks g.L.Read.remaining c.args.later.items (chosen_taken (names_told c.args.logs.now) q s handed end fault) (Ok since)) p (is_asked r part handed) sel (selection_in part handed) same chosen c.in-Ok-look_among_if.ensures in
     let index = c.in-Ok-index_of_chosen.index in
     let text = bytes ∙ (λ i. kept_log (chosen i) handed (chosen_units (same i) (chosen i) handed)) in
-    taken-written c.args.looks g.L.Read.remaining c.args.later.items c.args.writing.now c.args.name.now (units_taken r c.args.name.now part handed end fault) (AreSoundUnits r part handed end (damage_among c.args.looks part end fault)) (RefusesUnits {A = g.row.A.Denot} r part handed end fault (damage_among c.args.looks part end fault)) _ _ since (index_bytes index) (index_selection index) c.write_index.result
+    taken-written c.args.looks g.L.Read.remaining c.args.later.items c.args.writing.now (names_told c.args.logs.now) (units_taken r (names_told c.args.logs.now) part handed end fault) (AreSoundUnits r part handed end (damage_among c.args.looks part end fault)) (RefusesUnits {A = g.row.A.Denot} r part handed end fault (damage_among c.args.looks part end fault)) _ _ since (index_bytes index) (index_selection index) c.write_index.result
     sound looked text whole c.write_index.ensures.writes
