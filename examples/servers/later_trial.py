@@ -141,8 +141,8 @@ class MistakeInTwoLogs:
             logs.append(server.next_log())
             lines = [json.loads(line) for line in programs.command("list", logs[-1], "--json").splitlines()]
             units += [line for line in lines if any(table["table"] == "orders" and table["deletes"] == 20 for table in line.get("tables", ()))]
-        # the further log is one that is undone, and not one of --later
-        self.log, self.later = logs[0], logs[1:]
+        # both are undone: the first stands before the last, in place of later ones
+        self.log, self.later = logs[1], logs[:1]
         if server.kind is MARIADB:
             self.part = "-j", str(units[0]["start"]), "--stop-position", str(units[1]["stop"])
         else:
