@@ -229,10 +229,10 @@ pub record HasChosen {A : Type 0} (choice : UnitChoice A) (wanted : Wanted) : Ty
   pub gtids : wanted.gtids.now ≡ choice.gtids.items
   pub tables : choice_value wanted.choice ≡ record { database = None; tables = []; excluded = [] }
 
--- which ones are chosen, and None where all of them are
-abbrev pub HasUnits : {A : Type 0} → UnitChoice A → Option Wanted → Type 0
-HasUnits choice None = chooses_units choice ≡ false
-HasUnits choice (Some wanted) = (chooses_units choice ≡ true) × HasChosen choice wanted
+-- Which ones are chosen, each by itself; None where all of them are, and that isn't asked for.
+abbrev pub HasUnits : {A : Type 0} → Bool → UnitChoice A → Option Wanted → Type 0
+HasUnits each choice None = (each || chooses_units choice) ≡ false
+HasUnits each choice (Some wanted) = ((each || chooses_units choice) ≡ true) × HasChosen choice wanted
 
 -- several logs are given, and a place of one
 abbrev pub has_place_of_several : Found → Bool

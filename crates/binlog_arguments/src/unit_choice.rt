@@ -34,11 +34,11 @@ pub struct UnitChoice<'a, A: Allocator> {
 
 impl<A: Allocator> UnitChoice<'_, A> {
     /// Returns which units are wanted, wherever they start: of those at the asked positions, if there are some. Returns None if all of
-    /// them are: no position, time, thread or id is given.
-    pub fn wanted(&self) -> Option<Wanted<'_>>
-        ensures { HasUnits self.now result }
+    /// them are, and they aren't asked for one by one: no position, time, thread or id is given, and `each` is false.
+    pub fn wanted(&self, each: bool) -> Option<Wanted<'_>>
+        ensures { HasUnits each self.now result }
     {
-        if !self.chooses_some() {
+        if !each && !self.chooses_some() {
             return None;
         }
         Some(Wanted {

@@ -1,6 +1,6 @@
 -- What a run does to the bytes of its devices. Of a device that does not tell its bytes these definitions say that there
 -- are such bytes.
-use Rattle.std.specs.Prelude.{◌≡◌, ◌⊎◌, ◌||◌, ◌<◌, ◌-◌, ◌==◌, ℕ, if◌then◌else◌, option_map, Bool, true, false, List, [], ◌∷◌, length, ⊤, String, Vec, Option, None, Some, Result, Ok, Err, slice_get}
+use Rattle.std.specs.Prelude.{◌≡◌, ◌⊎◌, ◌||◌, ◌<◌, ◌-◌, ◌==◌, ℕ, if◌then◌else◌, option_map, is_some, Bool, true, false, List, [], ◌∷◌, length, ⊤, String, Vec, Option, None, Some, Result, Ok, Err, slice_get}
 use Rattle.std.specs.Option.{option_map_or}
 use Rattle.std.specs.Io.KnownBytes.{Keeps, Appends}
 use Rattle.blog_event.specs.declared.fault.Fault.{Fault}
@@ -48,7 +48,7 @@ use Rattle.blog_run.specs.declared.fault.WritingFault.{WritingFault}
 use Rattle.blog_run.specs.declared.fault.WritingFault.TheVariants as writing
 use Rattle.blog_trans.specs.Acceptance.{IsAccepted, IsRefusal, fault}
 use Rattle.blog_trans.specs.Groups.{groups}
-use Rattle.blog_trans.specs.Selection.{all, selection_of}
+use Rattle.blog_trans.specs.Selection.{Selection, all, selection_of}
 
 -- this log was read, and it isn't whole: this is its first fault
 abbrev pub RefusesSums : Option (List ℕ) → Option (List ℕ) → SumFault → Type 0
@@ -184,14 +184,19 @@ abbrev pub OfPart : {A : Type 0} → PartTask A → (Result (Vec ℕ A) (LogsFau
 OfPart task P (Ok done) = (told : Vec ℕ _) × P (Ok told)
 OfPart task P (Err failure) = OfTold task P (Err failure)
 
--- which units are asked for; None where all of them are
-abbrev pub HasRequest : {A : Type 0} → UnitChoice A → Option UnitRequest → Type 0
-HasRequest choice None = HasUnits choice None
-HasRequest choice (Some asked) = HasUnits choice (Some asked.wanted) × (asked.at.now ≡ choice.at.items)
+-- a part of some tables
+abbrev pub is_of_tables : Selection → Bool
+is_of_tables part = is_some part.database || is_some part.table
+
+-- Which units are asked for; None where all of them are, with all tables. Of some tables each unit is asked for, so that statements that name
+-- none of these are passed over.
+abbrev pub HasRequest : {A : Type 0} → UnitChoice A → Selection → Option UnitRequest → Type 0
+HasRequest choice part None = HasUnits (is_of_tables part) choice None
+HasRequest choice part (Some asked) = HasUnits (is_of_tables part) choice (Some asked.wanted) × (asked.at.now ≡ choice.at.items)
 
 -- a task's part is written, or the chosen transactions of that, as it is written at this time
 abbrev pub WritesTask : {A R : Type 0} → (R → Option (List ℕ)) → List (GivenLog R) → List (GivenLog R) → PartTask A → ℕ → Option (List ℕ) → Option (List ℕ) → Option (List ℕ) → Option (List ℕ) → Result Unit (Failure A) → Type 0
-WritesTask known givens further task now old new had has result = (how : Writing) × HasPartWriting task now how × ((asked : Option UnitRequest) × HasRequest task.units asked
+WritesTask known givens further task now old new had has result = (how : Writing) × HasPartWriting task now how × ((asked : Option UnitRequest) × HasRequest task.units (selection_of task.part) asked
     × OfPart task (WritesPart task.looks known givens how task.sql.log.now further (selection_of task.part) asked old new had has) result)
 
 -- this is reported of it, of the log that was read
@@ -200,7 +205,7 @@ IsToldOf known givens further how task asked old new told = ReportsPart task.loo
 
 -- and it is written
 abbrev pub TellsPart : {A R : Type 0} → (R → Option (List ℕ)) → List (GivenLog R) → List (GivenLog R) → PartTask A → ℕ → Option (List ℕ) → Option (List ℕ) → Option (List ℕ) → Option (List ℕ) → Type 0
-TellsPart known givens further task now old new had has = (how : Writing) × HasPartWriting task now how × ((asked : Option UnitRequest) × HasRequest task.units asked
+TellsPart known givens further task now old new had has = (how : Writing) × HasPartWriting task now how × ((asked : Option UnitRequest) × HasRequest task.units (selection_of task.part) asked
     × ((told : List ℕ) × IsToldOf known givens further how task asked old new told × Appends had has told))
 
 -- ---- lists

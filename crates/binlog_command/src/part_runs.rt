@@ -6,7 +6,7 @@ ghost use Rattle.blog_device.specs.Watched.{device_of, has_failed};
 ghost use Rattle.blog_run.specs.Writing.{HasShortWriting};
 ghost use Rattle.blog_sql.specs.Changed.{HaveShortNames};
 ghost use Rattle.blog_trans.specs.Selection.{selection_of};
-ghost use Rattle.binlog_command.specs.Runs.{HasRequest, IsFailureOf, IsToldOf, OfTold, TellsPart, WritesTask, log_path, shown_path};
+ghost use Rattle.binlog_command.specs.Runs.{HasRequest, IsFailureOf, IsToldOf, OfTold, TellsPart, WritesTask, is_of_tables, log_path, shown_path};
 ghost use Rattle.binlog_command.specs.Status.{status_of};
 ghost use Rattle.undo_run.specs.Writes.{WritesPart};
 ghost use Rattle.undo_run.specs.declared.fault.LogsFault.TheVariants.{Part};
@@ -16,6 +16,7 @@ use crate::log_file::open_logs;
 use binlog_arguments::{PartTask, UnitChoice};
 use blog_device::{Watched, put};
 use blog_run::Writing;
+use blog_trans::Selection;
 use list_run::GivenLog;
 use result_file::{ResultFile, Wanted};
 use std::alloc::{AllocError, Allocator};
@@ -139,7 +140,7 @@ pub(crate) fn run_part<
         (O.contents (device_of output.old)) (O.contents (device_of output.new))) }
 {
     let writing = task.writing(process.began);
-    let units = request(&task.units);
+    let units = request(&task.units, &task.part);
     if task.dry_run {
         let mut nowhere = Watched::new(Nowhere {});
         let told = part_to(
@@ -179,11 +180,21 @@ pub(crate) fn run_part<
     }
 }
 
-/// Which units are asked for; all of them if no option chooses some.
-fn request<'u, A: Allocator>(units: &'u UnitChoice<'_, A>) -> Option<UnitRequest<'u>>
-    ensures { HasRequest units.now result }
+/// Whether a part is one of some tables.
+fn is_of_tables(part: &Selection<'_>) -> bool
+    ensures { result ≡ is_of_tables (selection_of part.now) }
 {
-    match units.wanted() {
+    part.database.is_some() || part.table.is_some()
+}
+
+/// Which units of a part are asked for; all of it if no option chooses some of them, or tables.
+fn request<'u, A: Allocator>(
+    units: &'u UnitChoice<'_, A>,
+    part: &Selection<'_>,
+) -> Option<UnitRequest<'u>>
+    ensures { HasRequest units.now (selection_of part.now) result }
+{
+    match units.wanted(is_of_tables(part)) {
         Some(wanted) => Some(UnitRequest {
             wanted,
             at: units.at.as_slice(),

@@ -23,7 +23,7 @@ pub struct LeftRows<A: Allocator> {
 
 impl<A: Allocator> LeftRows<A> {
     /// Returns whether a row with this fingerprint was left by one of so many lists, from the first on.
-    pub(crate) fn has(&self, print: u64, lists: u32) -> bool
+    pub fn has(&self, print: u64, lists: u32) -> bool
         ensures { result ≡ list_any (nat_eq print) (prints_before lists self.now.rows.items) }
     {
         let first = u128::from(print) * LISTS;
@@ -37,7 +37,7 @@ impl<A: Allocator> LeftRows<A> {
     }
 
     /// Returns whether a row of a table with this fingerprint was left.
-    pub(crate) fn has_table(&self, print: u64) -> bool
+    pub fn has_table(&self, print: u64) -> bool
         ensures { result ≡ list_any (nat_eq print) self.now.tables.items }
     {
         self.tables.binary_search(&print).is_ok()

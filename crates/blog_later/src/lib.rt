@@ -14,4 +14,5 @@ pub use leaving::Leaving;
 pub use left::LeftRows;
 pub use looked::Looked;
 pub use looking::{look, look_among};
+pub use prints::{print_of, table_hasher};
 pub use touched::TouchedRows;

@@ -13,8 +13,8 @@ use std::hash::{FoldHasher, Hasher};
 /// What is hashed of a NULL.
 const NULL_TEXT: &[u8] = b"this value is NULL, and has no bytes";
 
-/// Returns a hasher of a table's rows.
-pub(crate) fn table_hasher(table: &TableMap<'_>) -> FoldHasher
+/// Returns a hasher of a table's rows: one that has hashed the names of its schema and of itself.
+pub fn table_hasher(table: &TableMap<'_>) -> FoldHasher
     ensures { result ≡ table_hasher (map_names table.now).table }
 {
     let mut hasher = FoldHasher::default();
@@ -46,8 +46,9 @@ fn with_values(hasher: FoldHasher, layout: &StoredLayout<'_>, image: &[u8]) -> F
     hasher
 }
 
-/// Returns the fingerprint of the row of an image. `hasher` is that of its table.
-pub(crate) fn print_of(hasher: FoldHasher, layout: &StoredLayout<'_>, image: &[u8]) -> u64
+/// Returns the fingerprint of the row of an image, by the values of its columns. `hasher` is that of its table. Equal rows of a table have equal
+/// fingerprints.
+pub fn print_of(hasher: FoldHasher, layout: &StoredLayout<'_>, image: &[u8]) -> u64
     ensures { result ≡ (with_values hasher (row_of (stored_columns layout.now) image.now)).state }
 {
     with_values(hasher, layout, image).finish()

@@ -1,6 +1,6 @@
 //! Later logs that can't be read.
 
-use crate::runs::{UNDO, between};
+use crate::runs::{UNDO, between, no_logs};
 use blog_device::{RunFault, Watched};
 use jiff::tz::TimeZone;
 use list_run::GivenLog;
@@ -38,7 +38,7 @@ fn check_failed_read<'l, R: AllocGlobal + Abort>(
         rt.alloc(),
         &mut reader,
         b"",
-        Vec::new(rt.alloc()),
+        no_logs(rt.alloc()),
         &between(4, Some(stop)),
         None,
         true,

@@ -12,6 +12,8 @@ mod report_tests;
 #[cfg(test)]
 mod runs;
 #[cfg(test)]
+mod several_tests;
+#[cfg(test)]
 mod wanted_tests;
 #[cfg(test)]
 mod zone_tests;

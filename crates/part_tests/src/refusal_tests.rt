@@ -1,6 +1,6 @@
 //! Parts that aren't written, and why; and devices and memory that fail.
 
-use crate::runs::{Came, UNDO, between, given, no_logs, part_of, part_with, undone};
+use crate::runs::{Came, UNDO, between, given, logs_with, no_logs, part_of, undone};
 use blog_device::{RunFault, Watched};
 use blog_event::{Fault, event_at};
 use blog_sum::SumFault;
@@ -15,7 +15,7 @@ use std::io;
 use std::process::Abort;
 use std::test::Fail;
 use testkit::devices::{ALL, Failure, SlowReader, SlowWriter};
-use undo_run::{LogsFault, OpeningFault, PartFault, write_part};
+use undo_run::{FurtherFault, LogsFault, OpeningFault, PartFault, write_part};
 
 /// `CLOSED` with another byte at a place.
 fn changed<R: AllocGlobal>(rt: &R, at: usize) -> Result<Vec<u8>, Fail> {
@@ -140,6 +140,7 @@ fn lacks_memory<A: Allocator>(fault: &LogsFault<A>) -> bool {
     const NONE: OpeningFault = OpeningFault::Run(RunFault::Log(Fault::OutOfMemory));
     match fault {
         LogsFault::Opening(fault) => *fault == NONE,
+        LogsFault::Further(_, FurtherFault::Opening(fault)) => *fault == NONE,
         LogsFault::Further(_, _) => false,
         LogsFault::Part(_, PartFault::Run(fault)) => *fault == RunFault::Log(Fault::OutOfMemory),
         LogsFault::Part(_, PartFault::Log(fault)) => *fault == Fault::OutOfMemory,
@@ -148,21 +149,26 @@ fn lacks_memory<A: Allocator>(fault: &LogsFault<A>) -> bool {
     }
 }
 
-/// Each request for memory of a run over a part of a log is refused in turn. There are at least so many.
+/// Each request for memory of a run over a part of logs is refused in turn. There are at least so many.
 fn refuse_each<'l, R: AllocGlobal + Abort>(
     rt: &R,
     log: &'l [u8],
+    more: &'l [(&'l str, &'l [u8])],
     part: &Selection<'_>,
     looks: bool,
     later: &'l [(&'l str, &'l [u8])],
     least: usize,
 ) -> Result<(), Fail> {
-    let (_, wanted, _) = part_with(rt, log, part, looks, later, &UNDO)?;
+    let (_, _, wanted, _) = logs_with(rt, log, more, part, None, looks, later)?;
     let heap = LocalHeap::new(rt.alloc(), ROOM)?;
     for number in 0..200 {
         let alloc = Refusing::new(&heap, number + 1);
         let mut reader = Watched::new(SlowReader::new(log, ALL, Failure::Never));
         let mut writer = Watched::new(SlowWriter::new(rt, ALL, Failure::Never));
+        let Ok(further) = given(&alloc, more) else {
+            assert!(rt; alloc.has_refused());
+            continue;
+        };
         let Ok(logs) = given(&alloc, later) else {
             assert!(rt; alloc.has_refused());
             continue;
@@ -171,7 +177,7 @@ fn refuse_each<'l, R: AllocGlobal + Abort>(
             &alloc,
             &mut reader,
             b"",
-            Vec::new(&alloc),
+            further,
             part,
             None,
             looks,
@@ -205,7 +211,7 @@ fn refuse_each<'l, R: AllocGlobal + Abort>(
 
 #[test]
 fn a_refused_request_writes_nothing(rt: HostRuntime) -> Result<(), Fail> {
-    refuse_each(&rt, &CLOSED, &between(4, None), false, &[], 6)?;
+    refuse_each(&rt, &CLOSED, &[], &between(4, None), false, &[], 6)?;
     // with what came later
     let parts = [
         BEGIN,
@@ -220,13 +226,25 @@ fn a_refused_request_writes_nothing(rt: HostRuntime) -> Result<(), Fail> {
     ];
     let log = build(&rt, &parts)?;
     let part = between(4, Some(259));
-    refuse_each(&rt, &log, &part, true, &[], 14)?;
+    refuse_each(&rt, &log, &[], &part, true, &[], 14)?;
     let later = build(
         &rt,
         &[OTHER_STATEMENT, BEGIN, Part::Map(T), delete(1, &[6]), XID],
     )?;
     let logs: [(&str, &[u8]); 2] = [("a", &later), ("b", &later)];
-    refuse_each(&rt, &log, &part, true, &logs, 20)
+    refuse_each(&rt, &log, &[], &part, true, &logs, 20)?;
+    // with further logs
+    let unit = build(&rt, &[BEGIN, Part::Map(T), insert(1, &[5]), XID])?;
+    let further: [(&str, &[u8]); 2] = [("a", &unit), ("b", &later)];
+    refuse_each(
+        &rt,
+        &unit,
+        &further,
+        &between(4, Some(120)),
+        true,
+        &logs,
+        24,
+    )
 }
 
 #[test]
@@ -240,7 +258,7 @@ fn a_failed_read_writes_nothing(rt: HostRuntime) -> Result<(), Fail> {
             rt.alloc(),
             &mut reader,
             b"",
-            Vec::new(rt.alloc()),
+            no_logs(rt.alloc()),
             &part,
             None,
             false,
@@ -270,7 +288,7 @@ fn a_failed_write_is_told(rt: HostRuntime) -> Result<(), Fail> {
             rt.alloc(),
             &mut reader,
             b"",
-            Vec::new(rt.alloc()),
+            no_logs(rt.alloc()),
             &part,
             None,
             false,

@@ -19,7 +19,7 @@ fn the_name_of_the_log_is_escaped(rt: HostRuntime) -> Result<(), Fail> {
         rt.alloc(),
         &mut reader,
         name,
-        Vec::new(rt.alloc()),
+        no_logs(rt.alloc()),
         &part,
         None,
         false,

@@ -12,7 +12,7 @@ use list_run::GivenLog;
 use std::alloc::{AllocError, Allocator};
 use std::test::Fail;
 use testkit::devices::{ALL, Failure, SlowReader, SlowWriter};
-use undo_run::{LogsFault, OpeningFault, PartFault, UnitRequest, write_part};
+use undo_run::{FurtherFault, LogsFault, OpeningFault, PartFault, UnitRequest, write_part};
 
 /// Changes that undo others, as a log.
 pub(crate) const UNDO: Writing<'static> = Writing {
@@ -41,18 +41,20 @@ pub(crate) enum Came {
     NoUnitWithGtid(usize),
     Log(Fault),
     NothingSelected,
+    Further(usize, FurtherFault),
     LaterLog(usize, OpeningFault),
     ChangedSince(u64),
     UnknownSince,
     Other,
 }
 
-/// Why nothing is written of one log.
-fn came_of_log<A: Allocator>(fault: &LogsFault<A>) -> Came {
+/// Why nothing is written, and in which log the fault has its place, by number.
+fn came_of_logs<A: Allocator>(fault: &LogsFault<A>) -> (usize, Came) {
     match fault {
-        LogsFault::Opening(OpeningFault::Sums(fault)) => Came::Sums(*fault),
-        LogsFault::Part(0, fault) => came_of(fault),
-        _ => Came::Other,
+        LogsFault::Opening(OpeningFault::Sums(fault)) => (0, Came::Sums(*fault)),
+        LogsFault::Opening(OpeningFault::Run(_)) => (0, Came::Other),
+        LogsFault::Further(n, fault) => (*n, Came::Further(*n, *fault)),
+        LogsFault::Part(n, fault) => (*n, came_of(fault)),
     }
 }
 
@@ -149,15 +151,40 @@ pub(crate) fn units_with<R: AllocGlobal>(
 ) -> Result<(Came, Vec<u8>, Vec<u8>), Fail>
     requires { HasShortWriting writing.now }
 {
-    run(
+    let (_, came, text, told) = run(
         rt,
         TimeZone::UTC,
         log,
+        &[],
         part,
         Some(asked),
         looks,
         later,
         writing,
+    )?;
+    Ok((came, text, told))
+}
+
+/// The same of several logs, the first of the name `binlog.000042`, and in which of them a fault has its place, by number.
+pub(crate) fn logs_with<'l, R: AllocGlobal>(
+    rt: &R,
+    log: &[u8],
+    more: &'l [(&'l str, &'l [u8])],
+    part: &Selection<'_>,
+    asked: Option<UnitRequest<'_>>,
+    looks: bool,
+    later: &'l [(&'l str, &'l [u8])],
+) -> Result<(usize, Came, Vec<u8>, Vec<u8>), Fail> {
+    run(
+        rt,
+        TimeZone::UTC,
+        log,
+        more,
+        part,
+        asked,
+        looks,
+        later,
+        &UNDO,
     )
 }
 
@@ -173,20 +200,23 @@ pub(crate) fn part_in_zone<R: AllocGlobal>(
 ) -> Result<(Came, Vec<u8>, Vec<u8>), Fail>
     requires { HasShortWriting writing.now }
 {
-    run(rt, zone, log, part, None, looks, later, writing)
+    let (_, came, text, told) = run(rt, zone, log, &[], part, None, looks, later, writing)?;
+    Ok((came, text, told))
 }
 
-/// What comes of writing a part of a log, or units of it, what was written, and the report, or the lines that a refusal comes with.
-fn run<R: AllocGlobal>(
+/// What comes of writing a part of logs, or units of it, what was written, and the report, or the lines that a refusal comes with; and before
+/// all in which of the logs a fault has its place, by number.
+fn run<'l, R: AllocGlobal>(
     rt: &R,
     zone: TimeZone<'_>,
     log: &[u8],
+    more: &'l [(&'l str, &'l [u8])],
     part: &Selection<'_>,
     asked: Option<UnitRequest<'_>>,
     looks: bool,
-    later: &[(&str, &[u8])],
+    later: &'l [(&'l str, &'l [u8])],
     writing: &Writing<'_>,
-) -> Result<(Came, Vec<u8>, Vec<u8>), Fail>
+) -> Result<(usize, Came, Vec<u8>, Vec<u8>), Fail>
     requires { HasShortWriting writing.now }
 {
     let mut reader = Watched::new(SlowReader::new(log, ALL, Failure::Never));
@@ -196,7 +226,7 @@ fn run<R: AllocGlobal>(
         rt.alloc(),
         &mut reader,
         name,
-        Vec::new(rt.alloc()),
+        given(rt.alloc(), more)?,
         part,
         asked,
         looks,
@@ -206,14 +236,22 @@ fn run<R: AllocGlobal>(
         writing,
         &mut writer,
     );
-    let (came, told) = match result {
-        Ok(told) => (Came::Done, told),
-        Err(fault) => (came_of_log(&fault), lines_of(rt, &fault)?),
+    let (number, came, told) = match result {
+        Ok(told) => (0, Came::Done, told),
+        Err(fault) => {
+            let (number, came) = came_of_logs(&fault);
+            (number, came, lines_of(rt, &fault)?)
+        }
     };
     if came != Came::Done && writer.device().calls != 0 {
         return Err("something was written".into());
     }
-    Ok((came, writer.device().taken.to_vec(rt.alloc())?, told))
+    Ok((
+        number,
+        came,
+        writer.device().taken.to_vec(rt.alloc())?,
+        told,
+    ))
 }
 
 /// What comes of writing the changes of a log without sums, and what was written.
