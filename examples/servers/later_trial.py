@@ -150,8 +150,8 @@ class MistakeInTwoLogs:
 
 
 class MistakeOfOneClient:
-    """A server on which one client made a mistake, and gave statements about another table. On MariaDB, whose logs are read
-    without threads, the mistake and the statements are chosen by their places."""
+    """A server on which one client made a mistake, and gave statements about another table. Both are chosen by the client's thread,
+    or, on MariaDB, whose logs are read without threads, by their places; or by the range in which they are."""
 
     def __init__(self, server, programs, changes):
         server.query(joined(setup(SHOP)))
@@ -166,6 +166,7 @@ class MistakeOfOneClient:
             self.choice = [word for line in lines[:last + 1] for word in ("--at", str(line["start"]))]
         else:
             self.choice = [word for thread in {line["thread"] for line in made} for word in ("--thread", str(thread))]
+        self.range = "-j", str(made[0]["start"]), "--stop-position", str(made[-1]["stop"])
         self.part = "-T", f"{SHOP}.notes", *self.choice
 
 
@@ -184,8 +185,11 @@ def try_later(server, programs, report, _):
         hold_as_without(server, programs, MistakeInTwoLogs(server, programs, changes))
     with report.trial("5: the client of a mistake gave statements about another table, too: -T passes them over"):
         made = MistakeOfOneClient(server, programs, changes)
-        told = programs.refusal("undo", made.log, *made.choice)
-        hold(told.startswith("binlog: Statement at "), f"without -T it says {told}")
+        for choice in (made.choice, made.range):
+            told = programs.refusal("undo", made.log, *choice)
+            hold(told.startswith("binlog: Statement at "), f"without -T it says {told}")
+        texts = {programs.command("undo", made.log, "-T", f"{SHOP}.notes", *choice, "--keep-times") for choice in (made.choice, made.range)}
+        hold(len(texts) == 1, "the SQL differs by how the transactions are chosen")
         hold_as_without(server, programs, made)
     with report.trial("5: --anyway: later changes of these rows are overwritten"):
         hold_overwritten(server, programs)

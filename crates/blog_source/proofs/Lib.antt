@@ -18,3 +18,4 @@ pub mod WhatBecomes
 pub mod Ending
 pub mod Puts
 pub mod Appending
+mod Ages

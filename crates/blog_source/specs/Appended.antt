@@ -1,8 +1,8 @@
 -- Several logs of one server, each begun where the one before ended, as one: what is handed out for a further log stands behind what is handed
 -- out for those before it, without its format description. A place in the further log is counted from the start of the first, as if the server
 -- had written one file.
-use Rattle.std.specs.Prelude.{◌≡◌, ℕ, ◌+◌, ◌-◌, ◌<◌, ◌^◌, ◌==◌, ◌&&◌, Bool, false, List, ◌++◌, length, map, take, drop, bytes_eq, None}
-use Rattle.std.specs.List.{AllByRecursion, flat_map}
+use Rattle.std.specs.Prelude.{◌≡◌, ℕ, ◌+◌, ◌-◌, ◌<◌, ◌^◌, ◌==◌, ◌&&◌, Bool, false, List, ◌++◌, length, map, take, drop, bytes_eq, nat_le, nat_lt, not, None}
+use Rattle.std.specs.List.{AllByRecursion, flat_map, list_all, list_any}
 use Rattle.std.specs.Option.{option_map_or}
 use Rattle.blog_event.specs.Event.{Event, event_at, event_text}
 use Rattle.blog_event.specs.File.{events_from}
@@ -35,6 +35,31 @@ are_alike one other = one.server_id == other.server_id && (length one.body == le
 abbrev pub are_of_one_server : List ℕ → List ℕ → Bool
 are_of_one_server log further =
     option_map_or (λ one. option_map_or (are_alike one) (event_at (drop 4 further)) false) (event_at (drop 4 log)) false
+
+-- ---- in order
+
+-- the time of a log's format description, in seconds since 1970: when the statement began during which the server began the log (MySQL Internals
+-- manual, "Binary Log Event Header": timestamp)
+abbrev pub format_time : List ℕ → ℕ
+format_time log = option_map_or (λ format. format.timestamp) (event_at (drop 4 log)) 0
+
+-- the number of the server that wrote it
+abbrev pub format_server : List ℕ → ℕ
+format_server log = option_map_or (λ format. format.server_id) (event_at (drop 4 log)) 0
+
+-- an event is no list of the GTIDs before the log, which stands at its front
+abbrev pub is_of_log : Event → Bool
+is_of_log e = not (e.kind == 35)
+
+-- an event of this server that isn't later than a time; in a replica's log those of its source have that one's times
+abbrev pub is_own_by : ℕ → ℕ → Event → Bool
+is_own_by server time e = e.server_id == server && nat_le e.timestamp time
+
+-- A log is older than one with this time if its own time is earlier, it has events, and all are the server's own and none is later. Its last event
+-- can have just this time: the server writes that during the same statement. A log without events can have the time of a statement that began
+-- long before.
+abbrev pub is_older : List ℕ → ℕ → Bool
+is_older log time = nat_lt (format_time log) time && (list_any is_of_log (behind_format log) && list_all (is_own_by (format_server log) time) (behind_format log))
 
 -- ---- not too long
 

@@ -2,6 +2,7 @@
 
 ghost use Rattle.std.specs.Prelude.{◌≡◌, ◌<◌, ◌≤◌, ◌^◌, length, take, IfOk};
 ghost use Rattle.std.specs.Result.{result_err};
+ghost use Rattle.blog_source.specs.Appended.{format_time};
 ghost use Rattle.blog_source.specs.Found.{found_of, source_refusal};
 ghost use Rattle.blog_source.specs.Handed.{handed_log};
 ghost use Rattle.blog_source.specs.Places.{first_of, place_of, position_of};
@@ -21,6 +22,7 @@ pub struct Source<A: Allocator = Global> {
     pub(crate) end: u32,
     pub(crate) damaged: u32,
     pub(crate) fault: Option<SumFault>,
+    pub(crate) time: u32,
     pub ghost short: { length bytes.items < 2 ^ 32 },
 }
 
@@ -38,8 +40,18 @@ fn read_in_place(bytes: &mut [u8], how: Reading) -> Result<Walked, SumFault>
     Ok(hand_out(bytes, front.first, front.sums, Form::Places, how))
 }
 
+/// The time of the format description of a log; 0 where none is.
+pub(crate) fn format_time(log: &[u8]) -> u32
+    ensures { result ≡ format_time log.now }
+{
+    match event_at(log, 4) {
+        Some(format) => format.header.timestamp,
+        None => 0,
+    }
+}
+
 impl<A: Allocator> Source<A> {
-    ghost use Rattle.blog_source.specs.code.SourceView.{damaged_of, end_of, fault_of, log_of};
+    ghost use Rattle.blog_source.specs.code.SourceView.{damaged_of, end_of, fault_of, log_of, time_of};
 
     /// Reads a server's log, in the bytes themselves: checks each event, and takes its sum away. No memory is taken.
     ///
@@ -53,15 +65,18 @@ impl<A: Allocator> Source<A> {
         ensures fault { IfOk result (λ source. fault_of source ≡ (found_of how bytes.items).fault) }
         ensures end { IfOk result (λ source. end_of source ≡ (found_of how bytes.items).end) }
         ensures damaged { IfOk result (λ source. damaged_of source ≡ (found_of how bytes.items).damaged) }
+        ensures time { IfOk result (λ source. time_of source ≡ format_time (handed_log how bytes.items)) }
     {
         let mut bytes = bytes;
         let walked = read_in_place(&mut bytes, how)?;
         bytes.truncate(walked.len as usize);
+        let time = format_time(bytes.as_slice());
         Ok(Source {
             bytes,
             end: walked.end,
             damaged: walked.damaged,
             fault: walked.fault,
+            time,
         })
     }
 

@@ -3,12 +3,13 @@
 ghost use Rattle.std.specs.Prelude.{◌≡◌, IfOk, None, option_map};
 ghost use Rattle.std.specs.Result.{result_err};
 ghost use Rattle.blog_event.specs.Fault.{name_of, position_of as fault_position};
+ghost use Rattle.blog_source.specs.Appended.{format_time};
 ghost use Rattle.blog_source.specs.Found.{found_of};
 ghost use Rattle.blog_source.specs.Handed.{handed_log};
 ghost use Rattle.blog_source.specs.Laws.{whole_reading};
 ghost use Rattle.blog_source.specs.Places.{place_of};
 ghost use Rattle.blog_source.specs.Whole.{reading_fault};
-ghost use Rattle.blog_source.specs.code.SourceView.{end_of, log_of};
+ghost use Rattle.blog_source.specs.code.SourceView.{end_of, log_of, time_of};
 
 use crate::reading::Reading;
 use crate::source::Source;
@@ -24,6 +25,7 @@ impl<A: Allocator> Source<A> {
         ensures exact { result_err result ≡ reading_fault bytes.items }
         ensures log { IfOk result (λ source. log_of source ≡ handed_log whole_reading bytes.items) }
         ensures end { IfOk result (λ source. end_of source ≡ (found_of whole_reading bytes.items).end) }
+        ensures time { IfOk result (λ source. time_of source ≡ format_time (handed_log whole_reading bytes.items)) }
     {
         let source = Source::open(bytes, Reading::ALL)?;
         match source.fault() {

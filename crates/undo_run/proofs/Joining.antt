@@ -5,11 +5,11 @@ use Rattle.blog_device.specs.Watched.{device_of}
 use Rattle.blog_device.specs.declared.fault.RunFault.TheVariants as run
 use Rattle.blog_event.specs.Opening.{opening_fault}
 use Rattle.blog_event.specs.declared.fault.Fault.TheVariants.{OutOfMemory}
-use Rattle.blog_source.specs.Appended.{AreShort, appended, are_of_one_server}
+use Rattle.blog_source.specs.Appended.{AreShort, appended, are_of_one_server, format_time, is_older}
 use Rattle.blog_source.specs.Found.{found_of, source_refusal}
 use Rattle.blog_source.specs.Handed.{handed_log}
 use Rattle.blog_source.specs.code.Appending.{RefusesFurther}
-use Rattle.blog_source.specs.code.SourceView.{end_of, fault_of, log_of}
+use Rattle.blog_source.specs.code.SourceView.{end_of, fault_of, log_of, time_of}
 use Rattle.blog_source.specs.declared.append.AppendFault.{AppendFault}
 use Rattle.blog_source.specs.declared.append.AppendFault.TheVariants as append
 use Rattle.blog_source.specs.declared.source.Source.{Source}
@@ -99,44 +99,47 @@ first-joined stop name seen old new logs (bytes, reads, is) named same =
       bytes,
       reads,
       is.sound,
-      record { is = λ i. record { names = names i; handed = is.log i; end = is.end i; fault = is.fault i }; opens = is.opens },
+      record { is = λ i. record { names = names i; handed = is.log i; end = is.end i; fault = is.fault i; time = is.time i }; opens = is.opens },
     )
 
 -- one more, behind logs as they were read
 joined-here : {A R S : Type 0} (known : R → Option (List ℕ)) (stop : Option ℕ) (n : ℕ) (given : GivenLog R) (seen : List ℕ) (left : Option (List ℕ)) (logs all : Logs A) (more : Source S)
     → OpensLog (reading_to stop) (known (device_of given.reader)) left (Ok more)
     → log_of all.source ≡ appended (log_of logs.source) (end_of logs.source) (log_of more) → end_of all.source ≡ end_of logs.source + end_of more → fault_of all.source ≡ fault_of more
-    → (fault_of logs.source ≡ None) × (are_of_one_server (log_of logs.source) (log_of more) ≡ true)
+    → time_of all.source ≡ time_of more → (fault_of logs.source ≡ None) × (are_of_one_server (log_of logs.source) (log_of more) ≡ true) → is_older (log_of more) (time_of logs.source) ≡ false
     → names_told all.names ≡ with_name (names_told logs.names) (end_of logs.source) seen → seen ≡ given.name.now → opening_fault (log_of all.source) ≡ None
     → Appends {A = A} known stop (joined_told logs) n given (Ok all)
-joined-here known stop n given seen left logs all more (bytes, reads, is) text end fault (whole, alike) named same opens =
+joined-here known stop n given seen left logs all more (bytes, reads, is) text end fault time (whole, alike) ordered named same opens =
     let log : NamedLog = record { name = given.name.now; bytes = bytes } in
     let names : names_told all.names ≡ with_name (names_told logs.names) (end_of logs.source) given.name.now = named ∙ ap (with_name (names_told logs.names) (end_of logs.source)) same in
     let handed : log_of all.source ≡ appended (log_of logs.source) (end_of logs.source) (handed_log (reading_to stop) bytes) = text ∙ ap (appended (log_of logs.source) (end_of logs.source)) is.log in
     let ends : end_of all.source ≡ end_of logs.source + (found_of (reading_to stop) bytes).end = end ∙ ap (λ (n : ℕ). end_of logs.source + n) is.end in
-    let faults : fault_of all.source ≡ (found_of (reading_to stop) bytes).fault = fault ∙ is.fault in (
+    let faults : fault_of all.source ≡ (found_of (reading_to stop) bytes).fault = fault ∙ is.fault in
+    let times : time_of all.source ≡ format_time (handed_log (reading_to stop) bytes) = time ∙ is.time in (
       log,
       (refl, (left, reads)),
-      record { opened = is.sound; whole = whole; alike = ap (are_of_one_server (log_of logs.source)) (sym is.log) ∙ alike },
-      record { is = λ i. record { names = names i; handed = handed i; end = ends i; fault = faults i }; opens = opens },
+      record { opened = is.sound; whole = whole; alike = ap (are_of_one_server (log_of logs.source)) (sym is.log) ∙ alike; ordered = ap (λ (log : List ℕ). is_older log (time_of logs.source)) (sym is.log) ∙ ordered },
+      record { is = λ i. record { names = names i; handed = handed i; end = ends i; fault = faults i; time = times i }; opens = opens },
     )
 
 pub joined-log : {A R S : Type 0} (known : R → Option (List ℕ)) (stop : Option ℕ) (j : Joined) (n : ℕ) (given : GivenLog R) (seen : List ℕ) (left : Option (List ℕ)) (logs all : Logs A) (more : Source S)
     → IsJoined j logs → OpensLog (reading_to stop) (known (device_of given.reader)) left (Ok more)
     → log_of all.source ≡ appended (log_of logs.source) (end_of logs.source) (log_of more) → end_of all.source ≡ end_of logs.source + end_of more → fault_of all.source ≡ fault_of more
-    → (fault_of logs.source ≡ None) × (are_of_one_server (log_of logs.source) (log_of more) ≡ true)
+    → time_of all.source ≡ time_of more → (fault_of logs.source ≡ None) × (are_of_one_server (log_of logs.source) (log_of more) ≡ true) → is_older (log_of more) (time_of logs.source) ≡ false
     → names_told all.names ≡ with_name (names_told logs.names) (end_of logs.source) seen → seen ≡ given.name.now → opening_fault (log_of all.source) ≡ None
     → Appends {A = A} known stop j n given (Ok all)
-joined-log {A = A} known stop j n given seen left logs all more joined opened text end fault alike named same opens =
-    subst (λ (k : Joined). Appends {A = A} known stop k n given (Ok all)) joined.is (joined-here known stop n given seen left logs all more opened text end fault alike named same opens)
+joined-log {A = A} known stop j n given seen left logs all more joined opened text end fault time alike ordered named same opens =
+    subst (λ (k : Joined). Appends {A = A} known stop k n given (Ok all)) joined.is (joined-here known stop n given seen left logs all more opened text end fault time alike ordered named same opens)
 
 -- one that isn't read
 failed-here : {A R S : Type 0} (known : R → Option (List ℕ)) (stop : Option ℕ) (given : GivenLog R) (left : Option (List ℕ)) (logs : Logs A) (more : Source S) (cause : AppendFault)
-    → OpensLog (reading_to stop) (known (device_of given.reader)) left (Ok more) → RefusesFurther (fault_of logs.source) (log_of logs.source) (end_of logs.source) (log_of more) (end_of more) cause
+    → OpensLog (reading_to stop) (known (device_of given.reader)) left (Ok more) → RefusesFurther (fault_of logs.source) (log_of logs.source) (end_of logs.source) (time_of logs.source) (log_of more) (end_of more) cause
     → FailsToJoin known (joined_told logs) given (further_cause cause)
 failed-here known stop given left logs more (append.Damaged f) opened is = is
 failed-here known stop given left logs more append.OtherServer (bytes, reads, source) is =
     (stop, record { name = given.name.now; bytes = bytes }, (refl, (left, reads)), ap (are_of_one_server (log_of logs.source)) (sym source.log) ∙ is)
+failed-here known stop given left logs more append.OutOfOrder (bytes, reads, source) is =
+    (stop, record { name = given.name.now; bytes = bytes }, (refl, (left, reads)), ap (λ (log : List ℕ). is_older log (time_of logs.source)) (sym source.log) ∙ is)
 failed-here known stop given left logs more append.TooLong (bytes, reads, source) is = (
   stop,
   record { name = given.name.now; bytes = bytes },
@@ -148,7 +151,7 @@ failed-here known stop given left logs more append.OutOfMemory opened is = inl r
 
 pub failed-log : {A R S : Type 0} (known : R → Option (List ℕ)) (stop : Option ℕ) (j : Joined) (n : ℕ) (given : GivenLog R) (left : Option (List ℕ)) (logs : Logs A) (more : Source S) (cause : AppendFault) (fault : FurtherFault)
     → IsJoined j logs → OpensLog (reading_to stop) (known (device_of given.reader)) left (Ok more)
-    → RefusesFurther (fault_of logs.source) (log_of logs.source) (end_of logs.source) (log_of more) (end_of more) cause → fault ≡ further_cause cause
+    → RefusesFurther (fault_of logs.source) (log_of logs.source) (end_of logs.source) (time_of logs.source) (log_of more) (end_of more) cause → fault ≡ further_cause cause
     → Appends {A = A} known stop j n given (Err (Further n fault))
 failed-log known stop j n given left logs more cause fault joined opened refused same =
     (refl, subst (λ (k : Joined). FailsToJoin known k given fault) joined.is (subst (FailsToJoin known (joined_told logs) given) (sym same) (failed-here known stop given left logs more cause opened refused)))

@@ -1,8 +1,8 @@
 -- Several logs of one server, each begun where the one before ended, read as one. A place in a further log is counted from the start of the
 -- first, as if the server had written one file.
-use Rattle.std.specs.Prelude.{◌≡◌, ◌⊎◌, ⊤, ℕ, ◌+◌, ◌-◌, nat_le, nat_lt, Bool, true, false, if◌then◌else◌, List, [], ◌∷◌, ◌++◌, length, min, Option, Some, None, option_map}
+use Rattle.std.specs.Prelude.{◌≡◌, ◌⊎◌, ⊤, ℕ, ◌+◌, ◌-◌, nat_le, nat_lt, Bool, true, false, if◌then◌else◌, List, [], ◌∷◌, ◌++◌, length, min, Option, None, option_map}
 use Rattle.blog_device.specs.Devices.{ReadsLog}
-use Rattle.blog_source.specs.Appended.{appended, are_of_one_server}
+use Rattle.blog_source.specs.Appended.{appended, are_of_one_server, format_time, is_older}
 use Rattle.blog_source.specs.Found.{found_of, source_refusal}
 use Rattle.blog_source.specs.Handed.{handed_log}
 use Rattle.blog_source.specs.declared.reading.Reading.{Reading}
@@ -51,12 +51,14 @@ located names place = located_among (record { number = 0; name = names.first; at
 
 -- ---- the logs as one
 
--- the names of logs; what is handed out for them; where they end; and why the reading of the last ended, by its own places, if it ended too early
+-- the names of logs; what is handed out for them; where they end; why the reading of the last ended, by its own places, if it ended too early;
+-- and the time of the format description of the last
 pub record Joined : Type 0 where
   pub names : Names
   pub handed : List ℕ
   pub end : ℕ
   pub fault : Option SumFault
+  pub time : ℕ
 
 -- a log is read up to a stop, or to its end
 abbrev pub reading_to : Option ℕ → Reading
@@ -68,6 +70,7 @@ alone stop log = record {
   handed = handed_log (reading_to stop) log.bytes;
   end = (found_of (reading_to stop) log.bytes).end;
   fault = (found_of (reading_to stop) log.bytes).fault;
+  time = format_time (handed_log (reading_to stop) log.bytes);
 }
 
 -- with one more
@@ -77,13 +80,15 @@ join stop j log = record {
   handed = appended j.handed j.end (handed_log (reading_to stop) log.bytes);
   end = j.end + (found_of (reading_to stop) log.bytes).end;
   fault = (found_of (reading_to stop) log.bytes).fault;
+  time = format_time (handed_log (reading_to stop) log.bytes);
 }
 
--- it can be read, those before it were read to their end, and it is of the same server
+-- it can be read, those before it were read to their end, it is of the same server, and it isn't older than the one before it
 pub record CanJoin (stop : Option ℕ) (j : Joined) (log : NamedLog) : Type 0 where
   pub opened : source_refusal log.bytes ≡ None
   pub whole : j.fault ≡ None
   pub alike : are_of_one_server j.handed (handed_log (reading_to stop) log.bytes) ≡ true
+  pub ordered : is_older (handed_log (reading_to stop) log.bytes) j.time ≡ false
 
 -- with more, each read to its end
 abbrev pub joined_on : Joined → List NamedLog → Joined

@@ -8,7 +8,7 @@ use Rattle.blog_event.specs.declared.fault.Fault.TheVariants.{OutOfMemory, TooLo
 use Rattle.blog_event.specs.declared.fault.Fault.{Fault}
 use Rattle.blog_event.specs.Fault.{name_of, position_of as fault_position}
 use Rattle.blog_run.specs.declared.writing.Writing.{Writing}
-use Rattle.blog_source.specs.Appended.{AreShort, are_of_one_server}
+use Rattle.blog_source.specs.Appended.{AreShort, are_of_one_server, is_older}
 use Rattle.blog_source.specs.Found.{found_of, source_refusal}
 use Rattle.blog_source.specs.Handed.{handed_log}
 use Rattle.blog_sum.specs.declared.fault.SumFault.{SumFault}
@@ -56,11 +56,13 @@ FailsFirst old new (opening.Run run.Write) = ⊥
 FailsFirst old new (opening.Run (run.Log f)) = (f ≡ OutOfMemory) ⊎ ((f ≡ TooLongLog 0) × PassesLimit greatest_length old new)
 FailsFirst old new (opening.Sums f) = (bytes : List ℕ) × ReadsLog old new bytes × (source_refusal bytes ≡ Some f)
 
--- One more isn't read: it isn't opened, or memory was refused; the one before it is damaged; it is of another server; or the logs are too long.
+-- One more isn't read: it isn't opened, or memory was refused; the one before it is damaged; it is of another server; it is older than the one
+-- before it; or the logs are too long.
 abbrev pub FailsToJoin : {R : Type 0} → (R → Option (List ℕ)) → Joined → GivenLog R → FurtherFault → Type 0
 FailsToJoin known j given (further.Opening f) = FailsToOpen known given f
 FailsToJoin known j given (further.Damaged f) = j.fault ≡ Some f
 FailsToJoin known j given further.OtherServer = (stop : Option ℕ) × (log : NamedLog) × IsRead known given log × (are_of_one_server j.handed (handed_log (reading_to stop) log.bytes) ≡ false)
+FailsToJoin known j given further.OutOfOrder = (stop : Option ℕ) × (log : NamedLog) × IsRead known given log × (is_older (handed_log (reading_to stop) log.bytes) j.time ≡ true)
 FailsToJoin known j given further.TooLong = (stop : Option ℕ) × (log : NamedLog) × IsRead known given log
     × (AreShort j.handed j.end (handed_log (reading_to stop) log.bytes) (found_of (reading_to stop) log.bytes).end → ⊥)
 

@@ -38,6 +38,8 @@ pub enum FurtherFault {
     Damaged(SumFault),
     /// It is of another server, or of another version.
     OtherServer,
+    /// It is older than the log before it.
+    OutOfOrder,
     /// The logs have more than 4,294,967,295 bytes together.
     TooLong,
 }

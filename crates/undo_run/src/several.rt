@@ -29,6 +29,7 @@ fn further_fault(fault: AppendFault) -> FurtherFault
     match fault {
         AppendFault::Damaged(fault) => FurtherFault::Damaged(fault),
         AppendFault::OtherServer => FurtherFault::OtherServer,
+        AppendFault::OutOfOrder => FurtherFault::OutOfOrder,
         AppendFault::TooLong => FurtherFault::TooLong,
         AppendFault::OutOfMemory => FurtherFault::Opening(OpeningFault::Run(RunFault::Log(
             Fault::OutOfMemory,

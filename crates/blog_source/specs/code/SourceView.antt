@@ -15,6 +15,10 @@ fault_of source = source.fault
 abbrev pub end_of : {A : Type 0} → Source A → ℕ
 end_of source = source.end
 
+-- the time of the format description of the last log that was read into it
+abbrev pub time_of : {A : Type 0} → Source A → ℕ
+time_of source = source.time
+
 -- how many events were passed over
 abbrev pub damaged_of : {A : Type 0} → Source A → ℕ
 damaged_of source = source.damaged

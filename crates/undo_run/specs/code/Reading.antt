@@ -1,11 +1,11 @@
 -- What comes of reading several logs as one.
-use Rattle.std.specs.Prelude.{◌≡◌, ◌⊎◌, ⊤, ℕ, ◌+◌, Bool, true, false, List, [], ◌∷◌, ◌++◌, length, Option, Some, None, Result, Ok, Err}
+use Rattle.std.specs.Prelude.{◌≡◌, ℕ, Bool, true, false, List, Option, None, Result, Ok, Err}
 use Rattle.blog_device.specs.Devices.{ReadsLog}
 use Rattle.blog_device.specs.declared.fault.RunFault.TheVariants as run
 use Rattle.blog_event.specs.Opening.{opening_fault}
 use Rattle.blog_event.specs.declared.fault.Fault.TheVariants.{OutOfMemory}
 use Rattle.blog_source.specs.Found.{source_refusal}
-use Rattle.blog_source.specs.code.SourceView.{end_of, fault_of, log_of}
+use Rattle.blog_source.specs.code.SourceView.{end_of, fault_of, log_of, time_of}
 use Rattle.blog_source.specs.declared.append.AppendFault.{AppendFault}
 use Rattle.blog_source.specs.declared.append.AppendFault.TheVariants as append
 use Rattle.list_run.specs.Listed.{AreRead, IsRead, NamedLog}
@@ -24,7 +24,7 @@ use Rattle.undo_run.specs.declared.several.Logs.{Logs}
 
 -- logs that were read as one, as a value; and they open
 abbrev pub joined_told : {A : Type 0} → Logs A → Joined
-joined_told logs = record { names = names_told logs.names; handed = log_of logs.source; end = end_of logs.source; fault = fault_of logs.source }
+joined_told logs = record { names = names_told logs.names; handed = log_of logs.source; end = end_of logs.source; fault = fault_of logs.source; time = time_of logs.source }
 
 pub record IsJoined {A : Type 0} (j : Joined) (logs : Logs A) : Type 0 where
   pub is : joined_told logs ≡ j
@@ -34,6 +34,7 @@ pub record IsJoined {A : Type 0} (j : Joined) (logs : Logs A) : Type 0 where
 abbrev pub further_cause : AppendFault → FurtherFault
 further_cause (append.Damaged f) = further.Damaged f
 further_cause append.OtherServer = further.OtherServer
+further_cause append.OutOfOrder = further.OutOfOrder
 further_cause append.TooLong = further.TooLong
 further_cause append.OutOfMemory = further.Opening (opening.Run (run.Log OutOfMemory))
 

@@ -1,12 +1,12 @@
 -- What comes of opening logs for a part, of looking at what came later, and of writing what is taken.
-use Rattle.std.specs.Prelude.{◌≡◌, ◌⊎◌, ℕ, ◌+◌, ◌<◌, ⊤, Bool, true, false, List, ◌∷◌, [], ◌++◌, length, map, Option, Some, None, Vec, Result, Ok, Err}
+use Rattle.std.specs.Prelude.{◌≡◌, ◌⊎◌, ℕ, ◌+◌, ◌<◌, Bool, true, false, List, ◌∷◌, [], ◌++◌, length, map, Option, Some, None, Vec, Result, Ok, Err}
 use Rattle.std.specs.Io.KnownBytes.{Appends, Keeps}
 use Rattle.blog_choice.specs.Choice.{Choice}
-use Rattle.blog_device.specs.Devices.{AppendsBeginning, PassesLimit, ReadsLog, greatest_length}
+use Rattle.blog_device.specs.Devices.{AppendsBeginning, ReadsLog}
 use Rattle.blog_device.specs.declared.fault.RunFault.TheVariants as run
 use Rattle.blog_event.specs.Opening.{opening_fault}
 use Rattle.blog_event.specs.declared.fault.Fault.{Fault}
-use Rattle.blog_event.specs.declared.fault.Fault.TheVariants.{OutOfMemory, TooLong as TooLongLog}
+use Rattle.blog_event.specs.declared.fault.Fault.TheVariants.{OutOfMemory}
 use Rattle.blog_gathered.specs.code.GatheredView.{IsGathered, range_of}
 use Rattle.blog_gathered.specs.declared.gathered.Gathered.{Gathered}
 use Rattle.blog_later.specs.Among.{Step, touches_among}
@@ -16,9 +16,10 @@ use Rattle.blog_later.specs.code.LeavingView.{HasLeft}
 use Rattle.blog_request.specs.Ids.{Ids}
 use Rattle.blog_run.specs.Writing.{CanBeWritten, end_of_text, lacks, text_of}
 use Rattle.blog_run.specs.declared.writing.Writing.{Writing}
+use Rattle.blog_source.specs.Appended.{format_time}
 use Rattle.blog_source.specs.Found.{found_of, source_refusal}
 use Rattle.blog_source.specs.Handed.{handed_log}
-use Rattle.blog_source.specs.code.SourceView.{end_of, fault_of, log_of}
+use Rattle.blog_source.specs.code.SourceView.{end_of, fault_of, log_of, time_of}
 use Rattle.blog_source.specs.declared.reading.Reading.{Reading}
 use Rattle.blog_source.specs.declared.source.Source.{Source}
 use Rattle.blog_sum.specs.declared.fault.SumFault.{SumFault}
@@ -56,6 +57,7 @@ pub record IsSource {A : Type 0} (how : Reading) (bytes : List ℕ) (source : So
   pub log : log_of source ≡ handed_log how bytes
   pub end : end_of source ≡ (found_of how bytes).end
   pub fault : fault_of source ≡ (found_of how bytes).fault
+  pub time : time_of source ≡ format_time (handed_log how bytes)
   pub opens : opening_fault (log_of source) ≡ None
 
 abbrev pub OpensLog : {A : Type 0} → Reading → Option (List ℕ) → Option (List ℕ) → Result (Source A) OpeningFault → Type 0

@@ -16,7 +16,7 @@ returns-in-Ok-append g c j joined =
     let (bytes, reads, opened) = c.in-Ok.ensures.opens in
     let made = c.in-Ok-append.ensures in
     joined-log g.L.Read.remaining c.args.stop j c.args.n c.args.given c.as_bytes.result.now (g.L.Read.remaining (device_of c.open_log.new.reader)) c.args.logs
-    (record { source = c.in-Ok-append.source; names = c.in_ok-with-in-Ok-append.field-0 }) c.in-Ok.further joined c.in-Ok.ensures.opens made.log made.end made.fault made.alike
+    (record { source = c.in-Ok-append.source; names = c.in_ok-with-in-Ok-append.field-0 }) c.in-Ok.further joined c.in-Ok.ensures.opens made.log made.end made.fault made.time made.alike made.ordered
     (c.in_ok-with-in-Ok-append.ensures ∙ ap (λ n. with_name (names_told c.args.logs.names) n c.as_bytes.result.now) c.end-start.ensures) c.as_bytes.ensures.value (made.opens joined.opens)
 
 pub returns : goal.returns
