@@ -6,18 +6,15 @@ use Rattle.std.specs.Io.KnownBytes.{Keeps, Appends}
 use Rattle.blog_event.specs.declared.fault.Fault.{Fault}
 use Rattle.blog_event.specs.declared.fault.Fault.TheVariants.{TooLong, OutOfMemory as NoMemory}
 use Rattle.blog_device.specs.Devices.{greatest_length, PassesLimit, ReadsLog, AppendsBeginning}
-use Rattle.blog_device.specs.declared.fault.RunFault.{RunFault}
 use Rattle.blog_device.specs.declared.fault.RunFault.TheVariants.{Log, Read, Write}
 use Rattle.blog_sum.specs.declared.fault.SumFault.{SumFault}
 use Rattle.blog_source.specs.Laws.{whole_reading}
 use Rattle.blog_source.specs.Plain.{plain_log}
 use Rattle.blog_source.specs.Whole.{reading_fault}
-use Rattle.blog_source.specs.declared.reading.Reading.{Reading}
-use Rattle.blog_source.specs.Found.{found_of, source_refusal}
+use Rattle.blog_source.specs.Found.{found_of}
 use Rattle.blog_source.specs.Handed.{handed_log}
-use Rattle.blog_source.specs.code.SourceView.{damaged_of, end_of, fault_of, log_of}
+use Rattle.blog_source.specs.code.SourceView.{end_of, log_of}
 use Rattle.blog_source.specs.declared.source.Source.{Source}
-use Rattle.blog_event.specs.Opening.{opening_fault}
 use Rattle.jiff.specs.Types.{TimeZone}
 use Rattle.list_run.specs.Listed.{ListsLogs, MayFollow}
 use Rattle.list_run.specs.declared.fault.ListFault.{ListFault}

@@ -129,6 +129,10 @@ fn print_further_fault<W: fmt::Write>(
             f,
             "OtherServer: {path} is of another server than {before}, or of another version: give logs of one server"
         ),
+        FurtherFault::OutOfOrder => write!(
+            f,
+            "OutOfOrder: {path} is older than {before}: give the logs in order, the oldest first"
+        ),
         FurtherFault::TooLong => write!(
             f,
             "TooLong: with {path} the logs have more than 4294967295 bytes: give fewer at a time"
