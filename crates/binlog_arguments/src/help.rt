@@ -233,7 +233,8 @@ pub const UNDO_AFTER_HELP: &str = "\
 Positions are bytes from the start of LOG, decimal, 0 to 4294967295: where an event begins. Give the start
 and the stop of transactions that binlog list prints; --at takes the start of one, or where its BEGIN is.
 Names are compared byte by byte.
-Without -d and -T all tables are taken back, with them other tables stay as they are.
+Without -d and -T all tables are taken back, with them other tables stay as they are, and a statement that
+names none of the chosen ones is passed over.
 Values of --at, of --thread and of --gtid are alternatives, and a transaction has to meet all options that are
 given.
 GTID and TIME are as binlog list has them. Times, given and printed, are those of this machine's time zone,
@@ -308,7 +309,8 @@ pub const REDO_AFTER_HELP: &str = "\
 Positions are bytes from the start of LOG, decimal, 0 to 4294967295: where an event begins. Give the start
 and the stop of transactions that binlog list prints; --at takes the start of one, or where its BEGIN is.
 Names are compared byte by byte.
-Without -d and -T the changes of all tables are made, with them only those of the chosen ones.
+Without -d and -T the changes of all tables are made, with them only those of the chosen ones, and a statement
+that names none of these is passed over.
 Values of --at, of --thread and of --gtid are alternatives, and a transaction has to meet all options that are
 given.
 GTID and TIME are as binlog list has them. Times are those of this machine's time zone, unless --utc or
