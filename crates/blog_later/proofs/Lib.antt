@@ -1,7 +1,7 @@
 pub mod Counting
-mod EventChanges
+pub mod EventChanges
 mod OtherTables
-mod Seen
+pub mod Seen
 pub mod Untouched
 pub mod Numbered
 pub mod Among
