@@ -1,0 +1,30 @@
+-- Events that are appended to a log one after the other.
+use Rattle.std.specs.Prelude.{◌≡◌, ℕ, ◌<◌, ◌≤◌, ⊤, List, ◌++◌, length, Result, Ok, Err}
+use Rattle.blog_event.specs.declared.event.Header.{Header}
+use Rattle.blog_event.specs.Event.{Event}
+use Rattle.blog_event.specs.File.{end_of}
+use Rattle.blog_flash.specs.code.LaidOut.{text_from}
+use Rattle.blog_left_out.specs.declared.fault.LeaveOutFault.{LeaveOutFault}
+use Rattle.blog_left_out.specs.declared.fault.LeaveOutFault.TheVariants.{OutOfMemory, TooLong}
+
+-- a text isn't written: it would be too long, or memory was refused
+abbrev pub IsUnwritten : List ℕ → LeaveOutFault → Type 0
+IsUnwritten text OutOfMemory = ⊤
+IsUnwritten text TooLong = 4294967295 < length text
+
+-- an event by its header and its body
+abbrev pub headed : Header → List ℕ → Event
+headed h body = record { timestamp = h.timestamp; kind = h.kind; server_id = h.server_id; log_pos = 0; flags = h.flags; body = body }
+
+-- events are appended to these bytes
+abbrev pub IsPut : List ℕ → List Event → List ℕ → Type 0
+IsPut old es new = (new ≡ old ++ text_from (length old) es) × (length new ≤ 4294967295)
+
+-- they aren't: with them the log would be too long, or memory was refused
+abbrev pub Refuses : List ℕ → List Event → LeaveOutFault → Type 0
+Refuses old es OutOfMemory = ⊤
+Refuses old es TooLong = 4294967295 < end_of (length old) es
+
+abbrev pub Puts : List ℕ → List Event → List ℕ → Result ⊤ LeaveOutFault → Type 0
+Puts old es new (Ok _) = IsPut old es new
+Puts old es new (Err fault) = Refuses old es fault
