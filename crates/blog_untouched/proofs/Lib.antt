@@ -1,0 +1,6 @@
+pub mod PartsBy
+pub mod Taking
+pub mod Marks
+pub mod First
+pub mod Recording
+pub mod Putting

@@ -1,0 +1,5 @@
+pub mod ByPrints
+pub mod Laws
+pub mod Rows
+pub mod Recorded
+pub mod code

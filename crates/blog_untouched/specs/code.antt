@@ -1,0 +1,4 @@
+-- What only contracts of code need: its structs as values.
+pub mod MarksView
+pub mod SeededView
+pub mod TakersView
