@@ -200,7 +200,9 @@ fn a_fault_has_its_log(rt: HostRuntime) -> Result<(), Fail> {
 #[test]
 fn a_damaged_log_is_told(rt: HostRuntime) -> Result<(), Fail> {
     let first = log_of(&rt, &[], 0, 1, &[])?;
-    let cut = first.get(..first.len().saturating_sub(1)).ok_or("no bytes")?;
+    let cut = first
+        .get(..first.len().saturating_sub(1))
+        .ok_or("no bytes")?;
     let fault = SumFault::Log(Fault::CutEvent { pos: 276 });
     let more: [(&str, &[u8]); 2] = [("b", cut), ("c", &first)];
     let (n, came, _, _) = logs_with(&rt, &first, &more, &between(4, Some(4)), None, false, &[])?;
