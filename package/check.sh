@@ -82,7 +82,8 @@ begin_folder() {
             ;;
         "binlog undo"*)
             cp examples/mysql/crc32_closed.binlog "$work/here/binlog.000042"
-            cp examples/mysql/insert.binlog "$work/here/binlog.000043"
+            # begun when binlog.000042 was: bytes 4 to 7 are the time of the format description
+            { head -c 4 examples/mysql/insert.binlog; head -c 8 examples/mysql/crc32_closed.binlog | tail -c 4; tail -c +9 examples/mysql/insert.binlog; } > "$work/here/binlog.000043"
             cp examples/mysql/update.binlog "$work/here/binlog.000044"
             ;;
         "binlog split"* | "binlog sql"*) cp "$work/logs/undo" "$work/here/undo.binlog" ;;
