@@ -13,6 +13,6 @@ pub use laws::{fingerprints_of_left_rows_suffice, fingerprints_of_rows_left_befo
 pub use leaving::Leaving;
 pub use left::LeftRows;
 pub use looked::Looked;
-pub use looking::{look, look_among};
+pub use looking::{first_mark, look, look_among};
 pub use prints::{print_of, table_hasher};
 pub use touched::TouchedRows;

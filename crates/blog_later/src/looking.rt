@@ -41,8 +41,8 @@ pub fn look<'a, A: Allocator + Copy>(
     Ok(looked)
 }
 
-/// The first of some marks, and the others; if there are none, false.
-fn first_mark(marks: &[bool]) -> (bool, &[bool])
+/// The first of some marks, and the others; if there are none, false and none.
+pub fn first_mark(marks: &[bool]) -> (bool, &[bool])
     ensures { (b : Bool) → (bs : List Bool) → marks.now ≡ b ∷ bs → (result.0 ≡ b) × (result.1.now ≡ bs) }
 {
     match marks.split_first() {

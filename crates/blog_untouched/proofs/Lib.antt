@@ -4,3 +4,5 @@ pub mod Marks
 pub mod First
 pub mod Recording
 pub mod Putting
+pub mod PutRecorded
+pub mod OfSteps

@@ -1,6 +1,11 @@
 //! What is promised of the part by fingerprints. Each law holds for every function from rows to numbers: equal rows have equal values.
 
-ghost use Rattle.std.specs.Prelude.{◌≡◌, ℕ, true, List, []};
+ghost use Rattle.std.specs.Prelude.{◌≡◌, ℕ, true, List, [], take};
+ghost use Rattle.std.specs.List.{flat_map};
+ghost use Rattle.blog_later.specs.Among.{Step, marked_in, selected_in};
+ghost use Rattle.blog_later.specs.Prints.{HavePrints, print_of, prints_left};
+ghost use Rattle.blog_untouched.specs.Recorded.{IsRecorded};
+ghost use Rattle.blog_untouched.specs.Steps.{rows_in, taken_in};
 ghost use Rattle.blog_undo.specs.ByRows.{passes_by};
 ghost use Rattle.blog_undo.specs.Mixed.{Marked, TableRow};
 ghost use Rattle.blog_undo.specs.Part.{untouched_part};
@@ -28,4 +33,11 @@ pub fn changes_left_out_are_touched_by_fingerprints()
 /// The call does nothing.
 pub fn all_are_kept_if_none_is_touched()
     ensures { (f : TableRow → ℕ) (ms : List Marked) → passes_by f [] ms ≡ true → part_by f ms ≡ ms }
+{}
+
+/// What is recorded of steps is what is recorded of their changes, if the fingerprints of the first lists are those of the rows that these left. The
+/// call does nothing.
+pub fn records_of_steps_are_those_of_their_changes()
+    ensures { (prints : ℕ → List ℕ) (ss : List Step) → ((k : ℕ) → HavePrints (prints_left print_of (flat_map (λ cs. cs) (take k (selected_in ss)))) (prints k))
+        → IsRecorded print_of (marked_in ss) (rows_in ss) (taken_in prints 0 0 ss) }
 {}

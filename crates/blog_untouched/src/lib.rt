@@ -7,6 +7,7 @@
 
 mod keeping;
 mod laws;
+mod record;
 mod rows;
 mod selected;
 mod takers;
@@ -15,6 +16,8 @@ pub use keeping::{Kept, kept_changes};
 pub use laws::{
     all_are_kept_if_none_is_touched, changes_left_out_are_touched_by_fingerprints,
     part_by_fingerprints_is_greatest, part_by_fingerprints_is_taken_back,
+    records_of_steps_are_those_of_their_changes,
 };
+pub use record::ChangeRecord;
 pub use rows::{SelectedRow, TakenRow, Taker, Touched};
 pub use selected::selected_rows;

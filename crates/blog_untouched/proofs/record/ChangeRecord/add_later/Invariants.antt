@@ -1,0 +1,19 @@
+use Rattle.std.proofs.Common.{◌≡◌, ◌++◌, length}
+use Rattle.blog_event.specs.code.LogView.{log_bytes}
+use Rattle.blog_later.specs.Later.{changes_in, later_units}
+use Rattle.blog_later.specs.code.LookedView.{left_before}
+use Rattle.blog_units.specs.code.UnitsView.{units_left, units_log}
+use Rattle.blog_untouched.specs.Steps.{taken_of}
+use Rattle.blog_untouched.proofs.record.ChangeRecord.add_later.Given as goal
+
+-- the units are left that the iterator still gives
+abbrev pub invariant-loop-unit : goal.invariant-loop-unit
+invariant-loop-unit g l = record {
+  next : (goal.iterator-loop-unit g).can_next l.unit-iterator;
+  finite : (goal.iterator-loop-unit g).is_finite l.unit-iterator;
+  log : units_log l.unit-iterator ≡ l.log;
+  before : l.before ≡ length l.fn.self.rows.items;
+  rows : l.self.rows ≡ l.fn.self.rows;
+  put : l.self.taken.items ++ taken_of l.before (left_before l.left l.lists).rows (changes_in (log_bytes l.log) (units_left l.unit-iterator))
+      ≡ l.fn.self.taken.items ++ taken_of l.before (left_before l.left l.lists).rows (changes_in (log_bytes l.log) (later_units (log_bytes l.log) l.at));
+}
