@@ -202,6 +202,11 @@ abbrev pub looks_later : Found → Order → Bool
 looks_later found Forward = false
 looks_later found Backward = not (is_given found (codes "anyway"))
 
+-- whether rows that were changed since are left as they are
+abbrev pub leaves_rows : Found → Order → Bool
+leaves_rows found Forward = false
+leaves_rows found Backward = is_given found (codes "leave")
+
 -- the later logs, which `undo` alone has
 abbrev pub later_paths : Found → Order → List (List ℕ)
 later_paths found Forward = []
@@ -252,6 +257,7 @@ pub record IsPartTask {A : Type 0} (found : Found) (direction : Order) (task : P
   pub as_log : task.as_log ≡ is_given found (codes "binlog")
   pub dry_run : task.dry_run ≡ is_given found (codes "dry-run")
   pub looks : task.looks ≡ looks_later found direction
+  pub leaves : task.leaves ≡ leaves_rows found direction
   pub later : map (λ path. path.now) task.later.items ≡ later_paths found direction
   pub zone : IsZoneAsked found task.zone
   pub units : (zone : TimeZone) × IsZoneOf task.zone zone × IsUnitChoice found zone task.units

@@ -10,7 +10,7 @@ pub const USAGE: &str = "\
 binlog list [-d NAME] [-T NAME] [-j POS] [--stop-position POS]
                    [--start-datetime TIME] [--stop-datetime TIME]
                    [--utc | --time-zone NAME] [--json] LOG..
-       binlog undo [--later LOG].. [--anyway] [-j POS] [--stop-position POS]
+       binlog undo [--later LOG].. [--leave | --anyway] [-j POS] [--stop-position POS]
                    [-d NAME] [-T NAME]
                    [--dry-run] [-r FILE [--force]] LOG..
        binlog redo [-j POS] [--stop-position POS] [-d NAME] [-T NAME]
@@ -216,13 +216,14 @@ What can't be undone is refused, with its position, and then nothing is written.
 What came later is looked at, to the end of the last LOG and in the later logs that are given, and so is each
 transaction between the chosen ones. If it changed rows that would be undone, or may have changed these
 tables in a way that can't be looked into, such as by ALTER TABLE, nothing is written, and lines say where.
+With --leave rows that were changed since are left as they are, and the others are undone.
 With --anyway nothing is looked at: later changes of these rows are overwritten.
 A report says what is undone: on standard output with -r and with --dry-run, else on standard error.
 It counts rows as the undo changes them: 120 rows that were deleted are 120 inserts.";
 
 /// How `undo` is called.
 pub const UNDO_USAGE: &str = "\
-binlog undo [--later LOG].. [--anyway] [-j POS] [--stop-position POS] [--at POS]..
+binlog undo [--later LOG].. [--leave | --anyway] [-j POS] [--stop-position POS] [--at POS]..
                    [--thread N].. [--gtid GTID].. [--start-datetime TIME] [--stop-datetime TIME]
                    [-d NAME] [-T [NAME.]NAME]
                    [--each-transaction] [--keep-times] [--rewrite-db FROM:TO].. [--size BYTES]

@@ -24,6 +24,8 @@ pub const UNDO: &str = "undo";
 pub const REDO: &str = "redo";
 /// The name of `--anyway`.
 pub const ANYWAY: &str = "anyway";
+/// The name of `--leave`.
+pub const LEAVE: &str = "leave";
 /// The name of `--later`.
 pub const LATER: &str = "later";
 /// The name of `--binlog`.
@@ -243,10 +245,16 @@ static OF_SQL: [Described<'static>; 4] = [
 ];
 
 /// The options of `undo` alone.
-static OF_UNDO: [Described<'static>; 2] = [
+static OF_UNDO: [Described<'static>; 3] = [
     Described {
         name: ANYWAY,
         help: "Undo without looking at what came later, and overwrite it",
+        ..FLAG
+    },
+    Described {
+        name: LEAVE,
+        help: "Leave rows that were changed since as they are, and undo the others",
+        excludes: Some(ANYWAY),
         ..FLAG
     },
     Described {

@@ -5,11 +5,11 @@ ghost use Rattle.clap.specs.Words.{found_of};
 ghost use Rattle.blog_run.specs.Writing.{HasShortWriting};
 ghost use Rattle.blog_sql.specs.Changed.{HaveShortNames};
 ghost use Rattle.blog_trans.specs.Selection.{selection_of};
-ghost use Rattle.binlog_arguments.specs.Request.{HasPartWriting, HasLogs, IsPart, IsPartTask, IsWrong, RefusesLogs, RefusesPart, all_values, later_paths, looks_later};
+ghost use Rattle.binlog_arguments.specs.Request.{HasPartWriting, HasLogs, IsPart, IsPartTask, IsWrong, RefusesLogs, RefusesPart, all_values, later_paths, leaves_rows, looks_later};
 
 use crate::arguments::{ArgumentsFault, is_given};
 use crate::list_arguments::{read_paths, read_range, read_zone};
-use crate::options::{ANYWAY, AS_LOG, AT, DATABASE, DRY_RUN, LATER, LOG, TABLE};
+use crate::options::{ANYWAY, AS_LOG, AT, DATABASE, DRY_RUN, LATER, LEAVE, LOG, TABLE};
 use crate::sql_arguments::{SqlTask, read_sql};
 use crate::unit_choice::{UnitChoice, read_unit_choice};
 use crate::zones::Zone;
@@ -41,6 +41,8 @@ pub struct PartTask<'a, A: Allocator> {
     pub dry_run: bool,
     /// Whether what came later in the log is looked at, so that nothing is written if it touches the part.
     pub looks: bool,
+    /// Whether rows that were changed since are left as they are, and the others are undone.
+    pub leaves: bool,
     /// The paths of later logs, in order, which are looked at too.
     pub later: Vec<&'a str, A>,
     /// The time zone in which times are given and printed.
@@ -91,6 +93,7 @@ pub(crate) fn read_part<'a, R: Files + Env + AllocGlobal, A: Allocator + Copy>(
         as_log: is_given(found, AS_LOG),
         dry_run: is_given(found, DRY_RUN),
         looks: looks(found, order),
+        leaves: leaves(found, order),
         later: read_later(alloc, found, order)?,
         zone,
     })
@@ -103,6 +106,16 @@ fn looks(found: &ArgMatches<'_>, order: Order) -> bool
     match order {
         Order::Forward => false,
         Order::Backward => !is_given(found, ANYWAY),
+    }
+}
+
+/// Whether rows that were changed since are left: by `undo`, if it is told to.
+fn leaves(found: &ArgMatches<'_>, order: Order) -> bool
+    ensures { result ≡ leaves_rows (found_of found.now) order }
+{
+    match order {
+        Order::Forward => false,
+        Order::Backward => is_given(found, LEAVE),
     }
 }
 

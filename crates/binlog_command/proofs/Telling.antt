@@ -6,8 +6,8 @@ use Rattle.blog_trans.specs.Selection.{Selection}
 use Rattle.list_run.specs.declared.given.GivenLog.{GivenLog}
 use Rattle.undo_run.specs.Parts.{reading_of}
 use Rattle.undo_run.specs.Several.{Joined, part_among, starts_in_first}
-use Rattle.undo_run.specs.Taken.{CanBe, OfLater, report_taken}
-use Rattle.undo_run.specs.Writes.{IsSoundIn, ReportsPart, WritesJoined, WritesPart, taken_in}
+use Rattle.undo_run.specs.Taken.{CanBe, OfLater}
+use Rattle.undo_run.specs.Writes.{IsSoundIn, ReportsPart, WritesJoined, WritesPart, plan_in}
 use Rattle.undo_run.specs.declared.request.UnitRequest.{UnitRequest}
 use Rattle.undo_run.proofs.Joining.{of-logs}
 
@@ -15,9 +15,9 @@ use Rattle.undo_run.proofs.Joining.{of-logs}
 abbrev Reported : {R : Type 0} → Bool → (R → Option (List ℕ)) → List (GivenLog R) → Writing → Selection → Option UnitRequest → List ℕ → Joined → Type 0
 Reported looks known later w part asked told j =
     let inside = part_among j.names part in
-    let t = taken_in looks asked j.names inside j.handed j.end j.fault in
+    let plan = plan_in looks w asked j.names inside j.handed j.end j.fault in
     (starts_in_first j.names.more part.start ≡ true) × IsSoundIn looks asked inside j.handed j.end j.fault
-    × OfLater looks known later (λ logs. CanBe looks w t logs × (told ≡ report_taken looks w j.names t logs))
+    × OfLater looks known later (λ logs. CanBe w plan logs × plan.told logs told)
 
 -- and they are written
 abbrev Written : {A R : Type 0} → Bool → (R → Option (List ℕ)) → List (GivenLog R) → Writing → Selection → Option UnitRequest → Option (List ℕ) → Option (List ℕ) → Vec ℕ A → Joined → Type 0

@@ -311,7 +311,8 @@ const NO_UNIT_WITH_GTID: &str =
 const NOTHING_SELECTED: &str =
     "NothingSelected: no row of these tables is changed in this range: see binlog list";
 
-const CHANGED_SINCE: &str = "undo these later changes first, or give --anyway to overwrite them";
+const CHANGED_SINCE: &str =
+    "undo these later changes first; --leave undoes the other rows alone, and --anyway overwrites these";
 
 const UNKNOWN_SINCE: &str =
     "UnknownSince: what came later may have changed these tables: give --anyway if it left these rows as they were";

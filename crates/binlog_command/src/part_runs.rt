@@ -140,7 +140,7 @@ pub(crate) fn run_part<
         (O.contents (device_of output.old)) (O.contents (device_of output.new))) }
 {
     let writing = task.writing(process.began);
-    let units = request(&task.units, &task.part);
+    let units = request(&task.units, &task.part, task.leaves);
     if task.dry_run {
         let mut nowhere = Watched::new(Nowhere {});
         let told = part_to(
@@ -191,13 +191,15 @@ fn is_of_tables(part: &Selection<'_>) -> bool
 fn request<'u, A: Allocator>(
     units: &'u UnitChoice<'_, A>,
     part: &Selection<'_>,
+    leaves: bool,
 ) -> Option<UnitRequest<'u>>
-    ensures { HasRequest units.now (selection_of part.now) result }
+    ensures { HasRequest units.now (selection_of part.now) leaves result }
 {
-    match units.wanted(is_of_tables(part)) {
+    match units.wanted(leaves || is_of_tables(part)) {
         Some(wanted) => Some(UnitRequest {
             wanted,
             at: units.at.as_slice(),
+            leaves,
         }),
         None => None,
     }

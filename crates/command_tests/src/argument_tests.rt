@@ -8,7 +8,7 @@ use std::test::Fail;
 /// Lines of the help.
 static HELP_LINES: [&str; 15] = [
     "Usage: binlog list [-d NAME] [-T NAME] [-j POS] [--stop-position POS]",
-    "       binlog undo [--later LOG].. [--anyway] [-j POS] [--stop-position POS]",
+    "       binlog undo [--later LOG].. [--leave | --anyway] [-j POS] [--stop-position POS]",
     "       binlog redo [-j POS] [--stop-position POS] [-d NAME] [-T NAME]",
     "       binlog plain [-r FILE [--force]] LOG",
     "       binlog split [--size BYTES] [-r FILE [--force]] LOG",

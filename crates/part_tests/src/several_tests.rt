@@ -56,6 +56,7 @@ fn of_threads(threads: &[u32]) -> UnitRequest<'_> {
             },
         },
         at: &[],
+        leaves: false,
     }
 }
 

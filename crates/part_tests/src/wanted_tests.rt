@@ -42,6 +42,7 @@ fn only_starts_and_begins_are_positions_of_units(rt: HostRuntime) -> Result<(), 
         let asked = UnitRequest {
             wanted: ANY,
             at: at.as_slice(),
+            leaves: false,
         };
         let (came, _, _) = units_with(&rt, &log, &between(4, None), asked, false, &[], &UNDO)?;
         assert!(rt; came == wanted);

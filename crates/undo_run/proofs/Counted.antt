@@ -29,7 +29,7 @@ touches-later css k (l ∷ ls) =
     ap (λ (n : ℕ). length (filter (takes_left (left_by k css)) (changes_in l.handed l.units)) + n) (touches-later css k ls)
     ∙ sym (count-append (takes_left (left_by k css)) (changes_in l.handed l.units) (later_changes ls))
 
-selected-later : (ss : List Step) (ls : List Later) → selected_in (ss ++ map later_step ls) ≡ selected_in ss
+pub selected-later : (ss : List Step) (ls : List Later) → selected_in (ss ++ map later_step ls) ≡ selected_in ss
 selected-later [] [] = refl
 selected-later [] (l ∷ ls) = selected-later [] ls
 selected-later (Selected cs ∷ ss) ls = ap (λ (css : List (List Change)). cs ∷ css) (selected-later ss ls)

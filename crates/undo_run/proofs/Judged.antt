@@ -19,25 +19,25 @@ use Rattle.undo_run.specs.declared.fault.PartFault.TheVariants.{Run, Sums, NoEve
 use Rattle.undo_run.specs.declared.since.Since as told
 
 -- a later log isn't opened, or memory was refused
-pub not-looked : {A R : Type 0} (known : R → Option (List ℕ)) (givens : List (GivenLog R)) (t : Taken) (kept : Left) (choice : Choice) (m : ℕ) (ls : List Later) (cause : PartFault A)
-    → LooksOn known givens kept choice m ls (Err cause) → LooksAt known givens t (Err cause)
-not-looked known givens t kept choice m ls (LaterLog n f) fails = fails
-not-looked known givens t kept choice m ls (Run (run.Log f)) is = is
-not-looked known givens t kept choice m ls (Run run.Read) none = absurd none
-not-looked known givens t kept choice m ls (Run run.Write) none = absurd none
-not-looked known givens t kept choice m ls (Sums f) none = absurd none
-not-looked known givens t kept choice m ls (NoEventAt pos) none = absurd none
-not-looked known givens t kept choice m ls (NoUnitAt place) none = absurd none
-not-looked known givens t kept choice m ls (NoUnitWithGtid gtid) none = absurd none
-not-looked known givens t kept choice m ls (Log f) none = absurd none
-not-looked known givens t kept choice m ls NothingSelected none = absurd none
-not-looked known givens t kept choice m ls (ChangedSince rows lines) none = absurd none
-not-looked known givens t kept choice m ls (UnknownSince lines) none = absurd none
-not-looked known givens t kept choice m ls TooLong none = absurd none
-not-looked known givens t kept choice m ls (NoSchema text) none = absurd none
+pub not-looked : {A R : Type 0} (known : R → Option (List ℕ)) (givens : List (GivenLog R)) (t : Taken) (kept : Left) (choice : Choice) (m : ℕ) (ls : List Later) (Also : List Later → Type 0) (cause : PartFault A)
+    → LooksOn known givens kept choice m ls Also (Err cause) → LooksAt known givens t (Err cause)
+not-looked known givens t kept choice m ls Also (LaterLog n f) fails = fails
+not-looked known givens t kept choice m ls Also (Run (run.Log f)) is = is
+not-looked known givens t kept choice m ls Also (Run run.Read) none = absurd none
+not-looked known givens t kept choice m ls Also (Run run.Write) none = absurd none
+not-looked known givens t kept choice m ls Also (Sums f) none = absurd none
+not-looked known givens t kept choice m ls Also (NoEventAt pos) none = absurd none
+not-looked known givens t kept choice m ls Also (NoUnitAt place) none = absurd none
+not-looked known givens t kept choice m ls Also (NoUnitWithGtid gtid) none = absurd none
+not-looked known givens t kept choice m ls Also (Log f) none = absurd none
+not-looked known givens t kept choice m ls Also NothingSelected none = absurd none
+not-looked known givens t kept choice m ls Also (ChangedSince rows lines) none = absurd none
+not-looked known givens t kept choice m ls Also (UnknownSince lines) none = absurd none
+not-looked known givens t kept choice m ls Also TooLong none = absurd none
+not-looked known givens t kept choice m ls Also (NoSchema text) none = absurd none
 
 -- what is told is what was seen
-told-since : {A : Type 0} (t : Taken) (logs : List NamedLog) (n : ℕ) (choice : Choice) (all : told.Since A) → choice ≡ tables_taken t → AreSeen n choice (after t logs) all
+pub told-since : {A : Type 0} (t : Taken) (logs : List NamedLog) (n : ℕ) (choice : Choice) (all : told.Since A) → choice ≡ tables_taken t → AreSeen n choice (after t logs) all
     → Some (since_seen all) ≡ since_told true t logs
 told-since t logs n choice all named are =
     let apart = are.apart ∙ ap (λ (c : Choice). at_most (length (places_apart c (after t logs)))) named in
@@ -54,10 +54,10 @@ are-safe ss choice tables ls n counted named none known whole =
       whole = whole;
     }
 
-pub all-judged : {A R : Type 0} (known : R → Option (List ℕ)) (givens : List (GivenLog R)) (t : Taken) (kept : Left) (choice : Choice) (m : ℕ) (all : told.Since A) (r : Result (told.Since A) (PartFault A))
-    → choice ≡ tables_taken t → CountsOn kept m t.steps → LooksOn {A = A} known givens kept choice m (t.rest ∷ []) (Ok all)
+pub all-judged : {A R : Type 0} (known : R → Option (List ℕ)) (givens : List (GivenLog R)) (t : Taken) (kept : Left) (choice : Choice) (m : ℕ) (Also : List Later → Type 0) (all : told.Since A) (r : Result (told.Since A) (PartFault A))
+    → choice ≡ tables_taken t → CountsOn kept m t.steps → LooksOn {A = A} known givens kept choice m (t.rest ∷ []) Also (Ok all)
     → ((n : ℕ) (ls : List Later) → AreSeen n choice ls all → Judges n choice ls r) → IfOk r (λ since. since ≡ all) → LooksAt known givens t r
-all-judged known givens t kept choice m all (Ok since) named counts (logs, read, seen) judges is =
+all-judged known givens t kept choice m Also all (Ok since) named counts (logs, read, seen, also) judges is =
     let n = m + touches kept (map whole_log logs) in
     let (none, unknown, whole) = judges n (after t logs) seen in (
       logs,
@@ -67,21 +67,21 @@ all-judged known givens t kept choice m all (Ok since) named counts (logs, read,
         ap (λ (s : told.Since _). Some (since_seen s)) is ∙ told-since t logs n choice all named seen,
       ),
     )
-all-judged known givens t kept choice m all (Err (ChangedSince rows lines)) named counts (logs, read, seen) judges is =
+all-judged known givens t kept choice m Also all (Err (ChangedSince rows lines)) named counts (logs, read, seen, also) judges is =
     let (rows_are, some) = judges (m + touches kept (map whole_log logs)) (after t logs) seen in
     (logs, read, (rows_are ∙ ap at_most (counts (map whole_log logs)), subst (λ (n : ℕ). 0 < n) (counts (map whole_log logs)) some))
-all-judged known givens t kept choice m all (Err (UnknownSince lines)) named counts (logs, read, seen) judges is =
+all-judged known givens t kept choice m Also all (Err (UnknownSince lines)) named counts (logs, read, seen, also) judges is =
     let (none, may) = judges (m + touches kept (map whole_log logs)) (after t logs) seen in
     (logs, read, (sym (counts (map whole_log logs)) ∙ none, subst (λ (c : Choice). (0 < length (unknown_units c (after t logs))) ⊎ (is_damaged (after t logs) ≡ true)) named may))
-all-judged known givens t kept choice m all (Err (Run (run.Log f))) named counts (logs, read, seen) judges is = judges (m + touches kept (map whole_log logs)) (after t logs) seen
-all-judged known givens t kept choice m all (Err (Run run.Read)) named counts (logs, read, seen) judges is = absurd (judges (m + touches kept (map whole_log logs)) (after t logs) seen)
-all-judged known givens t kept choice m all (Err (Run run.Write)) named counts (logs, read, seen) judges is = absurd (judges (m + touches kept (map whole_log logs)) (after t logs) seen)
-all-judged known givens t kept choice m all (Err (LaterLog n f)) named counts (logs, read, seen) judges is = absurd (judges (m + touches kept (map whole_log logs)) (after t logs) seen)
-all-judged known givens t kept choice m all (Err (Sums f)) named counts (logs, read, seen) judges is = absurd (judges (m + touches kept (map whole_log logs)) (after t logs) seen)
-all-judged known givens t kept choice m all (Err (NoEventAt pos)) named counts (logs, read, seen) judges is = absurd (judges (m + touches kept (map whole_log logs)) (after t logs) seen)
-all-judged known givens t kept choice m all (Err (NoUnitAt place)) named counts (logs, read, seen) judges is = absurd (judges (m + touches kept (map whole_log logs)) (after t logs) seen)
-all-judged known givens t kept choice m all (Err (NoUnitWithGtid gtid)) named counts (logs, read, seen) judges is = absurd (judges (m + touches kept (map whole_log logs)) (after t logs) seen)
-all-judged known givens t kept choice m all (Err (Log f)) named counts (logs, read, seen) judges is = absurd (judges (m + touches kept (map whole_log logs)) (after t logs) seen)
-all-judged known givens t kept choice m all (Err NothingSelected) named counts (logs, read, seen) judges is = absurd (judges (m + touches kept (map whole_log logs)) (after t logs) seen)
-all-judged known givens t kept choice m all (Err TooLong) named counts (logs, read, seen) judges is = absurd (judges (m + touches kept (map whole_log logs)) (after t logs) seen)
-all-judged known givens t kept choice m all (Err (NoSchema text)) named counts (logs, read, seen) judges is = absurd (judges (m + touches kept (map whole_log logs)) (after t logs) seen)
+all-judged known givens t kept choice m Also all (Err (Run (run.Log f))) named counts (logs, read, seen, also) judges is = judges (m + touches kept (map whole_log logs)) (after t logs) seen
+all-judged known givens t kept choice m Also all (Err (Run run.Read)) named counts (logs, read, seen, also) judges is = absurd (judges (m + touches kept (map whole_log logs)) (after t logs) seen)
+all-judged known givens t kept choice m Also all (Err (Run run.Write)) named counts (logs, read, seen, also) judges is = absurd (judges (m + touches kept (map whole_log logs)) (after t logs) seen)
+all-judged known givens t kept choice m Also all (Err (LaterLog n f)) named counts (logs, read, seen, also) judges is = absurd (judges (m + touches kept (map whole_log logs)) (after t logs) seen)
+all-judged known givens t kept choice m Also all (Err (Sums f)) named counts (logs, read, seen, also) judges is = absurd (judges (m + touches kept (map whole_log logs)) (after t logs) seen)
+all-judged known givens t kept choice m Also all (Err (NoEventAt pos)) named counts (logs, read, seen, also) judges is = absurd (judges (m + touches kept (map whole_log logs)) (after t logs) seen)
+all-judged known givens t kept choice m Also all (Err (NoUnitAt place)) named counts (logs, read, seen, also) judges is = absurd (judges (m + touches kept (map whole_log logs)) (after t logs) seen)
+all-judged known givens t kept choice m Also all (Err (NoUnitWithGtid gtid)) named counts (logs, read, seen, also) judges is = absurd (judges (m + touches kept (map whole_log logs)) (after t logs) seen)
+all-judged known givens t kept choice m Also all (Err (Log f)) named counts (logs, read, seen, also) judges is = absurd (judges (m + touches kept (map whole_log logs)) (after t logs) seen)
+all-judged known givens t kept choice m Also all (Err NothingSelected) named counts (logs, read, seen, also) judges is = absurd (judges (m + touches kept (map whole_log logs)) (after t logs) seen)
+all-judged known givens t kept choice m Also all (Err TooLong) named counts (logs, read, seen, also) judges is = absurd (judges (m + touches kept (map whole_log logs)) (after t logs) seen)
+all-judged known givens t kept choice m Also all (Err (NoSchema text)) named counts (logs, read, seen, also) judges is = absurd (judges (m + touches kept (map whole_log logs)) (after t logs) seen)

@@ -5,6 +5,9 @@ pub mod Joining
 mod Judged
 mod Kept
 mod LastEvent
+mod Leaving
 mod LookedAt
 mod Names
+mod PartLog
+mod Recorded
 mod Stages

@@ -87,13 +87,13 @@ mapped-first f (m ∷ ns) n e = ap (option_map f) e
 
 -- ---- what follows from it
 
-some-more : (n m : ℕ) → n ≡ at_most m → 0 < n → 0 < m
+pub some-more : (n m : ℕ) → n ≡ at_most m → 0 < n → 0 < m
 some-more n m is some = omega (arith, is, some)
 
-none-more : (n m : ℕ) → n ≡ at_most m → n ≡ 0 → m ≡ 0
+pub none-more : (n m : ℕ) → n ≡ at_most m → n ≡ 0 → m ≡ 0
 none-more n m is none = omega (arith, is, none)
 
-none-left : {A : Type 0} (xs : List A) → length xs ≡ 0 → xs ≡ []
+pub none-left : {A : Type 0} (xs : List A) → length xs ≡ 0 → xs ≡ []
 none-left [] e = refl
 none-left (x ∷ xs) e = absurd (omega (arith, e))
 

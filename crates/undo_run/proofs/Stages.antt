@@ -1,28 +1,32 @@
 -- What comes of writing what is taken out of a log, by what comes of each step.
-use Rattle.std.proofs.Common.{◌≡◌, ℕ, Bool, true, false, List, [], length, Option, Some, None, Result, Ok, Err, refl, sym, ap, subst, ◌∙◌, inl, inr}
-use Rattle.std.specs.Prelude.{Vec, option_map}
+use Rattle.std.proofs.Common.{◌≡◌, ◌<◌, ℕ, Bool, true, false, ◌&&◌, List, [], length, Option, Some, None, Result, Ok, Err, refl, sym, ap, subst, ◌∙◌, inl, inr}
+use Rattle.std.specs.Prelude.{⊤, Vec, option_map}
 use Rattle.std.specs.Io.KnownBytes.{Keeps}
 use Rattle.std.proofs.lemmas.Bool.{false≢true}
 use Rattle.std.proofs.lemmas.List.{length-map}
 use Rattle.blog_device.specs.declared.fault.RunFault.TheVariants as run
 use Rattle.blog_event.specs.declared.fault.Fault.TheVariants.{OutOfMemory}
+use Rattle.blog_run.specs.Writing.{end_of_text}
 use Rattle.blog_run.specs.declared.writing.Writing.{Writing}
 use Rattle.blog_source.specs.code.SourceView.{end_of, fault_of, log_of}
 use Rattle.blog_sum.specs.declared.fault.SumFault.{SumFault}
 use Rattle.blog_trans.specs.Groups.{groups, placed_groups, transaction_value}
 use Rattle.blog_trans.specs.Selection.{Selection}
 use Rattle.blog_units.specs.Units.{Facts}
+use Rattle.list_run.specs.Listed.{NamedLog}
 use Rattle.list_run.specs.declared.given.GivenLog.{GivenLog}
 use Rattle.undo_run.specs.Parts.{Refuses as RefusesAll, RefusesStart, damage_before, has_start, reading_of, selection_in}
-use Rattle.undo_run.specs.Reports.{Since, report}
+use Rattle.undo_run.specs.Reports.{Since}
 use Rattle.undo_run.specs.Several.{Joined, Names, OfLogs, part_among, starts_in_first}
-use Rattle.undo_run.specs.Taken.{IsSafeIf, OfLater, Taken, WritesTaken, counts_taken, since_told}
+use Rattle.undo_run.specs.Taken.{AreLater, IsSafeIf, OfLater, Plan, Taken, WritesBy, plan_taken, since_told}
 use Rattle.undo_run.specs.Units.{LacksUnit, RefusesChosen, RefusesUnits, is_asked}
-use Rattle.undo_run.specs.Writes.{FailsJoined, IsLocated, IsLocatedIn, WritesHanded, WritesJoined, WritesPart, is_failed_write}
+use Rattle.undo_run.specs.Leaving.{plan_left}
+use Rattle.undo_run.specs.Writes.{FailsJoined, IsLocated, IsLocatedIn, WritesHanded, WritesJoined, WritesPart, is_failed_write, plan_by}
+use Rattle.undo_run.specs.code.Leaves.{Leaves, WritesLeft}
 use Rattle.undo_run.specs.code.NamesView.{names_told}
 use Rattle.undo_run.specs.code.Reading.{IsJoined, OpensLogs}
 use Rattle.undo_run.specs.code.SinceView.{since_seen}
-use Rattle.undo_run.specs.code.Steps.{Chooses, Looks, WritesIndex}
+use Rattle.undo_run.specs.code.Steps.{Chooses, Looks, WritesGroups, WritesIndex, report_told}
 use Rattle.undo_run.specs.declared.fault.LogsFault.{LogsFault}
 use Rattle.undo_run.specs.declared.fault.LogsFault.TheVariants.{Opening, Further, Part}
 use Rattle.undo_run.specs.declared.fault.PartFault.{PartFault}
@@ -48,37 +52,43 @@ are-free A true known givens t (Some since) (logs, read, (safe, told)) = (logs, 
 are-free A true known givens t None is = absurd is
 are-free A false known givens t since is = ([], refl, ((λ asked. absurd (false≢true asked)), ap (option_map (since_seen {A = A})) is))
 
--- it is written by the groups of a log
-by-groups : {A R : Type 0} (looks : Bool) (known : R → Option (List ℕ)) (givens : List (GivenLog R)) (w : Writing) (name : Names) (t : Taken) (Sound : Type 0) (Refuses : PartFault A → Type 0) (had has : Option (List ℕ)) (since : Option Since)
-    (r : Result (Vec ℕ A) (PartFault A)) → Sound → IsFree looks known givens t since → WritesIndex w name since t.log t.sel had has r → WritesTaken looks known givens w name t Sound Refuses had has r
-by-groups looks known givens w name t Sound Refuses had has since (Ok told) sound (logs, read, (safe, seen)) (can, text, is) =
-    (sound, (logs, read, ((safe, can), text, is ∙ ap (λ (s : Option Since). report w.order name (length (groups t.log t.sel)) (counts_taken t) s) seen)))
-by-groups looks known givens w name t Sound Refuses had has since (Err (Run run.Write)) sound (logs, read, (safe, seen)) (can, text) = (sound, (logs, read, ((safe, can), text)))
-by-groups looks known givens w name t Sound Refuses had has since (Err (Run run.Read)) sound free none = absurd none
-by-groups looks known givens w name t Sound Refuses had has since (Err (Run (run.Log f))) sound free is = is
-by-groups looks known givens w name t Sound Refuses had has since (Err TooLong) sound (logs, read, (safe, seen)) (long, keeps) = (inl (sound, (logs, read, (safe, long))), keeps)
-by-groups looks known givens w name t Sound Refuses had has since (Err (NoSchema text)) sound (logs, read, (safe, seen)) (lacks, keeps) = ((sound, (logs, read, (safe, lacks))), keeps)
-by-groups looks known givens w name t Sound Refuses had has since (Err (LaterLog n f)) sound free none = absurd none
-by-groups looks known givens w name t Sound Refuses had has since (Err (ChangedSince rows lines)) sound free none = absurd none
-by-groups looks known givens w name t Sound Refuses had has since (Err (UnknownSince lines)) sound free none = absurd none
-by-groups looks known givens w name t Sound Refuses had has since (Err (NoEventAt pos)) sound free none = absurd none
-by-groups looks known givens w name t Sound Refuses had has since (Err (NoUnitAt place)) sound free none = absurd none
-by-groups looks known givens w name t Sound Refuses had has since (Err (NoUnitWithGtid gtid)) sound free none = absurd none
-by-groups looks known givens w name t Sound Refuses had has since (Err (Sums f)) sound free none = absurd none
-by-groups looks known givens w name t Sound Refuses had has since (Err (Log f)) sound free none = absurd none
-by-groups looks known givens w name t Sound Refuses had has since (Err NothingSelected) sound free none = absurd none
+-- the groups of a log are written by a plan
+pub planned : {A R : Type 0} (looks : Bool) (known : R → Option (List ℕ)) (givens : List (GivenLog R)) (w : Writing) (p : Plan) (Sound : Type 0) (Refuses : PartFault A → Type 0) (had has : Option (List ℕ)) (logs : List NamedLog) (telling bytes : List ℕ)
+    (sel : Selection) (r : Result (Vec ℕ A) (PartFault A)) → Sound → AreLater looks known givens logs → p.safe logs → bytes ≡ p.log logs → sel ≡ p.sel → (4294967295 < end_of_text w.sql w.order w.limit (p.log logs) p.sel → p.long logs)
+    → ((told : List ℕ) → told ≡ telling → p.told logs told) → WritesGroups w telling bytes sel had has r → WritesBy looks known givens w p Sound Refuses had has r
+planned looks known givens w p Sound Refuses had has logs telling bytes sel r sound read safe same chosen long tells is =
+    by_groups r (subst (λ (s : Selection). WritesGroups w telling (p.log logs) s had has r) chosen (subst (λ (b : List ℕ). WritesGroups w telling b sel had has r) same is))
+  where
+    by_groups : (a : Result (Vec ℕ _) (PartFault _)) → WritesGroups w telling (p.log logs) p.sel had has a → WritesBy looks known givens w p Sound Refuses had has a
+    by_groups (Ok told) (can, text, telling_is) = (sound, (logs, read, ((safe, can), text, tells told.items telling_is)))
+    by_groups (Err (Run run.Write)) (can, text) = (sound, (logs, read, ((safe, can), text)))
+    by_groups (Err (Run run.Read)) none = absurd none
+    by_groups (Err (Run (run.Log f))) refused = refused
+    by_groups (Err TooLong) (is_long, keeps) = (inl (sound, (logs, read, (safe, long is_long))), keeps)
+    by_groups (Err (NoSchema text)) (lacks, keeps) = ((sound, (logs, read, (safe, lacks))), keeps)
+    by_groups (Err (LaterLog n f)) none = absurd none
+    by_groups (Err (ChangedSince rows lines)) none = absurd none
+    by_groups (Err (UnknownSince lines)) none = absurd none
+    by_groups (Err (NoEventAt pos)) none = absurd none
+    by_groups (Err (NoUnitAt place)) none = absurd none
+    by_groups (Err (NoUnitWithGtid gtid)) none = absurd none
+    by_groups (Err (Sums f)) none = absurd none
+    by_groups (Err (Log f)) none = absurd none
+    by_groups (Err NothingSelected) none = absurd none
 
 pub taken-written : {A R : Type 0} (looks : Bool) (known : R → Option (List ℕ)) (givens : List (GivenLog R)) (w : Writing) (name : Names) (t : Taken) (Sound : Type 0) (Refuses : PartFault A → Type 0) (had has : Option (List ℕ)) (since : Option (told.Since A))
     (bytes : List ℕ) (sel : Selection) (r : Result (Vec ℕ A) (PartFault A)) → Sound → Looks {A = A} looks known givens t (Ok since) → bytes ≡ t.log → sel ≡ t.sel
-    → WritesIndex w name (option_map since_seen since) bytes sel had has r → WritesTaken looks known givens w name t Sound Refuses had has r
+    → WritesIndex w name (option_map since_seen since) bytes sel had has r → WritesBy looks known givens w (plan_taken looks w name t) Sound Refuses had has r
 taken-written {A = A} looks known givens w name t Sound Refuses had has since bytes sel r sound looked same chosen is =
-    by-groups looks known givens w name t Sound Refuses had has (option_map since_seen since) r sound (are-free A looks known givens t since looked)
+    let (logs, read, (safe, seen)) = are-free A looks known givens t since looked in
+    let telling : Option Since → List ℕ = λ s. report_told w name s t.log t.sel in
+    planned looks known givens w (plan_taken looks w name t) Sound Refuses had has logs (telling (option_map since_seen since)) t.log t.sel r sound read safe refl refl (λ long. long) (λ told told_is. told_is ∙ ap telling seen)
     (subst (λ (s : Selection). WritesIndex w name (option_map since_seen since) t.log s had has r) chosen
     (subst (λ (b : List ℕ). WritesIndex w name (option_map since_seen since) b sel had has r) same is))
 
 -- what came later can't be looked at, or touches it
 pub not-free : {A R : Type 0} (looks : Bool) (known : R → Option (List ℕ)) (givens : List (GivenLog R)) (w : Writing) (name : Names) (t : Taken) (Sound : Type 0) (Refuses : PartFault A → Type 0) (had has : Option (List ℕ)) (cause : PartFault A)
-    → Sound → Looks looks known givens t (Err cause) → Keeps had has → WritesTaken looks known givens w name t Sound Refuses had has (Err cause)
+    → Sound → Looks looks known givens t (Err cause) → Keeps had has → WritesBy looks known givens w (plan_taken looks w name t) Sound Refuses had has (Err cause)
 not-free false known givens w name t Sound Refuses had has cause sound none keeps = absurd none
 not-free true known givens w name t Sound Refuses had has (ChangedSince rows lines) sound (logs, read, changed) keeps = ((sound, (logs, read, (refl, changed))), keeps)
 not-free true known givens w name t Sound Refuses had has (UnknownSince lines) sound (logs, read, unknown) keeps = ((sound, (logs, read, (refl, unknown))), keeps)
@@ -112,6 +122,76 @@ no-write-failed X true known givens t (NoSchema text) is = refl
 no-write-failed X true known givens t NothingSelected is = refl
 no-write-failed X true known givens t TooLong is = refl
 
+-- ---- where rows may be left
+
+-- none are
+pub by-all : {A R : Type 0} (b looks : Bool) (known : R → Option (List ℕ)) (givens : List (GivenLog R)) (w : Writing) (name : Names) (t : Taken) (Sound : Type 0) (Refuses : PartFault A → Type 0) (had has : Option (List ℕ)) (r : Result (Vec ℕ A) (PartFault A))
+    → b ≡ false → WritesBy looks known givens w (plan_taken looks w name t) Sound Refuses had has r → WritesBy looks known givens w (plan_by b looks w name t) Sound Refuses had has r
+by-all b looks known givens w name t Sound Refuses had has r e is = subst (λ (c : Bool). WritesBy looks known givens w (plan_by c looks w name t) Sound Refuses had has r) (sym e) is
+
+-- what is written of units that are sound
+sound-written : {A R : Type 0} (looks : Bool) (known : R → Option (List ℕ)) (givens : List (GivenLog R)) (w : Writing) (p : Plan) (Sound : Type 0) (Refuses : PartFault A → Type 0) (had has : Option (List ℕ)) (r : Result (Vec ℕ A) (PartFault A))
+    → Sound → WritesBy looks known givens w p ⊤ (λ cause. ⊥) had has r → WritesBy looks known givens w p Sound Refuses had has r
+sound-written looks known givens w p Sound Refuses had has (Ok told) sound (done, is) = (sound, is)
+sound-written looks known givens w p Sound Refuses had has (Err (Run run.Write)) sound (done, is) = (sound, is)
+sound-written looks known givens w p Sound Refuses had has (Err (Run run.Read)) sound none = absurd none
+sound-written looks known givens w p Sound Refuses had has (Err (Run (run.Log f))) sound is = is
+sound-written looks known givens w p Sound Refuses had has (Err TooLong) sound (inl (done, is), keeps) = (inl (sound, is), keeps)
+sound-written looks known givens w p Sound Refuses had has (Err TooLong) sound (inr none, keeps) = absurd none
+sound-written looks known givens w p Sound Refuses had has (Err (NoSchema text)) sound ((done, is), keeps) = ((sound, is), keeps)
+sound-written looks known givens w p Sound Refuses had has (Err (LaterLog n f)) sound ((done, asked, is), keeps) = ((sound, asked, is), keeps)
+sound-written looks known givens w p Sound Refuses had has (Err (ChangedSince rows lines)) sound ((done, is), keeps) = ((sound, is), keeps)
+sound-written looks known givens w p Sound Refuses had has (Err (UnknownSince lines)) sound ((done, is), keeps) = ((sound, is), keeps)
+sound-written looks known givens w p Sound Refuses had has (Err (NoEventAt pos)) sound (none, keeps) = absurd none
+sound-written looks known givens w p Sound Refuses had has (Err (NoUnitAt place)) sound (none, keeps) = absurd none
+sound-written looks known givens w p Sound Refuses had has (Err (NoUnitWithGtid gtid)) sound (none, keeps) = absurd none
+sound-written looks known givens w p Sound Refuses had has (Err (Sums f)) sound (none, keeps) = absurd none
+sound-written looks known givens w p Sound Refuses had has (Err (Log f)) sound (none, keeps) = absurd none
+sound-written looks known givens w p Sound Refuses had has (Err NothingSelected) sound (none, keeps) = absurd none
+
+-- rows may be
+pub by-left : {A R : Type 0} (looks leaves : Bool) (known : R → Option (List ℕ)) (givens : List (GivenLog R)) (w : Writing) (name : Names) (t : Taken) (Sound : Type 0) (Refuses : PartFault A → Type 0) (had has : Option (List ℕ)) (r : Result (Vec ℕ A) (PartFault A))
+    → (looks && leaves) ≡ true → Sound → WritesLeft known givens w name t had has r → WritesBy looks known givens w (plan_by (looks && leaves) looks w name t) Sound Refuses had has r
+by-left true true known givens w name t Sound Refuses had has r e sound is = sound-written true known givens w (plan_left w name t) Sound Refuses had has r sound is
+by-left true false known givens w name t Sound Refuses had has r e sound is = absurd (false≢true e)
+by-left false leaves known givens w name t Sound Refuses had has r e sound is = absurd (false≢true e)
+
+-- what came later keeps them back
+pub not-left : {A R : Type 0} (known : R → Option (List ℕ)) (givens : List (GivenLog R)) (w : Writing) (name : Names) (t : Taken) (had has : Option (List ℕ)) (cause : PartFault A) → Leaves {A = A} known givens t (Err cause) → Keeps had has
+    → WritesLeft known givens w name t had has (Err cause)
+not-left known givens w name t had has (ChangedSince rows lines) is keeps = ((tt, is), keeps)
+not-left known givens w name t had has (UnknownSince lines) is keeps = ((tt, is), keeps)
+not-left known givens w name t had has TooLong (logs, read, (safe, long)) keeps = (inl (tt, (logs, read, (safe, inl long))), keeps)
+not-left known givens w name t had has (LaterLog n f) fails keeps = ((tt, refl, fails), keeps)
+not-left known givens w name t had has (Run (run.Log f)) is keeps = (is, keeps)
+not-left known givens w name t had has (Run run.Read) none keeps = absurd none
+not-left known givens w name t had has (Run run.Write) none keeps = absurd none
+not-left known givens w name t had has (Sums f) none keeps = absurd none
+not-left known givens w name t had has (NoEventAt pos) none keeps = absurd none
+not-left known givens w name t had has (NoUnitAt place) none keeps = absurd none
+not-left known givens w name t had has (NoUnitWithGtid gtid) none keeps = absurd none
+not-left known givens w name t had has (Log f) none keeps = absurd none
+not-left known givens w name t had has (NoSchema text) none keeps = absurd none
+not-left known givens w name t had has NothingSelected none keeps = absurd none
+
+pub no-left-failed : {A R : Type 0} (X : Type 0) (known : R → Option (List ℕ)) (givens : List (GivenLog R)) (t : Taken) (cause : PartFault A) → Leaves {A = A} known givens t (Err cause) → is_failed_write {A = A} {X = X} (Err cause) ≡ false
+no-left-failed X known givens t (Run run.Write) none = absurd none
+no-left-failed X known givens t (Run run.Read) is = refl
+no-left-failed X known givens t (Run (run.Log f)) is = refl
+no-left-failed X known givens t (ChangedSince rows lines) is = refl
+no-left-failed X known givens t (UnknownSince lines) is = refl
+no-left-failed X known givens t (LaterLog n f) is = refl
+no-left-failed X known givens t (Sums f) is = refl
+no-left-failed X known givens t (NoEventAt pos) is = refl
+no-left-failed X known givens t (NoUnitAt place) is = refl
+no-left-failed X known givens t (NoUnitWithGtid gtid) is = refl
+no-left-failed X known givens t (Log f) is = refl
+no-left-failed X known givens t (NoSchema text) is = refl
+no-left-failed X known givens t NothingSelected is = refl
+no-left-failed X known givens t TooLong is = refl
+
+-- ---- refusals
+
 -- it isn't selected
 abbrev pub IsRefused : {A : Type 0} → (PartFault A → Type 0) → PartFault A → Type 0
 IsRefused Refuses (Run (run.Log f)) = f ≡ OutOfMemory
@@ -124,22 +204,22 @@ IsRefused Refuses NothingSelected = Refuses NothingSelected
 IsRefused Refuses TooLong = Refuses TooLong
 IsRefused Refuses cause = ⊥
 
-pub not-selected : {A R : Type 0} (looks : Bool) (known : R → Option (List ℕ)) (givens : List (GivenLog R)) (w : Writing) (name : Names) (t : Taken) (Sound : Type 0) (Refuses : PartFault A → Type 0) (had has : Option (List ℕ)) (cause : PartFault A)
-    → IsRefused Refuses cause → Keeps had has → WritesTaken looks known givens w name t Sound Refuses had has (Err cause)
-not-selected looks known givens w name t Sound Refuses had has (Run (run.Log f)) is keeps = (is, keeps)
-not-selected looks known givens w name t Sound Refuses had has (NoEventAt pos) is keeps = (is, keeps)
-not-selected looks known givens w name t Sound Refuses had has (NoUnitAt place) is keeps = (is, keeps)
-not-selected looks known givens w name t Sound Refuses had has (NoUnitWithGtid gtid) is keeps = (is, keeps)
-not-selected looks known givens w name t Sound Refuses had has (Sums f) is keeps = (is, keeps)
-not-selected looks known givens w name t Sound Refuses had has (Log f) is keeps = (is, keeps)
-not-selected looks known givens w name t Sound Refuses had has NothingSelected is keeps = (is, keeps)
-not-selected looks known givens w name t Sound Refuses had has TooLong is keeps = (inr is, keeps)
-not-selected looks known givens w name t Sound Refuses had has (Run run.Read) none keeps = absurd none
-not-selected looks known givens w name t Sound Refuses had has (Run run.Write) none keeps = absurd none
-not-selected looks known givens w name t Sound Refuses had has (LaterLog n f) none keeps = absurd none
-not-selected looks known givens w name t Sound Refuses had has (ChangedSince rows lines) none keeps = absurd none
-not-selected looks known givens w name t Sound Refuses had has (UnknownSince lines) none keeps = absurd none
-not-selected looks known givens w name t Sound Refuses had has (NoSchema text) none keeps = absurd none
+pub not-selected : {A R : Type 0} (looks : Bool) (known : R → Option (List ℕ)) (givens : List (GivenLog R)) (w : Writing) (p : Plan) (Sound : Type 0) (Refuses : PartFault A → Type 0) (had has : Option (List ℕ)) (cause : PartFault A)
+    → IsRefused Refuses cause → Keeps had has → WritesBy looks known givens w p Sound Refuses had has (Err cause)
+not-selected looks known givens w p Sound Refuses had has (Run (run.Log f)) is keeps = (is, keeps)
+not-selected looks known givens w p Sound Refuses had has (NoEventAt pos) is keeps = (is, keeps)
+not-selected looks known givens w p Sound Refuses had has (NoUnitAt place) is keeps = (is, keeps)
+not-selected looks known givens w p Sound Refuses had has (NoUnitWithGtid gtid) is keeps = (is, keeps)
+not-selected looks known givens w p Sound Refuses had has (Sums f) is keeps = (is, keeps)
+not-selected looks known givens w p Sound Refuses had has (Log f) is keeps = (is, keeps)
+not-selected looks known givens w p Sound Refuses had has NothingSelected is keeps = (is, keeps)
+not-selected looks known givens w p Sound Refuses had has TooLong is keeps = (inr is, keeps)
+not-selected looks known givens w p Sound Refuses had has (Run run.Read) none keeps = absurd none
+not-selected looks known givens w p Sound Refuses had has (Run run.Write) none keeps = absurd none
+not-selected looks known givens w p Sound Refuses had has (LaterLog n f) none keeps = absurd none
+not-selected looks known givens w p Sound Refuses had has (ChangedSince rows lines) none keeps = absurd none
+not-selected looks known givens w p Sound Refuses had has (UnknownSince lines) none keeps = absurd none
+not-selected looks known givens w p Sound Refuses had has (NoSchema text) none keeps = absurd none
 
 -- ---- of a part
 
@@ -157,10 +237,10 @@ part-refused part handed end damage (UnknownSince lines) none = absurd none
 part-refused part handed end damage (NoSchema text) none = absurd none
 part-refused part handed end damage TooLong none = absurd none
 
-pub all-refused : {A R : Type 0} (looks : Bool) (known : R → Option (List ℕ)) (givens : List (GivenLog R)) (w : Writing) (name : Names) (t : Taken) (Sound : Type 0) (had has : Option (List ℕ)) (part : Selection) (handed : List ℕ) (end : ℕ) (damage : Option SumFault)
-    (cause : PartFault A) → RefusesAll part handed end damage cause → Keeps had has → WritesTaken looks known givens w name t Sound (RefusesAll part handed end damage) had has (Err cause)
-all-refused looks known givens w name t Sound had has part handed end damage cause is keeps =
-    not-selected looks known givens w name t Sound (RefusesAll part handed end damage) had has cause (part-refused part handed end damage cause is) keeps
+pub all-refused : {A R : Type 0} (looks : Bool) (known : R → Option (List ℕ)) (givens : List (GivenLog R)) (w : Writing) (p : Plan) (Sound : Type 0) (had has : Option (List ℕ)) (part : Selection) (handed : List ℕ) (end : ℕ) (damage : Option SumFault)
+    (cause : PartFault A) → RefusesAll part handed end damage cause → Keeps had has → WritesBy looks known givens w p Sound (RefusesAll part handed end damage) had has (Err cause)
+all-refused looks known givens w p Sound had has part handed end damage cause is keeps =
+    not-selected looks known givens w p Sound (RefusesAll part handed end damage) had has cause (part-refused part handed end damage cause is) keeps
 
 -- ---- of chosen units
 

@@ -1,5 +1,6 @@
 pub mod Several
 pub mod After
+pub mod Leaving
 pub mod Parts
 pub mod Reports
 pub mod Taken

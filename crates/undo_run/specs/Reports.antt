@@ -86,6 +86,13 @@ since_text order None = unlooked_text order
 abbrev pub has_followers : TableCount → Bool
 has_followers c = nat_lt 0 c.updates || nat_lt 0 c.deletes
 
+-- how many rows are left as they are, which were changed since
+abbrev pub left_words : ℕ → List ℕ
+left_words n = if n == 1 then codes " row as it is, which was changed since:\n" else codes " rows as they are, which were changed since:\n"
+
+abbrev pub left_text : ℕ → List ℕ
+left_text n = codes "leaves " ++ (decimal n ++ left_words n)
+
 abbrev pub cascades_text : Order → List TableCount → List ℕ
 cascades_text order counts =
     if list_any (λ c. has_followers (turned order c)) counts then codes "child rows of foreign keys that cascade follow the updated and deleted rows, and are not counted\n" else []

@@ -109,38 +109,61 @@ FailsLater known givens n fault = (given : GivenLog _) × (slice_get givens n �
 abbrev pub OfLater : {R : Type 0} → Bool → (R → Option (List ℕ)) → List (GivenLog R) → (List NamedLog → Type 0) → Type 0
 OfLater looks known givens P = (logs : List NamedLog) × AreLater looks known givens logs × P logs
 
--- it can be written: nothing that came later touches it, where that is asked, and it isn't too long and lacks no schema
-abbrev pub CanBe : Bool → Writing → Taken → List NamedLog → Type 0
-CanBe looks w t logs = IsSafeIf looks t logs × CanBeWritten w.sql w.order w.limit t.log t.sel
+-- ---- how it is written
 
--- what is written of it, and reported, for logs of these names
-abbrev pub text_taken : Writing → Taken → List ℕ
-text_taken w t = text_of w.sql w.order w.limit t.log t.sel
+-- How what is taken is written, by the later logs as they were read: that nothing that came later keeps it back; the log that has it, and the
+-- selection of that; that this is too long; what is told of it; and that nothing is written since so many rows were changed, or may have been.
+pub record Plan : Type 1 where
+  pub safe : List NamedLog → Type 0
+  pub log : List NamedLog → List ℕ
+  pub sel : Selection
+  pub long : List NamedLog → Type 0
+  pub told : List NamedLog → List ℕ → Type 0
+  pub changed : ℕ → List NamedLog → Type 0
+  pub unknown : List NamedLog → Type 0
 
-abbrev pub report_taken : Bool → Writing → Names → Taken → List NamedLog → List ℕ
-report_taken looks w names t logs = report w.order names (length (groups t.log t.sel)) (counts_taken t) (since_told looks t logs)
+-- what is reported of changes of a log, where logs of these names were read
+abbrev pub report_taken : Bool → Writing → Names → Taken → List NamedLog → List ℕ → Selection → List ℕ
+report_taken looks w names t logs log sel = report w.order names (length (groups log sel)) (counts_of (groups log sel)) (since_told looks t logs)
+
+-- all of it, if nothing that came later touches it, where that is asked
+abbrev pub plan_taken : Bool → Writing → Names → Taken → Plan
+plan_taken looks w names t = record {
+  safe = IsSafeIf looks t;
+  log = λ logs. t.log;
+  sel = t.sel;
+  long = λ logs. 4294967295 < end_of_text w.sql w.order w.limit t.log t.sel;
+  told = λ logs told. told ≡ report_taken looks w names t logs t.log t.sel;
+  changed = λ rows logs. (looks ≡ true) × AreChanged (steps_after t logs) rows;
+  unknown = λ logs. (looks ≡ true) × MayBeChanged (steps_after t logs) (tables_taken t) (after t logs);
+}
+
+-- it can be written: nothing keeps it back, and it isn't too long and lacks no schema
+abbrev pub CanBe : Writing → Plan → List NamedLog → Type 0
+CanBe w p logs = p.safe logs × CanBeWritten w.sql w.order w.limit (p.log logs) p.sel
+
+-- what is written of it
+abbrev pub text_planned : Writing → Plan → List NamedLog → List ℕ
+text_planned w p logs = text_of w.sql w.order w.limit (p.log logs) p.sel
 
 -- What comes of writing what is taken out of a log, which is sound, or is refused: all of it is written, and this is the report; or a
 -- beginning, where a write failed; or nothing.
-abbrev pub WritesTaken : {A R : Type 0} → Bool → (R → Option (List ℕ)) → List (GivenLog R) → Writing → Names → Taken → Type 0 → (PartFault A → Type 0) → Option (List ℕ) → Option (List ℕ) → Result (Vec ℕ A) (PartFault A) → Type 0
-WritesTaken looks known givens w names t Sound Refuses had has (Ok told) = Sound × OfLater looks known givens
-    (λ logs. CanBe looks w t logs × Appends had has (text_taken w t) × (told.items ≡ report_taken looks w names t logs))
-WritesTaken looks known givens w names t Sound Refuses had has (Err (Run run.Write)) = Sound × OfLater looks known givens
-    (λ logs. CanBe looks w t logs × AppendsBeginning had has (text_taken w t))
-WritesTaken looks known givens w names t Sound Refuses had has (Err (Run run.Read)) = ⊥
-WritesTaken looks known givens w names t Sound Refuses had has (Err (Run (run.Log f))) = (f ≡ OutOfMemory) × Keeps had has
-WritesTaken looks known givens w names t Sound Refuses had has (Err TooLong) = ((Sound × OfLater looks known givens
-    (λ logs. IsSafeIf looks t logs × (4294967295 < end_of_text w.sql w.order w.limit t.log t.sel))) ⊎ Refuses TooLong) × Keeps had has
-WritesTaken looks known givens w names t Sound Refuses had has (Err (NoSchema text)) = (Sound × OfLater looks known givens
-    (λ logs. IsSafeIf looks t logs × ((n : ℕ) × (lacks w.sql (groups t.log t.sel) ≡ Some n)))) × Keeps had has
-WritesTaken looks known givens w names t Sound Refuses had has (Err (LaterLog n f)) = (Sound × (looks ≡ true) × FailsLater known givens n f) × Keeps had has
-WritesTaken looks known givens w names t Sound Refuses had has (Err (ChangedSince rows lines)) = (Sound × OfLater looks known givens
-    (λ logs. (looks ≡ true) × AreChanged (steps_after t logs) rows)) × Keeps had has
-WritesTaken looks known givens w names t Sound Refuses had has (Err (UnknownSince lines)) = (Sound × OfLater looks known givens
-    (λ logs. (looks ≡ true) × MayBeChanged (steps_after t logs) (tables_taken t) (after t logs))) × Keeps had has
-WritesTaken looks known givens w names t Sound Refuses had has (Err (NoEventAt pos)) = Refuses (NoEventAt pos) × Keeps had has
-WritesTaken looks known givens w names t Sound Refuses had has (Err (NoUnitAt place)) = Refuses (NoUnitAt place) × Keeps had has
-WritesTaken looks known givens w names t Sound Refuses had has (Err (NoUnitWithGtid n)) = Refuses (NoUnitWithGtid n) × Keeps had has
-WritesTaken looks known givens w names t Sound Refuses had has (Err (Sums f)) = Refuses (Sums f) × Keeps had has
-WritesTaken looks known givens w names t Sound Refuses had has (Err (Log f)) = Refuses (Log f) × Keeps had has
-WritesTaken looks known givens w names t Sound Refuses had has (Err NothingSelected) = Refuses NothingSelected × Keeps had has
+abbrev pub WritesBy : {A R : Type 0} → Bool → (R → Option (List ℕ)) → List (GivenLog R) → Writing → Plan → Type 0 → (PartFault A → Type 0) → Option (List ℕ) → Option (List ℕ) → Result (Vec ℕ A) (PartFault A) → Type 0
+WritesBy looks known givens w p Sound Refuses had has (Ok told) = Sound × OfLater looks known givens
+    (λ logs. CanBe w p logs × Appends had has (text_planned w p logs) × p.told logs told.items)
+WritesBy looks known givens w p Sound Refuses had has (Err (Run run.Write)) = Sound × OfLater looks known givens
+    (λ logs. CanBe w p logs × AppendsBeginning had has (text_planned w p logs))
+WritesBy looks known givens w p Sound Refuses had has (Err (Run run.Read)) = ⊥
+WritesBy looks known givens w p Sound Refuses had has (Err (Run (run.Log f))) = (f ≡ OutOfMemory) × Keeps had has
+WritesBy looks known givens w p Sound Refuses had has (Err TooLong) = ((Sound × OfLater looks known givens (λ logs. p.safe logs × p.long logs)) ⊎ Refuses TooLong) × Keeps had has
+WritesBy looks known givens w p Sound Refuses had has (Err (NoSchema text)) = (Sound × OfLater looks known givens
+    (λ logs. p.safe logs × ((n : ℕ) × (lacks w.sql (groups (p.log logs) p.sel) ≡ Some n)))) × Keeps had has
+WritesBy looks known givens w p Sound Refuses had has (Err (LaterLog n f)) = (Sound × (looks ≡ true) × FailsLater known givens n f) × Keeps had has
+WritesBy looks known givens w p Sound Refuses had has (Err (ChangedSince rows lines)) = (Sound × OfLater looks known givens (p.changed rows)) × Keeps had has
+WritesBy looks known givens w p Sound Refuses had has (Err (UnknownSince lines)) = (Sound × OfLater looks known givens p.unknown) × Keeps had has
+WritesBy looks known givens w p Sound Refuses had has (Err (NoEventAt pos)) = Refuses (NoEventAt pos) × Keeps had has
+WritesBy looks known givens w p Sound Refuses had has (Err (NoUnitAt place)) = Refuses (NoUnitAt place) × Keeps had has
+WritesBy looks known givens w p Sound Refuses had has (Err (NoUnitWithGtid n)) = Refuses (NoUnitWithGtid n) × Keeps had has
+WritesBy looks known givens w p Sound Refuses had has (Err (Sums f)) = Refuses (Sums f) × Keeps had has
+WritesBy looks known givens w p Sound Refuses had has (Err (Log f)) = Refuses (Log f) × Keeps had has
+WritesBy looks known givens w p Sound Refuses had has (Err NothingSelected) = Refuses NothingSelected × Keeps had has

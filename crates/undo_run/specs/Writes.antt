@@ -1,5 +1,5 @@
 -- What comes of reading logs, and writing a part of them, or units of that.
-use Rattle.std.specs.Prelude.{◌≡◌, ◌⊎◌, ⊤, ℕ, ◌+◌, Bool, true, false, List, ◌∷◌, ◌++◌, length, Option, Some, None, option_map, Vec, Result, Ok, Err}
+use Rattle.std.specs.Prelude.{◌≡◌, ◌⊎◌, ⊤, ℕ, ◌+◌, Bool, true, false, ◌&&◌, List, ◌∷◌, ◌++◌, length, Option, Some, None, option_map, Vec, Result, Ok, Err}
 use Rattle.std.specs.Option.{option_map_or}
 use Rattle.std.specs.Io.KnownBytes.{Keeps}
 use Rattle.blog_device.specs.Devices.{PassesLimit, ReadsLog, greatest_length}
@@ -15,9 +15,10 @@ use Rattle.blog_sum.specs.declared.fault.SumFault.{SumFault}
 use Rattle.blog_trans.specs.Selection.{Selection}
 use Rattle.list_run.specs.Listed.{AreRead, IsRead, NamedLog}
 use Rattle.list_run.specs.declared.given.GivenLog.{GivenLog}
+use Rattle.undo_run.specs.Leaving.{plan_left}
 use Rattle.undo_run.specs.Parts.{IsSound, Refuses, damage_before, part_taken, reading_of}
 use Rattle.undo_run.specs.Several.{CanJoinAll, Joined, Names, OfLogs, alone, joined_on, located, part_among, reading_to, starts_in_first}
-use Rattle.undo_run.specs.Taken.{CanBe, FailsToOpen, OfLater, Taken, WritesTaken, report_taken}
+use Rattle.undo_run.specs.Taken.{CanBe, FailsToOpen, OfLater, Plan, Taken, WritesBy, plan_taken}
 use Rattle.undo_run.specs.Units.{AreSoundUnits, RefusesUnits, damage_among, units_taken}
 use Rattle.undo_run.specs.declared.fault.FurtherFault.{FurtherFault}
 use Rattle.undo_run.specs.declared.fault.FurtherFault.TheVariants as further
@@ -42,9 +43,21 @@ abbrev pub RefusesIn : {A : Type 0} → Bool → Option UnitRequest → Selectio
 RefusesIn looks None part handed end fault cause = Refuses part handed end (damage_before looks part end fault) cause
 RefusesIn looks (Some r) part handed end fault cause = RefusesUnits r part handed end fault (damage_among looks part end fault) cause
 
+-- how it is written: where that is asked, without rows that were changed since
+abbrev pub plan_by : Bool → Bool → Writing → Names → Taken → Plan
+plan_by true looks w names t = plan_left w names t
+plan_by false looks w names t = plan_taken looks w names t
+
+abbrev pub leaves_rows : Bool → Option UnitRequest → Bool
+leaves_rows looks None = false
+leaves_rows looks (Some r) = looks && r.leaves
+
+abbrev pub plan_in : Bool → Writing → Option UnitRequest → Names → Selection → List ℕ → ℕ → Option SumFault → Plan
+plan_in looks w asked names part handed end fault = plan_by (leaves_rows looks asked) looks w names (taken_in looks asked names part handed end fault)
+
 -- what comes of writing it
 abbrev pub WritesHanded : {A R : Type 0} → Bool → (R → Option (List ℕ)) → List (GivenLog R) → Writing → Names → Selection → Option UnitRequest → List ℕ → ℕ → Option SumFault → Option (List ℕ) → Option (List ℕ) → Result (Vec ℕ A) (PartFault A) → Type 0
-WritesHanded looks known givens w names part asked handed end fault had has result = WritesTaken looks known givens w names (taken_in looks asked names part handed end fault)
+WritesHanded looks known givens w names part asked handed end fault had has result = WritesBy looks known givens w (plan_in looks w asked names part handed end fault)
     (IsSoundIn looks asked part handed end fault) (RefusesIn looks asked part handed end fault) had has result
 
 -- ---- of logs that are read as one
@@ -123,6 +136,6 @@ has_failed_read _ = false
 abbrev pub ReportsPart : {R : Type 0} → Bool → (R → Option (List ℕ)) → List (GivenLog R) → Writing → List ℕ → List (GivenLog R) → Selection → Option UnitRequest → Option (List ℕ) → Option (List ℕ) → List ℕ → Type 0
 ReportsPart looks known later w name more part asked old new told = OfLogs known (reading_of looks asked part).stop name more old new (λ j.
     let inside = part_among j.names part in
-    let t = taken_in looks asked j.names inside j.handed j.end j.fault in
+    let plan = plan_in looks w asked j.names inside j.handed j.end j.fault in
     (starts_in_first j.names.more part.start ≡ true) × IsSoundIn looks asked inside j.handed j.end j.fault
-    × OfLater looks known later (λ logs. CanBe looks w t logs × (told ≡ report_taken looks w j.names t logs)))
+    × OfLater looks known later (λ logs. CanBe w plan logs × plan.told logs told))

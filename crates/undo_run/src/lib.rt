@@ -4,6 +4,7 @@
 mod chosen;
 mod fault;
 mod later;
+mod laws;
 mod lines;
 mod log_names;
 mod missing;
@@ -15,8 +16,10 @@ mod seen;
 mod several;
 mod since;
 mod tables;
+mod untouched;
 mod written_part;
 
 pub use fault::{FurtherFault, LogsFault, OpeningFault, PartFault};
+pub use laws::what_is_written_is_what_is_undone;
 pub use request::UnitRequest;
 pub use written_part::write_part;

@@ -14,16 +14,18 @@ use blog_trans::{EventKind, event_kind};
 use blog_units::UnitFacts;
 use std::alloc::{AllocError, Allocator};
 
-/// Which units of a part are asked for: those that meet each condition that is given.
+/// Which units of a part are asked for: those that meet each condition that is given; and whether all of their rows are.
 #[derive(Clone, Copy, Debug)]
 pub struct UnitRequest<'w> {
     /// Those of the wanted times, threads and ids. What this says of positions and tables isn't looked at.
     pub wanted: Wanted<'w>,
     /// Those that start at one of these positions in the server's log, with its checksums, or have their `BEGIN` there; any if there are none.
     pub at: &'w [u32],
+    /// Whether rows that were changed since are left as they are, if what came later is looked at.
+    pub leaves: bool,
 }
 
-/// The same, by positions in what is handed out of a log.
+/// Which units are asked for, by positions in what is handed out of a log.
 #[derive(Clone, Copy)]
 pub(crate) struct Among<'w, 'a> {
     pub(crate) wanted: Wanted<'w>,

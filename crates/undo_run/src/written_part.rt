@@ -1,20 +1,22 @@
 //! Reading a log, and writing a part of it, or wanted units of that.
 
-ghost use Rattle.std.specs.Prelude.{◌≡◌, ◌||◌, None, OnErr, Some, false, map, option_map, true};
+ghost use Rattle.std.specs.Prelude.{◌≡◌, ◌||◌, ◌++◌, IfOk, None, OnErr, Some, false, map, option_map, true};
 ghost use Rattle.blog_device.specs.Watched.{device_of, has_failed};
 ghost use Rattle.blog_event.specs.Opening.{opening_fault};
 ghost use Rattle.blog_event.specs.code.LogView.{log_bytes};
 ghost use Rattle.blog_later.specs.code.LeavingView.{HasLeft};
+ghost use Rattle.blog_left_out.specs.code.LeftOutView.{bytes_left};
 ghost use Rattle.blog_run.specs.Writing.{HasShortWriting};
 ghost use Rattle.blog_source.specs.code.SourceView.{end_of, fault_of, log_of};
 ghost use Rattle.blog_trans.specs.Selection.{all, selection_of};
 ghost use Rattle.blog_trans.specs.code.IndexView.{index_bytes, index_selection};
 ghost use Rattle.undo_run.specs.Parts.{part_taken, reading_of, selection_in};
 ghost use Rattle.undo_run.specs.Units.{chosen_taken, chosen_units, damage_among, kept_log, units_of_part};
-ghost use Rattle.undo_run.specs.Writes.{IsLocatedIn, WritesHanded, WritesPart, has_failed_read, has_failed_write, is_failed_write};
+ghost use Rattle.undo_run.specs.Writes.{IsLocatedIn, WritesHanded, WritesPart, has_failed_read, has_failed_write, is_failed_write, leaves_rows};
 ghost use Rattle.undo_run.specs.code.NamesView.{names_told};
+ghost use Rattle.undo_run.specs.code.Leaves.{WritesLeft};
 ghost use Rattle.undo_run.specs.code.SinceView.{since_seen};
-ghost use Rattle.undo_run.specs.code.Steps.{LacksUnits, Looks, WritesIndex, chosen_by, chosen_changes};
+ghost use Rattle.undo_run.specs.code.Steps.{LacksUnits, Looks, WritesGroups, WritesIndex, chosen_by, chosen_changes, report_told};
 
 use crate::chosen::{Chosen, choose, index_of_chosen};
 use crate::fault::{LogsFault, PartFault};
@@ -26,6 +28,7 @@ use crate::reports::report_of;
 use crate::request::{Among, UnitRequest, positions_of};
 use crate::several::{Logs, open_logs};
 use crate::since::Since;
+use crate::untouched::{Rest, Seen, look_and_leave};
 use advice::no_schema;
 use blog_device::{RunFault, Watched};
 use blog_event::{Fault, Log};
@@ -34,6 +37,7 @@ use blog_request::Wanted;
 use blog_run::{Writing, WritingFault, write_groups};
 use blog_source::Source;
 use blog_sum::SumFault;
+use blog_text::put_text;
 use blog_trans::{Index, Selection};
 use jiff::tz::TimeZone;
 use list_run::GivenLog;
@@ -60,6 +64,10 @@ use std::io::{Read, Write};
 /// take rows that changes before them left, which are written, and else with `UnknownSince` if the last log or a later one is damaged, for a part
 /// after its stop, or if something there may concern the changed tables, and can't be looked into. Without `looks` no later log is read, and
 /// of the last log what is at the stop or after it only if units are asked for.
+///
+/// If `asked` leaves rows that were changed since, those changes of the units are written that nothing takes the row of which they left, but others
+/// of these; the report says how many rows are left, and where they were changed. It fails with `ChangedSince` then only if no change is left to
+/// write, and first with `UnknownSince`.
 ///
 /// Fails at the first of these that holds: with `Opening` if the reader fails, the first log is too long or can't be opened, or if memory is
 /// refused; with `Further` of the first further log that can't be opened, or read behind those before it; and else with `Part`: with `NoEventAt` if no
@@ -308,6 +316,13 @@ fn look_among_if<'n, A: Allocator + Copy, L: Read + Drop>(
     }
 }
 
+/// Whether rows that were changed since are left as they are.
+fn leaves_rows(looks: bool, asked: &UnitRequest<'_>) -> bool
+    ensures { result ≡ leaves_rows looks (Some asked.now) }
+{
+    looks && asked.leaves
+}
+
 /// Writes those units of a part of the log of a source that are asked for.
 fn write_units<'n, A: Allocator + Copy, L: Read + Drop, W: Write>(
     alloc: A,
@@ -369,6 +384,13 @@ fn write_units<'n, A: Allocator + Copy, L: Read + Drop, W: Write>(
         Ok(index) => index,
         Err(fault) => return Err(fault),
     };
+    let leaves = leaves_rows(looks, asked);
+    if leaves {
+        return write_untouched(
+            alloc, source, logs, &log, &inside, &among, &marks, &index, leaving, later, seed, zone,
+            writing, writer,
+        );
+    }
     let since = match look_among_if(
         alloc, source, logs, &log, &inside, &among, &marks, &index, leaving, looks, later, seed,
         zone,
@@ -377,6 +399,93 @@ fn write_units<'n, A: Allocator + Copy, L: Read + Drop, W: Write>(
         Err(fault) => return Err(fault),
     };
     write_index(alloc, logs, &index, &since, writing, writer)
+}
+
+/// Writes those changes of chosen units that nothing touched since.
+fn write_untouched<'n, A: Allocator + Copy, L: Read + Drop, W: Write>(
+    alloc: A,
+    source: &Source<A>,
+    logs: &Names<'n, A>,
+    log: &Log<'_>,
+    inside: &Selection<'_>,
+    among: &Among<'_, '_>,
+    chosen: &[bool],
+    index: &Index<'_, '_, A>,
+    leaving: Leaving<A>,
+    later: Vec<GivenLog<'n, L>, A>,
+    seed: u64,
+    zone: TimeZone<'_>,
+    writing: &Writing<'_>,
+    writer: &mut Watched<W>,
+) -> Result<Vec<u8, A>, PartFault<A>>
+    requires short { HasShortWriting writing.now }
+    requires bytes { log_bytes log.now ≡ log_of source.now }
+    requires kept { index_bytes index.now ≡ kept_log (selection_of inside.now) (log_of source.now) (chosen_units (chosen_by among.now (selection_of inside.now) (log_of source.now)) (selection_of inside.now) (log_of source.now)) }
+    requires selection { index_selection index.now ≡ all }
+    requires chosen { chosen.now ≡ map (chosen_by among.now (selection_of inside.now) (log_of source.now)) (units_of_part (selection_of inside.now) (log_of source.now)) }
+    requires left { HasLeft (chosen_changes (selection_of inside.now) (log_of source.now) (chosen_units (chosen_by among.now (selection_of inside.now) (log_of source.now)) (selection_of inside.now) (log_of source.now))) leaving }
+    ensures writes { WritesLeft L.remaining later.entry.items writing.now (names_told logs.now) (chosen_taken (names_told logs.now) (chosen_by among.now (selection_of inside.now) (log_of source.now)) (selection_of inside.now) (log_of source.now) (end_of source.now) (fault_of source.now))
+        (W.contents (device_of writer.old)) (W.contents (device_of writer.new)) result }
+    ensures untouched { OnErr result (has_failed writer.new ≡ false → writer.new ≡ writer.old) }
+    ensures mark { has_failed writer.new ≡ (has_failed writer.old || is_failed_write result) }
+{
+    let seen = match look_and_leave(
+        alloc, source, logs, log, inside, among, chosen, index, leaving, later, seed, zone,
+    ) {
+        Ok(seen) => seen,
+        Err(fault) => return Err(fault),
+    };
+    let Seen { since, rest } = seen;
+    let since = Some(since);
+    match &rest {
+        None => write_index(alloc, logs, index, &since, writing, writer),
+        Some(rest) => write_rest(alloc, logs, rest, seed, &since, writing, writer),
+    }
+}
+
+/// Writes what is left of chosen units, and returns the report of that, with the rows that are left as they are.
+fn write_rest<'n, A: Allocator + Copy, W: Write>(
+    alloc: A,
+    logs: &Names<'n, A>,
+    rest: &Rest<A>,
+    seed: u64,
+    since: &Option<Since<'n, A>>,
+    writing: &Writing<'_>,
+    writer: &mut Watched<W>,
+) -> Result<Vec<u8, A>, PartFault<A>>
+    requires { HasShortWriting writing.now }
+    ensures writes { WritesGroups writing.now (report_told writing.now (names_told logs.now) (option_map since_seen since.now) (bytes_left rest.now.log) all ++ rest.now.told.items)
+        (bytes_left rest.now.log) all (W.contents (device_of writer.old)) (W.contents (device_of writer.new)) result }
+    ensures untouched { OnErr result (has_failed writer.new ≡ false → writer.new ≡ writer.old) }
+    ensures mark { has_failed writer.new ≡ (has_failed writer.old || is_failed_write result) }
+{
+    // without the rows that are left out the log is accepted, so only memory can be refused
+    let Ok(index) = rest.log.index(alloc, seed) else {
+        return Err(PartFault::Run(RunFault::Log(Fault::OutOfMemory)));
+    };
+    let told = report_with(alloc, logs, writing, &index, since, &rest.told)?;
+    write_told(alloc, &index, told, writing, writer)
+}
+
+/// The report of the groups of an index, and of what was seen of what came later, and what is told of rows that are left as they are.
+fn report_with<'n, A: Allocator + Copy>(
+    alloc: A,
+    logs: &Names<'n, A>,
+    writing: &Writing<'_>,
+    index: &Index<'_, '_, A>,
+    since: &Option<Since<'n, A>>,
+    left: &[u8],
+) -> Result<Vec<u8, A>, AllocError>
+    ensures { IfOk result (λ told. told.items ≡ report_told writing.now (names_told logs.now) (option_map since_seen since.now) (index_bytes index.now) (index_selection index.now) ++ left.now) }
+{
+    let mut told = match report_of(alloc, logs, writing.order, index, since) {
+        Ok(told) => told,
+        Err(fault) => return Err(fault),
+    };
+    match put_text(&mut told, left) {
+        Ok(()) => Ok(told),
+        Err(fault) => Err(fault),
+    }
 }
 
 /// Writes the groups of an index, and returns the report of them and of what was seen of what came later.
@@ -394,6 +503,22 @@ fn write_index<'n, A: Allocator + Copy, W: Write>(
     ensures mark { has_failed writer.new ≡ (has_failed writer.old || is_failed_write result) }
 {
     let told = report_of(alloc, logs, writing.order, index, since)?;
+    write_told(alloc, index, told, writing, writer)
+}
+
+/// Writes the groups of an index, and returns what is told of them.
+fn write_told<A: Allocator + Copy, W: Write>(
+    alloc: A,
+    index: &Index<'_, '_, A>,
+    told: Vec<u8, A>,
+    writing: &Writing<'_>,
+    writer: &mut Watched<W>,
+) -> Result<Vec<u8, A>, PartFault<A>>
+    requires { HasShortWriting writing.now }
+    ensures writes { WritesGroups writing.now told.items (index_bytes index.now) (index_selection index.now) (W.contents (device_of writer.old)) (W.contents (device_of writer.new)) result }
+    ensures untouched { OnErr result (has_failed writer.new ≡ false → writer.new ≡ writer.old) }
+    ensures mark { has_failed writer.new ≡ (has_failed writer.old || is_failed_write result) }
+{
     match write_groups(alloc, writer, index, writing) {
         Ok(()) => Ok(told),
         Err(WritingFault::Log(fault)) => Err(PartFault::Run(RunFault::Log(fault))),

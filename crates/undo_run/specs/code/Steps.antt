@@ -71,19 +71,19 @@ is_failed_opening _ = false
 
 -- ---- looking at what came later
 
--- this was seen of one more log, which was read; or it isn't opened, or memory was refused
-abbrev pub LooksInto : {A R : Type 0} → (R → Option (List ℕ)) → ℕ → GivenLog R → Left → Choice → ℕ → List Later → Result (told.Since A) (PartFault A) → Type 0
-LooksInto known n given kept choice m ls (Ok since) = (log : NamedLog) × IsRead known given log × AreSeen (m + touches kept (whole_log log ∷ [])) choice (ls ++ whole_log log ∷ []) since
-LooksInto known n given kept choice m ls (Err (LaterLog k f)) = (k ≡ n) × FailsToOpen known given f
-LooksInto known n given kept choice m ls (Err (Run (run.Log f))) = f ≡ OutOfMemory
-LooksInto known n given kept choice m ls (Err cause) = ⊥
+-- This was seen of one more log, which was read, and something else holds of it; or it isn't opened, or memory was refused.
+abbrev pub LooksInto : {A R : Type 0} → (R → Option (List ℕ)) → ℕ → GivenLog R → Left → Choice → ℕ → List Later → (List Later → Type 0) → Result (told.Since A) (PartFault A) → Type 0
+LooksInto known n given kept choice m ls Also (Ok since) = (log : NamedLog) × IsRead known given log × AreSeen (m + touches kept (whole_log log ∷ [])) choice (ls ++ whole_log log ∷ []) since × Also (whole_log log ∷ [])
+LooksInto known n given kept choice m ls Also (Err (LaterLog k f)) = (k ≡ n) × FailsToOpen known given f
+LooksInto known n given kept choice m ls Also (Err (Run (run.Log f))) = f ≡ OutOfMemory
+LooksInto known n given kept choice m ls Also (Err cause) = ⊥
 
 -- of several
-abbrev pub LooksOn : {A R : Type 0} → (R → Option (List ℕ)) → List (GivenLog R) → Left → Choice → ℕ → List Later → Result (told.Since A) (PartFault A) → Type 0
-LooksOn known givens kept choice m ls (Ok since) = (logs : List NamedLog) × AreRead known givens logs × AreSeen (m + touches kept (map whole_log logs)) choice (ls ++ map whole_log logs) since
-LooksOn known givens kept choice m ls (Err (LaterLog n f)) = FailsLater known givens n f
-LooksOn known givens kept choice m ls (Err (Run (run.Log f))) = f ≡ OutOfMemory
-LooksOn known givens kept choice m ls (Err cause) = ⊥
+abbrev pub LooksOn : {A R : Type 0} → (R → Option (List ℕ)) → List (GivenLog R) → Left → Choice → ℕ → List Later → (List Later → Type 0) → Result (told.Since A) (PartFault A) → Type 0
+LooksOn known givens kept choice m ls Also (Ok since) = (logs : List NamedLog) × AreRead known givens logs × AreSeen (m + touches kept (map whole_log logs)) choice (ls ++ map whole_log logs) since × Also (map whole_log logs)
+LooksOn known givens kept choice m ls Also (Err (LaterLog n f)) = FailsLater known givens n f
+LooksOn known givens kept choice m ls Also (Err (Run (run.Log f))) = f ≡ OutOfMemory
+LooksOn known givens kept choice m ls Also (Err cause) = ⊥
 
 -- what was seen touches nothing; or it does, or may
 abbrev pub Judges : {A : Type 0} → ℕ → Choice → List Later → Result (told.Since A) (PartFault A) → Type 0
@@ -186,12 +186,18 @@ Indexes p sel handed end (Err cause) = RefusesChosen p sel handed end None cause
 
 -- ---- writing it
 
--- groups of a log are written, and this is reported of them; or a beginning; or nothing
+-- groups of a log are written, and this is told; or a beginning; or nothing
+abbrev pub WritesGroups : {A : Type 0} → Writing → List ℕ → List ℕ → Selection → Option (List ℕ) → Option (List ℕ) → Result (Vec ℕ A) (PartFault A) → Type 0
+WritesGroups w telling log sel had has (Ok told) = CanBeWritten w.sql w.order w.limit log sel × Appends had has (text_of w.sql w.order w.limit log sel) × (told.items ≡ telling)
+WritesGroups w telling log sel had has (Err (Run run.Write)) = CanBeWritten w.sql w.order w.limit log sel × AppendsBeginning had has (text_of w.sql w.order w.limit log sel)
+WritesGroups w telling log sel had has (Err (Run (run.Log f))) = (f ≡ OutOfMemory) × Keeps had has
+WritesGroups w telling log sel had has (Err TooLong) = (4294967295 < end_of_text w.sql w.order w.limit log sel) × Keeps had has
+WritesGroups w telling log sel had has (Err (NoSchema text)) = ((n : ℕ) × (lacks w.sql (groups log sel) ≡ Some n)) × Keeps had has
+WritesGroups w telling log sel had has (Err cause) = ⊥
+
+-- the report is told
+abbrev pub report_told : Writing → Names → Option Since → List ℕ → Selection → List ℕ
+report_told w names since log sel = report w.order names (length (groups log sel)) (counts_of (groups log sel)) since
+
 abbrev pub WritesIndex : {A : Type 0} → Writing → Names → Option Since → List ℕ → Selection → Option (List ℕ) → Option (List ℕ) → Result (Vec ℕ A) (PartFault A) → Type 0
-WritesIndex w names since log sel had has (Ok told) = CanBeWritten w.sql w.order w.limit log sel × Appends had has (text_of w.sql w.order w.limit log sel)
-    × (told.items ≡ report w.order names (length (groups log sel)) (counts_of (groups log sel)) since)
-WritesIndex w names since log sel had has (Err (Run run.Write)) = CanBeWritten w.sql w.order w.limit log sel × AppendsBeginning had has (text_of w.sql w.order w.limit log sel)
-WritesIndex w names since log sel had has (Err (Run (run.Log f))) = (f ≡ OutOfMemory) × Keeps had has
-WritesIndex w names since log sel had has (Err TooLong) = (4294967295 < end_of_text w.sql w.order w.limit log sel) × Keeps had has
-WritesIndex w names since log sel had has (Err (NoSchema text)) = ((n : ℕ) × (lacks w.sql (groups log sel) ≡ Some n)) × Keeps had has
-WritesIndex w names since log sel had has (Err cause) = ⊥
+WritesIndex w names since log sel had has result = WritesGroups w (report_told w names since log sel) log sel had has result

@@ -4,6 +4,7 @@ use Rattle.blog_source.specs.code.SourceView.{end_of, fault_of, log_of}
 use Rattle.blog_trans.specs.Selection.{selection_of}
 use Rattle.blog_trans.specs.code.IndexView.{index_bytes, index_selection}
 use Rattle.undo_run.specs.Parts.{IsSound, Refuses, damage_before, part_taken}
+use Rattle.undo_run.specs.Taken.{plan_taken}
 use Rattle.undo_run.specs.code.NamesView.{names_told}
 use Rattle.undo_run.proofs.Stages.{all-refused, not-free, taken-written}
 use Rattle.undo_run.proofs.written_part.write_all.Goals as goal
@@ -15,7 +16,7 @@ returns-in-Err-clause-writes g c =
     let end = end_of c.args.source.now in
     let fault = fault_of c.args.source.now in
     let damage = damage_before c.args.looks part end fault in
-    all-refused c.args.looks g.L.Read.remaining c.args.later.items c.args.writing.now (names_told c.args.logs.now) (part_taken (names_told c.args.logs.now) part handed end fault) (IsSound part handed end damage) _ _ part handed end damage c.in-Err.fault
+    all-refused c.args.looks g.L.Read.remaining c.args.later.items c.args.writing.now (plan_taken c.args.looks c.args.writing.now (names_told c.args.logs.now) (part_taken (names_told c.args.logs.now) part handed end fault)) (IsSound part handed end damage) _ _ part handed end damage c.in-Err.fault
     c.in-Err.ensures.refused (Keeps-refl (g.W.Write.contents (device_of c.args.writer.now)))
 
 pub returns-in-Err-look_if-clause-writes : goal.returns-in-Err-look_if-clause-writes

@@ -1,0 +1,28 @@
+use Rattle.std.proofs.Common.{◌≡◌, ◌∙◌, sym, arith}
+use Rattle.blog_source.specs.code.SourceView.{end_of, fault_of, log_of}
+use Rattle.blog_trans.specs.Selection.{selection_of}
+use Rattle.undo_run.specs.Units.{chosen_taken}
+use Rattle.undo_run.specs.code.NamesView.{names_told}
+use Rattle.undo_run.specs.code.Steps.{chosen_by}
+use Rattle.undo_run.proofs.Leaving.{all-left, none-kept}
+use Rattle.undo_run.proofs.untouched.look_and_leave.Goals as goal
+
+pub returns-in-Ok-rest_of : goal.returns-in-Ok-rest_of
+returns-in-Ok-rest_of g c =
+    let source = c.args.source.now in
+    let sel = selection_of c.args.inside.now in
+    let p = chosen_by c.args.among.now sel (log_of source) in
+    let t = chosen_taken (names_told c.args.logs.now) p sel (log_of source) (end_of source) (fault_of source) in
+    let known = c.if-since-gt0.false in
+    all-left g.L.Read.remaining c.args.later.items t c.in-Ok.recorded c.in-Ok-rest_of.rest (omega (arith, known)) c.if-since.false c.in-Ok.ensures
+    (λ logs are. c.in-Ok-rest_of.ensures t logs c.requires.kept c.requires.selection are.changes)
+
+pub returns : goal.returns
+returns g c =
+    let source = c.args.source.now in
+    let sel = selection_of c.args.inside.now in
+    let p = chosen_by c.args.among.now sel (log_of source) in
+    let t = chosen_taken (names_told c.args.logs.now) p sel (log_of source) (end_of source) (fault_of source) in
+    let known = c.if-since-gt0.false in
+    none-kept g.L.Read.remaining c.args.later.items t c.in-Ok.recorded c.in-Err-rest_of.fault (omega (arith, known)) c.if-since.false c.in-Ok.ensures
+    (λ logs are. c.in-Err-rest_of.ensures t logs c.requires.kept c.requires.selection are.changes)

@@ -1,0 +1,21 @@
+use Rattle.std.proofs.Common.{◌≡◌, ℕ, List, ◌++◌, ap, sym, ◌∙◌}
+use Rattle.std.specs.Prelude.{option_map}
+use Rattle.blog_trans.specs.Changes.{counts_of}
+use Rattle.blog_trans.specs.Groups.{groups}
+use Rattle.blog_trans.specs.code.IndexView.{index_bytes, index_selection}
+use Rattle.undo_run.specs.Reports.{report}
+use Rattle.undo_run.specs.code.NamesView.{names_told}
+use Rattle.undo_run.specs.code.SinceView.{since_seen}
+use Rattle.undo_run.specs.code.Steps.{report_told}
+use Rattle.undo_run.proofs.Stages.{how-many}
+use Rattle.undo_run.proofs.written_part.report_with.Goals as goal
+
+pub returns-in-Ok-put_text : goal.returns-in-Ok-put_text
+returns-in-Ok-put_text g c =
+    let w = c.args.writing.now in
+    let names = names_told c.args.logs.now in
+    let since = option_map since_seen c.args.since.now in
+    let bytes = index_bytes c.args.index.now in
+    let sel = index_selection c.args.index.now in
+    let counted : c.in-Ok.told.items ≡ report_told w names since bytes sel = c.in-Ok.ensures ∙ ap (λ (n : ℕ). report w.order names n (counts_of (groups bytes sel)) since) (sym (how-many bytes sel)) in
+    c.in-Ok-put_text.ensures ∙ ap (λ (text : List ℕ). text ++ c.args.left.now) counted
