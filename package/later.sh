@@ -60,11 +60,68 @@ binlog.000042 9358 2026-11-26 04:20:00 `shop`.`customers`: update
 binlog.000042 9707 2026-11-26 04:21:00 `shop`.`customers`: update
 binlog.000042 10056 2026-11-26 04:22:00 `shop`.`customers`: update
 binlog.000042 10396 2026-11-26 04:30:00 `shop`.`customers`: delete
-binlog: ChangedSince: 13 rows that would be undone were changed since: undo these later changes first, or give --anyway to overwrite them
+binlog: ChangedSince: 13 rows that would be undone were changed since: undo these later changes first; --leave undoes the other rows alone, and --anyway overwrites these
 END
 undoes 1 altered_since.binlog 499 1957 61 << 'END'
 binlog.000042 1957: may change these tables, and can't be looked into
 binlog: UnknownSince: what came later may have changed these tables: give --anyway if it left these rows as they were
+END
+
+# undoes_rest LOG THREAD START STOP: what is printed where rows that were changed since are left as they are, whether the transaction is chosen by its thread
+# or by its positions
+undoes_rest() {
+    cp "$logs/$1" binlog.000042
+    cat > wanted
+    rm -f undo.sql
+    "$binlog" undo --utc --keep-times --leave --thread "$2" binlog.000042 -r undo.sql > printed 2>&1
+    diff -u wanted printed >&2
+    "$binlog" undo --utc --keep-times --leave -j "$3" --stop-position "$4" binlog.000042 2> printed | cmp - undo.sql
+    diff -u wanted printed >&2
+}
+
+undoes_rest updated_since.binlog 47 543 5991 << 'END'
+undoes 1 transaction of binlog.000042: `shop`.`customers` updates 87
+looked at 15 later transactions, up to 11159 of binlog.000042: none changes these rows
+binlog.000042 goes on in binlog.000007: give that as the next --later
+child rows of foreign keys that cascade follow the updated and deleted rows, and are not counted
+leaves 13 rows as they are, which were changed since:
+binlog.000042 6221 2026-11-26 04:11:00 `shop`.`customers`: update
+binlog.000042 6568 2026-11-26 04:12:00 `shop`.`customers`: update
+binlog.000042 6915 2026-11-26 04:13:00 `shop`.`customers`: update
+binlog.000042 7264 2026-11-26 04:14:00 `shop`.`customers`: update
+binlog.000042 7613 2026-11-26 04:15:00 `shop`.`customers`: update
+binlog.000042 7962 2026-11-26 04:16:00 `shop`.`customers`: update
+binlog.000042 8311 2026-11-26 04:17:00 `shop`.`customers`: update
+binlog.000042 8660 2026-11-26 04:18:00 `shop`.`customers`: update
+binlog.000042 9009 2026-11-26 04:19:00 `shop`.`customers`: update
+binlog.000042 9358 2026-11-26 04:20:00 `shop`.`customers`: update
+binlog.000042 9707 2026-11-26 04:21:00 `shop`.`customers`: update
+binlog.000042 10056 2026-11-26 04:22:00 `shop`.`customers`: update
+binlog.000042 10396 2026-11-26 04:30:00 `shop`.`customers`: delete
+END
+undoes_rest updated_and_changed.binlog 118 198 5646 << 'END'
+undoes 1 transaction of binlog.000042: `shop`.`customers` updates 82
+looked at 18 later transactions, up to 11842 of binlog.000042: none changes these rows
+binlog.000042 goes on in binlog.000015: give that as the next --later
+child rows of foreign keys that cascade follow the updated and deleted rows, and are not counted
+leaves 18 rows as they are, which were changed since:
+binlog.000042 5876 2026-11-26 04:12:00 `shop`.`customers`: update
+binlog.000042 6218 2026-11-26 04:13:00 `shop`.`customers`: update
+binlog.000042 6560 2026-11-26 04:14:00 `shop`.`customers`: update
+binlog.000042 6902 2026-11-26 04:15:00 `shop`.`customers`: update
+binlog.000042 7244 2026-11-26 04:16:00 `shop`.`customers`: update
+binlog.000042 7586 2026-11-26 04:17:00 `shop`.`customers`: update
+binlog.000042 7928 2026-11-26 04:18:00 `shop`.`customers`: update
+binlog.000042 8270 2026-11-26 04:19:00 `shop`.`customers`: update
+binlog.000042 8612 2026-11-26 04:20:00 `shop`.`customers`: update
+binlog.000042 8954 2026-11-26 04:21:00 `shop`.`customers`: update
+binlog.000042 9298 2026-11-26 04:22:00 `shop`.`customers`: update
+binlog.000042 9642 2026-11-26 04:23:00 `shop`.`customers`: update
+binlog.000042 9986 2026-11-26 04:30:00 `shop`.`customers`: update
+binlog.000042 10335 2026-11-26 04:30:00 `shop`.`customers`: update
+binlog.000042 10684 2026-11-26 04:30:00 `shop`.`customers`: update
+binlog.000042 11024 2026-11-26 04:31:00 `shop`.`customers`: delete
+binlog.000042 11372 2026-11-26 04:32:00 `shop`.`customers`: update
 END
 
 # the deletes of one session in two logs, among the changes of others
@@ -76,4 +133,4 @@ END
 "$binlog" undo --keep-times --thread 75 binlog.000042 binlog.000043 --dry-run > printed
 head -n 1 printed | diff -u wanted - >&2
 grep -q '^looked at [0-9]* later transactions, up to 9332 of binlog.000043: none changes these rows$' printed
-echo "package/later.sh: what came later is found in each log"
+echo "package/later.sh: what came later is found in each log, and rows that were changed since are left as they are"

@@ -13,7 +13,7 @@ fi
 work=$(mktemp -d)
 trap 'rm -rf "$work"' EXIT
 cp "$2" "$work/$program"
-cp examples/mysql/multi_table.binlog examples/mysql/crc32_closed.binlog "$work"
+cp examples/mysql/multi_table.binlog examples/mysql/crc32_closed.binlog examples/later/updated_since.binlog "$work"
 "${CC:-cc}" -O -shared -fPIC -o "$work/refuse.so" package/refuse.c
 cd "$work"
 total=0
@@ -86,6 +86,7 @@ of_binlog() {
     refuse_each 0 undo --anyway --keep-times -j 811 --stop-position 1215 -d shop -T orders -r result --force crc32_closed.binlog
     refuse_each 0 undo --dry-run -j 811 --stop-position 1215 crc32_closed.binlog
     refuse_each 1 undo -j 198 --stop-position 512 crc32_closed.binlog
+    refuse_each 0 undo --leave --utc --keep-times -j 543 --stop-position 5991 -r result updated_since.binlog
     refuse_each 0 redo --binlog -j 811 --stop-position 1215 crc32_closed.binlog
     refuse_each 1 undo --anyway -T none crc32_closed.binlog
     refuse_each 0 split --size 1024 multi_table.binlog

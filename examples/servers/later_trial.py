@@ -80,6 +80,43 @@ def changes_of_these(schema):
     return [f"UPDATE {customers} SET name = 'renamed' WHERE id IN (5, 6)", f"UPDATE {customers} SET name = 'renamed' WHERE id = 7"]
 
 
+def left_as_they_are(schema):
+    """What an undo of `forgotten_where` that leaves rows which were changed since doesn't undo, with these changes."""
+    return [f"UPDATE {name_of(schema, 'customers')} SET city = 'Ghent', name = 'renamed' WHERE id IN (5, 6, 7)"]
+
+
+def mistake_twice(schema):
+    """A mistake in two transactions, of which the second changes rows of the first once more: 90 to 109 twice."""
+    customers = name_of(schema, "customers")
+    return [f"UPDATE {customers} SET city = 'Ghent' WHERE id <= 109", f"UPDATE {customers} SET name = 'nobody' WHERE id >= 90"]
+
+
+def changes_around(schema):
+    """What others do since: they change rows that the first transaction left, that the second did, and that both changed; they delete two, and
+    insert one of them again as it was before; and they change a row back that they had changed."""
+    customers = name_of(schema, "customers")
+    return [f"UPDATE {customers} SET name = 'renamed' WHERE id IN (1, 100, 150)", f"DELETE FROM {customers} WHERE id IN (20, 105)",
+            f"INSERT INTO {customers} VALUES (20, 'name 20', 'city 2')",
+            f"UPDATE {customers} SET name = 'for a while' WHERE id = 30", f"UPDATE {customers} SET name = 'name 30' WHERE id = 30"]
+
+
+def left_of_both(schema):
+    """What is left of these by an undo that leaves rows which were changed since. Row 30 is as the first transaction left it, but not by it."""
+    customers = name_of(schema, "customers")
+    return [f"UPDATE {customers} SET city = 'Ghent' WHERE id IN (1, 30, 100)", f"UPDATE {customers} SET name = 'renamed' WHERE id IN (1, 100, 150)",
+            f"DELETE FROM {customers} WHERE id = 105"]
+
+
+def many(schema, rows):
+    """A table with so many rows."""
+    numbers, table = ("SELECT a.d * 1000 + b.d * 100 + c.d * 10 + d.d + 1 AS n FROM thousands a, digits b, digits c, digits d "
+                      f"WHERE a.d * 1000 < {rows}"), name_of(schema, "many")
+    digits = " UNION ALL ".join(f"SELECT {n} AS d" for n in range(10))
+    thousands = " UNION ALL ".join(f"SELECT {n} AS d" for n in range(-(-rows // 1000)))
+    return [f"CREATE TABLE {table} (id INT PRIMARY KEY, name VARCHAR(40), city VARCHAR(40))",
+            f"INSERT INTO {table} WITH digits AS ({digits}), thousands AS ({thousands}) SELECT n, CONCAT('name ', n), CONCAT('city ', n % 9) FROM ({numbers}) AS numbers"]
+
+
 def added_column(schema):
     orders = name_of(schema, "orders")
     return [f"ALTER TABLE {orders} ADD COLUMN channel VARCHAR(10) DEFAULT 'web' AFTER customer",
@@ -104,8 +141,12 @@ class Mistake:
         for statements in in_later_logs:
             server.query(joined(statements))
             self.later += ["--later", server.next_log()]
-        first = json.loads(programs.command("list", self.log, "--json").splitlines()[0])
-        self.part = "-j", str(first["start"]), "--stop-position", str(first["stop"])
+        self.units = [json.loads(line) for line in programs.command("list", self.log, "--json").splitlines()]
+        self.part = "-j", str(self.units[0]["start"]), "--stop-position", self.stop_of(1)
+
+    def stop_of(self, units):
+        """The end of the first units of the log."""
+        return str(self.units[units - 1]["stop"])
 
 
 class MistakeInTwo:
@@ -199,6 +240,17 @@ def try_later(server, programs, report, _):
     with report.trial("5: rows were changed in a later log: nothing is written"):
         made = Mistake(server, programs, forgotten_where(SHOP), changes[:3], changes_of_these(SHOP))
         hold_refused(server, programs, made, "ChangedSince: 3 rows ", f"{name_of(SHOP, 'customers')}: update", 2)
+    with report.trial("5: --leave: rows that were changed since are left as they are, and the others are undone"):
+        hold_left(server, programs, Mistake(server, programs, forgotten_where(SHOP), changes[:5] + changes_of_these(SHOP)), 3, changes_left(changes[:5]))
+    with report.trial("5: --leave: the same with changes in two later logs"):
+        made = Mistake(server, programs, forgotten_where(SHOP), changes[:3], changes_of_these(SHOP)[:1], changes[3:5] + changes_of_these(SHOP)[1:])
+        hold_left(server, programs, made, 3, changes_left(changes[:5]))
+    with report.trial("5: --leave: a mistake in two transactions, of which the second changed rows of the first"):
+        made = Mistake(server, programs, mistake_twice(SHOP)[:1], mistake_twice(SHOP)[1:] + changes_around(SHOP))
+        made.part = "--stop-position", made.stop_of(2)
+        hold_left(server, programs, made, 8, left_of_both)
+    with report.trial("5: --leave: 2,000 of 20,000 rows were changed since"):
+        hold_left_of_many(server, programs)
     with report.trial("5: a column was added since: nothing is written"):
         made = Mistake(server, programs, mistake(server, SHOP), added_column(SHOP))
         hold_refused(server, programs, made, "UnknownSince: ", ": may change these tables, and can't be looked into", 1)
@@ -220,6 +272,38 @@ def hold_overwritten(server, programs):
     made = Mistake(server, programs, forgotten_where(SHOP), changes_of_these(SHOP))
     apply_sql(server, undo_sql(programs, made, "--anyway"))
     hold(state(server, names_in(SHOP, *TABLES)) == made.before, "the tables are not as before the mistake")
+
+
+def changes_left(changes):
+    """These changes, and the rows that are left."""
+    return lambda schema: [text.replace(name_of(SHOP), name_of(schema)) for text in changes] + left_as_they_are(schema)
+
+
+def hold_left(server, programs, made, rows, wanted):
+    """An undo leaves so many rows, and afterwards the tables are as by these statements."""
+    hold(programs.refusal("undo", made.log, *made.part, *made.later).splitlines()[-1].startswith("binlog: ChangedSince: "), "nothing was changed since")
+    told = programs.command("undo", made.log, *made.part, *made.later, "--leave", "--dry-run").splitlines()
+    hold(f"leaves {rows} rows as they are, which were changed since:" in told, f"the report is {told}")
+    apply_sql(server, undo_sql(programs, made, "--leave"))
+    server.query(joined([*setup(SPARED), *wanted(SPARED)]))
+    found, wanted_rows = (list(state(server, names_in(schema, *TABLES)).values()) for schema in (SHOP, SPARED))
+    other = [table for table, has, should in zip(TABLES, found, wanted_rows) if has != should]
+    hold(not other, f"these tables differ: {', '.join(other)}")
+
+
+def hold_left_of_many(server, programs):
+    table, spared = name_of(SHOP, "many"), name_of(SPARED, "many")
+    server.query(joined([f"DROP DATABASE IF EXISTS {name_of(SHOP)}", f"CREATE DATABASE {name_of(SHOP)}", *many(SHOP, 20000)]))
+    server.next_log()
+    server.query(f"UPDATE {table} SET city = 'Ghent'")
+    server.query(f"UPDATE {table} SET name = 'renamed' WHERE id % 10 = 3")
+    log = server.next_log()
+    first = json.loads(programs.command("list", log, "--json").splitlines()[0])
+    apply_sql(server, programs.command("undo", log, "--at", str(first["start"]), "--leave"))
+    server.query(joined([f"DROP DATABASE IF EXISTS {name_of(SPARED)}", f"CREATE DATABASE {name_of(SPARED)}", *many(SPARED, 20000),
+                         f"UPDATE {spared} SET name = 'renamed', city = 'Ghent' WHERE id % 10 = 3"]))
+    found, wanted = (list(state(server, [name]).values()) for name in (table, spared))
+    hold(found == wanted, "the tables differ")
 
 
 def hold_refused(server, programs, made, fault, line, lines):
