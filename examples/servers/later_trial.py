@@ -282,7 +282,7 @@ def changes_left(changes):
 def hold_left(server, programs, made, rows, wanted):
     """An undo leaves so many rows, and afterwards the tables are as by these statements."""
     hold(programs.refusal("undo", made.log, *made.part, *made.later).splitlines()[-1].startswith("binlog: ChangedSince: "), "nothing was changed since")
-    told = programs.command("undo", made.log, *made.part, *made.later, "--leave", "--dry-run").splitlines()
+    told = programs.command("undo", made.log, *made.part, *made.later, "--leave", "--dry-run").decode().splitlines()
     hold(f"leaves {rows} rows as they are, which were changed since:" in told, f"the report is {told}")
     apply_sql(server, undo_sql(programs, made, "--leave"))
     server.query(joined([*setup(SPARED), *wanted(SPARED)]))
