@@ -3,7 +3,7 @@
 ghost use Rattle.std.specs.Prelude.{◌≡◌, ◌<◌, ◌≤◌, ◌+◌, ◌∷◌, Some, length, drop, option_map, slice_index, true};
 ghost use Rattle.std.specs.List.{list_all};
 ghost use Rattle.blog_row.specs.Checks.{cut_seen};
-ghost use Rattle.blog_row.specs.Column.{metadata_total, columns_of, storage_of, is_column};
+ghost use Rattle.blog_row.specs.Column.{columns_of, is_column, metadata_total, own_metadata_len, storage_of};
 ghost use Rattle.blog_row.specs.code.LayoutReading.{column_here, are_known, total_of, types_front, metadata_front};
 ghost use Rattle.blog_row.specs.code.StorageView.{storage_seen};
 
@@ -126,6 +126,13 @@ pub struct Layout<'a> {
     pub ghost known: { list_all is_column (columns_of kinds.now metadata.now) ≡ true },
 }
 
+/// How many bytes of metadata a column of a type has; 0 for a type that no column has.
+pub fn metadata_len(kind: u8) -> usize
+    ensures { result ≡ own_metadata_len kind }
+{
+    own_len(kind)
+}
+
 impl Layout<'_> {
     ghost use Rattle.std.specs.Prelude.{ℕ, take, IfSome};
     ghost use Rattle.blog_row.specs.Image.{IsSomeImage, image_len_of, value_of};
@@ -196,6 +203,7 @@ impl Layout<'_> {
 
 impl<'a> Layout<'a> {
     ghost use Rattle.std.specs.Prelude.{IsOk};
+    ghost use Rattle.blog_row.specs.Column.{metadata_of, types_of};
     ghost use Rattle.blog_row.specs.Image.{row_of};
     ghost use Rattle.blog_row.specs.code.ValuesView.{values_left};
     ghost use Rattle.blog_row.specs.code.LayoutReading.{layout_behind};
@@ -253,6 +261,22 @@ impl<'a> Layout<'a> {
             unreachable!();
         };
         Layout::known_at(names.rest)
+    }
+
+    /// The type of each column, in order: a byte each.
+    #[tactic(auto, using(crate::proofs::Layouts::types_of_columns))]
+    pub fn types(&self) -> &'a [u8]
+        ensures { result.now ≡ types_of (layout_columns self.now) }
+    {
+        self.kinds
+    }
+
+    /// The metadata of the columns, one behind the other: of each as many bytes as `metadata_len` says of its type.
+    #[tactic(auto, using(crate::proofs::Layouts::metadata_of_columns))]
+    pub fn metadata(&self) -> &'a [u8]
+        ensures { result.now ≡ metadata_of (layout_columns self.now) }
+    {
+        self.metadata
     }
 
     /// The values of the image with which the bytes begin, in the order of the columns; none where they begin with no

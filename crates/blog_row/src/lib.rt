@@ -33,7 +33,7 @@ pub use laws::{
     images_stand_alone, reading_is_exact, reversed_rows_have_their_images_from_the_last,
     written_rows_are_read,
 };
-pub use layout::Layout;
+pub use layout::{Layout, metadata_len};
 pub use order::Order;
 pub use rows::{RowChange, Rows};
 pub use rows_event::{RowsEvent, RowsHead, written_len};
