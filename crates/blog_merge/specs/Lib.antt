@@ -1,0 +1,4 @@
+pub mod Pairs
+pub mod Merge
+pub mod Laws
+pub mod Columns
