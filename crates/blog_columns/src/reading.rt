@@ -22,6 +22,49 @@ struct Left<'a> {
     texts: u64,
     /// Their collation, where it is that of most of them.
     most: Option<u64>,
+    /// Whether spatial columns count as columns of texts: MariaDB gives them a collation too.
+    with_spatial: bool,
+}
+
+/// The type of a spatial column.
+const GEOMETRY: u8 = 255;
+
+/// How many columns of some types are of texts, and how many are spatial.
+#[derive(Clone, Copy, Debug)]
+struct Counted {
+    texts: usize,
+    spatial: usize,
+}
+
+/// Counts columns by their types and metadata.
+fn count_columns(types: &[u8], metadata: &[u8]) -> Counted {
+    let mut counted = Counted {
+        texts: 0,
+        spatial: 0,
+    };
+    let mut rest = metadata;
+    for kind in types {
+        let (own, others) = split_metadata(*kind, rest);
+        if is_character(real_kind(*kind, own)) {
+            counted.texts = counted.texts.saturating_add(1);
+        }
+        if *kind == GEOMETRY {
+            counted.spatial = counted.spatial.saturating_add(1);
+        }
+        rest = others;
+    }
+    counted
+}
+
+/// Counts the packed integers of a field.
+fn count_numbers(field: &[u8]) -> usize {
+    let mut count = 0usize;
+    let mut rest = field;
+    'numbers: while let Some(number) = packed_at(rest) {
+        count = count.saturating_add(1);
+        rest = number.rest;
+    }
+    count
 }
 
 /// Takes the next text off a field.
@@ -108,10 +151,12 @@ fn is_key(fields: &Fields<'_>, column: u64) -> bool {
 }
 
 impl<'a> Left<'a> {
-    /// What is left in front of the first column.
-    fn all(fields: Fields<'a>) -> Left<'a> {
+    /// What is left in front of the first of some columns. Whether spatial ones have a collation too follows from how many there are; of a
+    /// most common one it isn't known, so that none is known if there are spatial columns.
+    fn all(fields: Fields<'a>, counted: Counted) -> Left<'a> {
         let mut sets = fields.default_sets;
         let most = take_number(&mut sets);
+        let given = count_numbers(fields.sets.unwrap_or(&[]));
         Left {
             fields: Fields {
                 default_sets: sets,
@@ -119,7 +164,8 @@ impl<'a> Left<'a> {
             },
             numbers: 0,
             texts: 0,
-            most,
+            most: if counted.spatial == 0 { most } else { None },
+            with_spatial: given == counted.texts.saturating_add(counted.spatial),
         }
     }
 
@@ -161,6 +207,10 @@ impl<'a> Left<'a> {
 
     /// Takes the character set of the next column, of a real type.
     fn take_set(&mut self, real: u8) -> CharacterSet {
+        if real == GEOMETRY && self.with_spatial {
+            let _collation = self.take_collation();
+            return CharacterSet::Unknown;
+        }
         if !is_character(real) {
             return CharacterSet::Unknown;
         }
@@ -218,11 +268,11 @@ pub fn read_columns<'a, A: Allocator>(
 ) -> Result<Vec<Column<'a>, A>, AllocError>
     ensures types { IfOk result (λ columns. map column_seen columns.items ≡ layout_columns layout.now) }
 {
-    let mut left = Left::all(Fields::of_map(body));
-    let mut columns = Vec::new(alloc);
-    let mut metadata = layout.metadata();
-    let mut number = 0u64;
     let types = layout.types();
+    let mut metadata = layout.metadata();
+    let mut left = Left::all(Fields::of_map(body), count_columns(types, metadata));
+    let mut columns = Vec::new(alloc);
+    let mut number = 0u64;
     for kind in types {
         let (own, others) = split_metadata(*kind, metadata);
         columns.push(left.take_column(number, *kind, own))?;
