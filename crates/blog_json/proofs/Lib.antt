@@ -1,0 +1,4 @@
+pub mod Added
+pub mod Base64Lines
+pub mod Keeping
+pub mod Valued

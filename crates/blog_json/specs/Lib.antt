@@ -1,0 +1,10 @@
+pub mod Containers
+pub mod Documents
+pub mod Kinds
+pub mod Lengths
+pub mod Opaques
+pub mod Scalars
+pub mod Slices
+pub mod Strings
+pub mod Texts
+pub mod Times

@@ -1,0 +1,5 @@
+mod DatesRead
+mod DecimalBytes
+mod DecimalDigits
+mod Digits
+mod Widths

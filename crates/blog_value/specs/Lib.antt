@@ -1,0 +1,10 @@
+pub mod Bits
+pub mod Dates
+pub mod Decimals
+pub mod Digits
+pub mod Floats
+pub mod Integers
+pub mod Kinds
+pub mod Times
+pub mod Values
+pub mod code
