@@ -1,0 +1,4 @@
+pub mod Appending
+pub mod InTurn
+pub mod NetTexts
+pub mod RowChanges
