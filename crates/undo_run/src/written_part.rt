@@ -65,9 +65,9 @@ use std::io::{Read, Write};
 /// after its stop, or if something there may concern the changed tables, and can't be looked into. Without `looks` no later log is read, and
 /// of the last log what is at the stop or after it only if units are asked for.
 ///
-/// If `asked` leaves rows that were changed since, those changes of the units are written that nothing takes the row of which they left, but others
-/// of these; the report says how many rows are left, and where they were changed. It fails with `ChangedSince` then only if no change is left to
-/// write, and first with `UnknownSince`.
+/// If `asked` leaves rows that were changed since, a change of the units isn't written if a change after it takes the row that it left, unless that
+/// change is written too. The report says how many changes aren't written, and where their rows were changed. It fails with `ChangedSince` then only
+/// if no change is left to write, and first with `UnknownSince`.
 ///
 /// Fails at the first of these that holds: with `Opening` if the reader fails, the first log is too long or can't be opened, or if memory is
 /// refused; with `Further` of the first further log that can't be opened, or read behind those before it; and else with `Part`: with `NoEventAt` if no
