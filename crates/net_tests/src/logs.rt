@@ -1,6 +1,6 @@
 //! Logs of updates, and what is written for these.
 
-use blog_event::{Event, Log};
+use blog_event::{Event, Header, Log};
 use blog_flash::front;
 use blog_net::{NetFault, NetLog, NetUpdate, net_log};
 use blog_row::Order;
@@ -91,7 +91,7 @@ pub fn check_text(
     Ok(())
 }
 
-/// Checks that no log of these updates is written.
+/// Checks that no log is written for a source.
 pub fn check_unfit(rt: &(impl AllocGlobal + Abort), source: &Source<'_>) -> Result<(), Fail> {
     match net_of(rt.alloc(), source) {
         Ok(_) => Err("a log that isn't one of the updates".into()),
@@ -100,4 +100,61 @@ pub fn check_unfit(rt: &(impl AllocGlobal + Abort), source: &Source<'_>) -> Resu
             Ok(())
         }
     }
+}
+
+/// Checks that no log is written for an update in place of those of a source.
+pub fn check_unfit_update(
+    rt: &(impl AllocGlobal + Abort),
+    source: &Source<'_>,
+    update: NetUpdate<'_>,
+) -> Result<(), Fail> {
+    let updates = [update];
+    let Source {
+        front,
+        begin,
+        end,
+        ..
+    } = source;
+    match net_log(rt.alloc(), front, begin, end, &updates, SEED) {
+        Ok(_) => Err("a log that isn't one of the update".into()),
+        Err(fault) => {
+            assert!(rt; fault == NetFault::Unfit);
+            Ok(())
+        }
+    }
+}
+
+/// The first update of a source.
+pub fn first_of<'a>(source: &Source<'a>) -> Result<NetUpdate<'a>, Fail> {
+    let update = source.updates.first().ok_or("no update")?;
+    Ok(*update)
+}
+
+/// An update with these images.
+pub fn with_images<'a>(update: &NetUpdate<'a>, before: &'a [u8], after: &'a [u8]) -> NetUpdate<'a> {
+    NetUpdate {
+        before,
+        after,
+        ..*update
+    }
+}
+
+/// An update with these bytes in front of its images.
+pub fn with_front<'a>(update: &NetUpdate<'a>, front: &'a [u8]) -> NetUpdate<'a> {
+    NetUpdate { front, ..*update }
+}
+
+/// An update with this body of its table map.
+pub fn with_map<'a>(update: &NetUpdate<'a>, body: &'a [u8]) -> NetUpdate<'a> {
+    let map = Event { body, ..update.map };
+    NetUpdate { map, ..*update }
+}
+
+/// An update whose rows event has this type.
+pub fn with_kind<'a>(update: &NetUpdate<'a>, kind: u8) -> NetUpdate<'a> {
+    let rows = Header {
+        kind,
+        ..update.rows
+    };
+    NetUpdate { rows, ..*update }
 }
