@@ -35,8 +35,9 @@ use Rattle.binlog_arguments.specs.Zones.{HasName, IsZoneOf}
 use Rattle.binlog_arguments.specs.declared.zones.Zone.{Zone}
 use Rattle.binlog_arguments.specs.declared.zones.Zone.TheVariants.{Utc}
 use Rattle.binlog_arguments.specs.declared.arguments.Asked.{Asked}
-use Rattle.binlog_arguments.specs.declared.arguments.Asked.TheVariants.{Text, NewLog, List as OfList, Sql, Part}
+use Rattle.binlog_arguments.specs.declared.arguments.Asked.TheVariants.{Text, NewLog, List as OfList, Show, Sql, Part}
 use Rattle.binlog_arguments.specs.declared.list_arguments.ListTask.{ListTask}
+use Rattle.binlog_arguments.specs.declared.show_arguments.ShowTask.{ShowTask}
 use Rattle.binlog_arguments.specs.declared.sql_arguments.SqlTask.{SqlTask}
 use Rattle.binlog_arguments.specs.declared.undo_arguments.PartTask.{PartTask}
 use Rattle.binlog_arguments.specs.declared.unit_choice.UnitChoice.{UnitChoice}
@@ -162,6 +163,13 @@ pub record HasTask {A : Type 0} (task : ListTask A) (wanted : Wanted) : Type 0 w
   pub database : (choice_value wanted.choice).database ≡ option_map (λ name. name.now) task.database
   pub tables : (choice_value wanted.choice).tables ≡ map name_value task.tables.items
   pub excluded : (choice_value wanted.choice).excluded ≡ map name_value task.excluded.items
+
+-- the rows of units that are listed so: each part is the value of its option, or are its values
+pub record IsShowTask {A : Type 0} (found : Found) (task : ShowTask A) : Type 0 where
+  pub units : IsListTask found task.units
+  pub at : AreNumbers (all_values found (codes "at")) task.at.items
+  pub all_columns : task.all_columns ≡ is_given found (codes "all-columns")
+  pub width : (width : Option ℕ) × IsPositionOf (first_value found (codes "width")) width × (task.width ≡ unwrap_or width 60)
 
 -- ---- SQL
 
@@ -340,6 +348,10 @@ abbrev pub RefusesList : {A : Type 0} → Found → ArgumentsFault A → Type 0
 RefusesList found fault = RefusesTime (first_value found (codes "time-zone")) fault ⊎ RefusesRange found fault ⊎ RefusesTimes found fault
     ⊎ RefusesNumbers (all_values found (codes "thread")) fault ⊎ RefusesIds (all_values found (codes "gtid")) fault
 
+-- why no rows are asked for: for such a reason, or a position or the width is wrong
+abbrev pub RefusesShow : {A : Type 0} → Found → ArgumentsFault A → Type 0
+RefusesShow found fault = RefusesList found fault ⊎ RefusesNumbers (all_values found (codes "at")) fault ⊎ RefusesPosition (first_value found (codes "width")) fault
+
 -- changes as they are in a log, as SQL
 abbrev pub as_sql : ℕ → SqlOptions → Writing
 as_sql size how = record { order = Forward; limit = size; sql = Some how }
@@ -373,10 +385,10 @@ RefusesPart found fault = RefusesRange found fault ⊎ RefusesSql found fault
 abbrev pub names : ArgMatches → List ℕ → Bool
 names matches name = option_map_or (λ text. bytes_eq text name) (subcommand_name_of matches) false
 
--- it found no command, or another than these; and `list` counts only if a list may be asked for, and `undo` and `redo` if a part may
+-- it found no command, or another than these; and `list` and `show` count only if a list may be asked for, and `undo` and `redo` if a part may
 abbrev pub NamesNone : Bool → Bool → ArgMatches → Type 0
 NamesNone lists parts matches = (names matches (codes "plain") ≡ false) × (names matches (codes "split") ≡ false) × (names matches (codes "sql") ≡ false)
-    × ((names matches (codes "list") && lists) ≡ false)
+    × ((names matches (codes "list") && lists) ≡ false) × ((names matches (codes "show") && lists) ≡ false)
     × ((names matches (codes "undo") && parts) ≡ false) × ((names matches (codes "redo") && parts) ≡ false)
 
 -- why nothing is asked for without a command: that it is wrong, or memory was refused
@@ -385,9 +397,10 @@ RefusesCommand lists parts matches (Wrong text) = NamesNone lists parts matches
 RefusesCommand lists parts matches NotText = ⊥
 RefusesCommand lists parts matches OutOfMemory = ⊤
 
--- the argument behind the program's name is `list`
+-- the argument behind the program's name is `list` or `show`
 abbrev pub asks_for_list : {A : Type 0} → List (String A) → Bool
-asks_for_list arguments = option_map_or (λ argument. bytes_eq (string_bytes argument) (codes "list")) (slice_get arguments 1) false
+asks_for_list arguments =
+    option_map_or (λ argument. bytes_eq (string_bytes argument) (codes "list") || bytes_eq (string_bytes argument) (codes "show")) (slice_get arguments 1) false
 
 -- it is `undo` or `redo`
 abbrev pub asks_for_part : {A : Type 0} → List (String A) → Bool
@@ -398,6 +411,7 @@ abbrev pub is_list : {A : Type 0} → Asked A → Bool
 is_list (Text text) = false
 is_list (NewLog task) = false
 is_list (OfList task) = true
+is_list (Show task) = true
 is_list (Sql task) = false
 is_list (Part task) = false
 
@@ -422,16 +436,18 @@ HasShortSchemas asked = ⊤
 abbrev pub IsRead : {A : Type 0} → Bool → Bool → Result ArgMatches Error → Result (Asked A) (ArgumentsFault A) → Type 0
 IsRead lists parts (Ok matches) (Ok (NewLog task)) = IsNewLogOf matches task
 IsRead lists parts (Ok matches) (Ok (OfList task)) = IsBehind (codes "list") matches (λ found. IsListTask found task)
+IsRead lists parts (Ok matches) (Ok (Show task)) = IsBehind (codes "show") matches (λ found. IsShowTask found task)
 IsRead lists parts (Ok matches) (Ok (Sql task)) = IsBehind (codes "sql") matches (λ found. IsSqlTask found task)
 IsRead lists parts (Ok matches) (Ok (Part task)) = IsBehind (codes "undo") matches (λ found. IsPartTask found Backward task)
     ⊎ IsBehind (codes "redo") matches (λ found. IsPartTask found Forward task)
 IsRead lists parts (Ok matches) (Ok (Text text)) = ⊥
 IsRead lists parts (Ok matches) (Err fault) = IsBehind (codes "list") matches (λ found. RefusesList found fault) ⊎ RefusesSplit matches fault
     ⊎ IsBehind (codes "sql") matches (λ found. RefusesSql found fault) ⊎ RefusesCommand lists parts matches fault ⊎ IsBehind (codes "undo") matches (λ found. RefusesPart found fault)
-    ⊎ IsBehind (codes "redo") matches (λ found. RefusesPart found fault)
+    ⊎ IsBehind (codes "redo") matches (λ found. RefusesPart found fault) ⊎ IsBehind (codes "show") matches (λ found. RefusesShow found fault)
 IsRead lists parts (Err error) (Ok (Text text)) = AsksForText (kind_of error)
 IsRead lists parts (Err error) (Ok (NewLog task)) = ⊥
 IsRead lists parts (Err error) (Ok (OfList task)) = ⊥
+IsRead lists parts (Err error) (Ok (Show task)) = ⊥
 IsRead lists parts (Err error) (Ok (Sql task)) = ⊥
 IsRead lists parts (Err error) (Ok (Part task)) = ⊥
 IsRead lists parts (Err error) (Err (Wrong text)) = ¬ (AsksForText (kind_of error))

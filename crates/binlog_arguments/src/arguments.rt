@@ -8,9 +8,10 @@ ghost use Rattle.binlog_arguments.specs.declared.arguments.ArgumentsFault.TheVar
 
 use crate::list_arguments::{ListTask, read_list};
 use crate::options::{
-    DEFAULT_SIZE, FORCE, LEAST_SIZE, LIST, LOG, PLAIN, REDO, RESULT_FILE, SIZE, SPLIT, SQL, UNDO,
-    all_arguments,
+    DEFAULT_SIZE, FORCE, LEAST_SIZE, LIST, LOG, PLAIN, REDO, RESULT_FILE, SHOW, SIZE, SPLIT, SQL,
+    UNDO, all_arguments,
 };
+use crate::show_arguments::{ShowTask, read_show};
 use crate::sql_arguments::{SqlTask, read_sql};
 use crate::undo_arguments::{PartTask, read_part};
 use blog_row::Order;
@@ -30,6 +31,8 @@ pub enum Asked<'a, A: Allocator> {
     NewLog(NewLogTask<'a, 'a>),
     /// The list of the units of a log.
     List(ListTask<'a, A>),
+    /// The rows that the units of a log change.
+    Show(ShowTask<'a, A>),
     /// A log as SQL.
     Sql(SqlTask<'a, A>),
     /// The changes of a part of a log, undone or made once more.
@@ -77,7 +80,7 @@ impl<A: Allocator> From<AllocError> for ArgumentsFault<A> {
     }
 }
 
-/// Answers what the arguments ask for, of which the first is the program's name. A list is asked for by the second one alone, and so is
+/// Answers what the arguments ask for, of which the first is the program's name. A list, or rows, are asked for by the second one alone, and so is
 /// a part of a log.
 /// The parser takes its memory from the system, and the time zone of a list is read from the system's files.
 pub fn read_arguments<'a, R: Files + Env + AllocGlobal, A: Allocator + Copy>(
@@ -120,12 +123,12 @@ fn read_escaped<'a, R: AllocGlobal, A: Allocator + Copy>(
     }
 }
 
-/// Whether the argument behind the program's name is `list`.
+/// Whether the argument behind the program's name is `list` or `show`.
 fn asks_for_list(arguments: &[String]) -> bool
     ensures { result ≡ asks_for_list arguments.now }
 {
     match arguments.get(1) {
-        Some(name) => name.as_str() == LIST,
+        Some(name) => name.as_str() == LIST || name.as_str() == SHOW,
         None => false,
     }
 }
@@ -190,6 +193,9 @@ fn read_matches<'a, R: Files + Env + AllocGlobal, A: Allocator + Copy>(
         Some((name, found)) if name == LIST && lists => {
             Ok(Asked::List(read_list(rt, alloc, command, found)?))
         }
+        Some((name, found)) if name == SHOW && lists => {
+            Ok(Asked::Show(read_show(rt, alloc, command, found)?))
+        }
         Some((name, found)) if name == UNDO && parts => {
             Ok(Asked::Part(read_part(rt, alloc, command, found, Order::Backward)?))
         }
@@ -212,7 +218,7 @@ fn as_log(size: u32) -> Writing<'static>
 }
 
 /// What is told where there is no command, or another one. The parser tells it by itself of most arguments.
-const GIVE_A_COMMAND: &str = "give a command: list, undo, redo, plain, split or sql";
+const GIVE_A_COMMAND: &str = "give a command: list, show, undo, redo, plain, split or sql";
 
 fn wrong_command<A: Allocator>(
     alloc: A,

@@ -2,14 +2,16 @@
 
 /// What the program is for.
 pub const ABOUT: &str = "\
-Lists what can be undone of a binary log of MySQL or MariaDB, and prints SQL that undoes it. Prepares
-logs for flashback, cuts large statements, and prints logs as SQL.";
+Lists what can be undone of a binary log of MySQL or MariaDB, shows its rows, and prints SQL that undoes it.
+Prepares logs for flashback, cuts large statements, and prints logs as SQL.";
 
 /// How it is called.
 pub const USAGE: &str = "\
 binlog list [-d NAME] [-T NAME] [-j POS] [--stop-position POS]
                    [--start-datetime TIME] [--stop-datetime TIME]
                    [--utc | --time-zone NAME] [--json] LOG..
+       binlog show [-d NAME] [-T NAME] [-j POS] [--stop-position POS] [--at POS]
+                   [--utc | --time-zone NAME] [--all-columns] LOG..
        binlog undo [--later LOG].. [--leave | --anyway] [-j POS] [--stop-position POS]
                    [-d NAME] [-T NAME]
                    [--dry-run] [-r FILE [--force]] LOG..
@@ -26,6 +28,8 @@ Examples:
   binlog list binlog.000042
       list the transactions of a log: where each starts and stops,
       and which rows it changes, or why it can't be undone
+  binlog show --at 4021 binlog.000042
+      show the rows that a transaction changes
   binlog undo -j 4021 --stop-position 9144 binlog.000042 -r undo.sql
       write SQL that undoes the transactions from one position to another
   binlog plain binlog.000042 -r plain.000042
@@ -130,6 +134,52 @@ Examples:
       go on after an event whose checksum is wrong
   binlog list --json binlog.000042
       an object of JSON for each, on a line of its own, and one for the totals
+
+Exit status: 0 done, 1 the log is refused, ends too early, or something failed, 2 the arguments are wrong.";
+
+/// What `show` does.
+pub const SHOW_ABOUT: &str = "\
+Shows the rows that the transactions of each LOG change, a line each: the position of the row's event, its
+local time, INSERT, UPDATE or DELETE, the table, and the columns with their values. Of an update, it prints the
+columns that change, with both values, and those by which you know the row: the primary key's, or the first.
+Columns have names if the server wrote them to the log, with binlog_row_metadata=FULL, and else numbers: @1.
+The transactions are those that binlog list lists with the same options. One that can't be undone has a line
+that says why, since its rows aren't known.
+With several LOGs the lines of each are below its name. -j is a position of the first LOG, and --stop-position
+one of the last.
+Each checksum of LOG is checked, if it has checksums. Positions are those of LOG, as mysqlbinlog shows them.";
+
+/// How `show` is called.
+pub const SHOW_USAGE: &str = "\
+binlog show [--at POS].. [-j POS] [--stop-position POS] [-d NAME] [-T [NAME.]NAME]..
+                   [--exclude-table [NAME.]NAME].. [--thread N].. [--gtid GTID]..
+                   [--start-datetime TIME] [--stop-datetime TIME] [--utc | --time-zone NAME]
+                   [--all-columns] [--width COLUMNS] [--skip-damaged] LOG..";
+
+/// What there is to know of `show`, with examples.
+pub const SHOW_AFTER_HELP: &str = "\
+Texts, dates and times are between single quotes, and have no control characters: these are printed as \\n or
+\\x1b. A text that is longer than the width ends in two points. Texts are shown by the character set of their
+column, if LOG says it, as MySQL 8.0 and later do. One that is neither UTF-8 nor latin1 is printed in hexadecimal
+digits, and so are bytes. TIMESTAMP is printed in the time zone that other times are printed in.
+If LOG doesn't say whether a column is UNSIGNED, as that of MariaDB, a negative number is followed by the number
+that it is without a sign: -1 (255). ENUM and SET are printed as numbers unless LOG has their texts.
+A value that isn't what its type says is printed as ?0x and hexadecimal digits.
+Positions are bytes from the start of the file, decimal, 0 to 4294967295. Names are compared byte by byte.
+
+Examples:
+  binlog show --at 4021 binlog.000042
+      the rows of the transaction that has an event at this position, as binlog list prints it
+  binlog show -T shop.orders binlog.000042
+      the rows of one table; -T is the same as --table
+  binlog show -j 4021 --stop-position 9144 binlog.000042
+      those of the transactions from one position to another
+  binlog show --all-columns --at 4021 binlog.000042
+      all columns of each row
+  binlog show --width 200 --at 4021 binlog.000042
+      texts of up to 200 columns
+  binlog show --utc --thread 13 binlog.000042
+      the rows that one connection of a client changed, with times in UTC
 
 Exit status: 0 done, 1 the log is refused, ends too early, or something failed, 2 the arguments are wrong.";
 

@@ -5,6 +5,7 @@ mod arguments;
 mod help;
 mod list_arguments;
 mod options;
+mod show_arguments;
 mod sql_arguments;
 mod undo_arguments;
 mod unit_choice;
@@ -12,6 +13,7 @@ mod zones;
 
 pub use arguments::{ArgumentsFault, Asked, Making, NewLogTask, read_arguments};
 pub use list_arguments::ListTask;
+pub use show_arguments::ShowTask;
 pub use sql_arguments::SqlTask;
 pub use undo_arguments::PartTask;
 pub use unit_choice::UnitChoice;

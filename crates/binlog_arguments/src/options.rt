@@ -2,9 +2,9 @@
 
 use crate::help::{
     ABOUT, AFTER_HELP, LIST_ABOUT, LIST_AFTER_HELP, LIST_USAGE, PLAIN_ABOUT, PLAIN_AFTER_HELP,
-    PLAIN_USAGE, REDO_ABOUT, REDO_AFTER_HELP, REDO_USAGE, SPLIT_ABOUT, SPLIT_AFTER_HELP,
-    SPLIT_USAGE, SQL_ABOUT, SQL_AFTER_HELP, SQL_USAGE, UNDO_ABOUT, UNDO_AFTER_HELP, UNDO_USAGE,
-    USAGE,
+    PLAIN_USAGE, REDO_ABOUT, REDO_AFTER_HELP, REDO_USAGE, SHOW_ABOUT, SHOW_AFTER_HELP, SHOW_USAGE,
+    SPLIT_ABOUT, SPLIT_AFTER_HELP, SPLIT_USAGE, SQL_ABOUT, SQL_AFTER_HELP, SQL_USAGE, UNDO_ABOUT,
+    UNDO_AFTER_HELP, UNDO_USAGE, USAGE,
 };
 use clap::Command;
 use console::{Described, FLAG, Takes, VERSION, add_arguments};
@@ -14,6 +14,8 @@ use std::alloc::{AllocError, Global};
 pub const PLAIN: &str = "plain";
 /// The name of the command `list`.
 pub const LIST: &str = "list";
+/// The name of the command `show`.
+pub const SHOW: &str = "show";
 /// The name of the command `split`.
 pub const SPLIT: &str = "split";
 /// The name of the command `sql`.
@@ -50,6 +52,10 @@ pub const SHOW_GTID: &str = "show-gtid";
 pub const SORT: &str = "sort";
 /// Its value for a list by rows.
 pub const BY_ROWS: &str = "rows";
+/// The name of `--all-columns`.
+pub const ALL_COLUMNS: &str = "all-columns";
+/// The name of `--width`.
+pub const WIDTH: &str = "width";
 /// The name of `--skip-damaged`.
 pub const SKIP_DAMAGED: &str = "skip-damaged";
 /// The name of `-j`.
@@ -84,6 +90,9 @@ pub const LOG: &str = "LOG";
 /// How many bytes a statement has at most, where `--size` isn't given.
 pub const DEFAULT_SIZE: u32 = 8_000_000;
 
+/// In how many columns of a terminal a text is shown, where `--width` isn't given.
+pub const DEFAULT_WIDTH: u32 = 60;
+
 /// The least number of bytes that `--size` can give.
 pub const LEAST_SIZE: u32 = 1024;
 
@@ -96,6 +105,7 @@ pub fn all_arguments<'a>(alloc: Global) -> Result<Command<'a>, AllocError> {
         .after_help(AFTER_HELP)
         .subcommand_required(true)
         .subcommand(list_arguments(alloc)?)?
+        .subcommand(show_arguments(alloc)?)?
         .subcommand(undo_arguments(alloc)?)?
         .subcommand(redo_arguments(alloc)?)?
         .subcommand(plain_arguments(alloc)?)?
@@ -114,6 +124,18 @@ fn list_arguments<'a>(alloc: Global) -> Result<Command<'a>, AllocError> {
     let command = add_arguments(alloc, command, &SHOWN)?;
     let command = add_arguments(alloc, command, &ZONES)?;
     add_arguments(alloc, command, &ORDERS)
+}
+
+/// The command `show`, with its options.
+fn show_arguments<'a>(alloc: Global) -> Result<Command<'a>, AllocError> {
+    let command = Command::new(alloc, SHOW)
+        .about(SHOW_ABOUT)
+        .override_usage(SHOW_USAGE)
+        .after_help(SHOW_AFTER_HELP);
+    let command = add_arguments(alloc, command, &OF_SHOW)?;
+    let command = add_arguments(alloc, command, &UNITS)?;
+    let command = add_arguments(alloc, command, &ZONES)?;
+    add_arguments(alloc, command, &ROWS)
 }
 
 /// The command `undo`, with its options.
@@ -454,6 +476,78 @@ static ORDERS: [Described<'static>; 3] = [
     Described {
         name: JSON,
         help: "Write JSON, an object a line",
+        ..FLAG
+    },
+    Described {
+        name: LOG,
+        takes: Takes::Arguments,
+        help: "The binary logs, files",
+        ..FLAG
+    },
+];
+
+/// The options that choose which rows are shown.
+static OF_SHOW: [Described<'static>; 6] = [
+    Described {
+        name: AT,
+        takes: Takes::Value("POS"),
+        help: "Only the transaction that has an event at POS; can be given several times",
+        is_repeated: true,
+        ..FLAG
+    },
+    Described {
+        name: START,
+        short: Some('j'),
+        takes: Takes::Value("POS"),
+        help: "Only the transactions that start at POS or after it",
+        ..FLAG
+    },
+    Described {
+        name: STOP,
+        takes: Takes::Value("POS"),
+        help: "Only those that start before POS",
+        ..FLAG
+    },
+    Described {
+        name: DATABASE,
+        short: Some('d'),
+        takes: Takes::Value("NAME"),
+        help: "Only rows of tables of this database",
+        ..FLAG
+    },
+    Described {
+        name: TABLE,
+        short: Some('T'),
+        takes: Takes::Value("[NAME.]NAME"),
+        help: "Only rows of this table; can be given several times",
+        is_repeated: true,
+        ..FLAG
+    },
+    Described {
+        name: EXCLUDED_TABLE,
+        takes: Takes::Value("[NAME.]NAME"),
+        help: "No rows of this table; can be given several times",
+        is_repeated: true,
+        ..FLAG
+    },
+];
+
+/// The options that say how rows are shown, and the logs.
+static ROWS: [Described<'static>; 4] = [
+    Described {
+        name: ALL_COLUMNS,
+        help: "Print the columns that an update leaves too",
+        ..FLAG
+    },
+    Described {
+        name: WIDTH,
+        takes: Takes::Value("COLUMNS"),
+        help: "Cut texts to this many columns of a terminal; 60 if it isn't given",
+        ..FLAG
+    },
+    Described {
+        name: SKIP_DAMAGED,
+        help: "Go on after an event whose checksum is wrong",
         ..FLAG
     },
     Described {

@@ -109,7 +109,7 @@ fn looks(found: &ArgMatches<'_>, order: Order) -> bool
     }
 }
 
-/// Whether rows that were changed since are left: by `undo`, if it is told to.
+/// Whether rows that were changed since are left: by `undo` with `--leave`.
 fn leaves(found: &ArgMatches<'_>, order: Order) -> bool
     ensures { result ≡ leaves_rows (found_of found.now) order }
 {

@@ -22,6 +22,7 @@ use crate::list_runs::run_list;
 use crate::log_file::{LogFault, open_log};
 use crate::part_runs::run_part_of;
 use crate::schemas::no_schema;
+use crate::show_runs::run_show;
 use binlog_arguments::{
     ArgumentsFault, Asked, Making, NewLogTask, PartTask, SqlTask, read_arguments,
 };
@@ -191,7 +192,7 @@ pub fn command<R: Files + Env + AllocGlobal, A: Allocator + Copy, O: Write, E: W
     ensures unwritten { exit_status result ≡ 2 → output.new ≡ output.old }
     ensures unread { IsErr arguments → (1 ≤ exit_status result) × (output.new ≡ output.old) }
 
-    // A run that fails where the output doesn't has written nothing, but for the list of a log.
+    // A run that fails where the output doesn't has written nothing, but for the list or the rows of a log.
     ensures refused { may_list arguments ≡ false → 1 ≤ exit_status result → has_failed output.new ≡ false
         → output.new ≡ output.old }
 {
@@ -251,6 +252,7 @@ fn carry_out<'a, R: Files + Env + AllocGlobal, A: Allocator + Copy, O: Write, E:
             run_sql(rt, alloc, process, &mut reader, &task, output)?
         }
         Asked::List(task) => run_list(rt, alloc, process.seed, &task, output, errors)?,
+        Asked::Show(task) => run_show(rt, alloc, process.seed, &task, output, errors)?,
         Asked::Part(task) => {
             check_part_output(process, &task)?;
             run_part_of(rt, alloc, process, &task, output, errors)?

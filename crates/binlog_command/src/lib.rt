@@ -8,6 +8,7 @@ mod log_file;
 mod part_runs;
 mod reasons;
 mod schemas;
+mod show_runs;
 
 pub use commands::{Failure, NewLogFault, Process, command};
 pub use log_file::LogFault;

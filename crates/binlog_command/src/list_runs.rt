@@ -72,7 +72,7 @@ fn list_given<'a, A: Allocator + Copy, D: Read + Drop, O: Write, E: Write>(
     ) {
         Ok(()) => {
             if let Some(reasons) = &reasons {
-                tell_reason(alloc, &reasons.reason(), style.zone, errors);
+                tell_reason(alloc, &reasons.reason(), "listed", style.zone, errors);
             }
             Ok(())
         }

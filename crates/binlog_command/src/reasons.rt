@@ -1,4 +1,4 @@
-//! The line that says why nothing is listed.
+//! The line that says why nothing is listed or shown.
 
 use blog_device::Watched;
 use blog_list::time_text;
@@ -8,14 +8,15 @@ use jiff::tz::TimeZone;
 use std::alloc::{AllocError, Allocator};
 use std::io::Write;
 
-/// Prints why nothing is listed. What can't be printed is dropped.
+/// Prints why nothing is done with units: `done` says what would be. What can't be printed is dropped.
 pub(crate) fn tell_reason<A: Allocator + Copy, E: Write>(
     alloc: A,
     reason: &Reason<'_, A>,
+    done: &str,
     zone: TimeZone<'_>,
     errors: &mut Watched<E>,
 ) {
-    if let Ok(line) = reason_text(alloc, reason, zone) {
+    if let Ok(line) = reason_text(alloc, reason, done, zone) {
         let _ = put_line(errors, "binlog", &line.as_str());
     }
 }
@@ -24,24 +25,25 @@ pub(crate) fn tell_reason<A: Allocator + Copy, E: Write>(
 fn reason_text<A: Allocator + Copy>(
     alloc: A,
     reason: &Reason<'_, A>,
+    done: &str,
     zone: TimeZone<'_>,
 ) -> Result<String<A>, AllocError> {
     match reason {
         Reason::NoUnit => {
-            format!(in alloc; "nothing is listed: no transaction starts in this range")
+            format!(in alloc; "nothing is {done}: no transaction starts in this range")
         }
         Reason::NoTime { first, last } => {
             let (first, last) = (time_text(zone, *first), time_text(zone, *last));
             format!(in alloc;
-                "nothing is listed: no transaction is of these times: the first is of {}, the last of {}",
+                "nothing is {done}: no transaction is of these times: the first is of {}, the last of {}",
                 first.as_str(),
                 last.as_str()
             )
         }
-        Reason::NoTable { near } => near_text(alloc, near),
+        Reason::NoTable { near } => near_text(alloc, near, done),
         Reason::Other => {
             format!(in alloc;
-                "nothing is listed: no transaction meets all that is asked for: leave an option out"
+                "nothing is {done}: no transaction meets all that is asked for: leave an option out"
             )
         }
     }
@@ -51,9 +53,9 @@ fn reason_text<A: Allocator + Copy>(
 fn near_text<A: Allocator + Copy>(
     alloc: A,
     near: &[NearTable<A>],
+    done: &str,
 ) -> Result<String<A>, AllocError> {
-    let mut text = String::new(alloc);
-    text.push_str("nothing is listed: no such table is changed")?;
+    let mut text = format!(in alloc; "nothing is {done}: no such table is changed")?;
     let mut first = true;
     for table in near {
         let schema = String::from_utf8_lossy(alloc, table.schema())?;

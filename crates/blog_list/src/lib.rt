@@ -18,7 +18,10 @@ mod times;
 mod totals;
 
 pub use laws::parts_are_a_list;
-pub use list_writer::ListWriter;
+pub use lines::{put_name, put_refusal};
+pub use list_end::early_end;
+pub use list_writer::{ListWriter, open_log, write_full};
 pub use listing::{Form, Sorting, Style, list, list_counted};
+pub use places::wanted_inside;
 pub use times::{Side, TimeFault, rfc_3339_text, seconds_of, time_text};
 pub use totals::Totals;

@@ -39,12 +39,9 @@ pub(crate) fn put_header<A: Allocator + Copy>(
     }
 }
 
-/// Appends the line with a log's name, if there is one.
+/// Appends the line with a log's name, if there is one. Fails if out of memory.
 #[tactic(auto, unfolding(crate::specs::Lines::name_line))]
-pub(crate) fn put_name<A: Allocator>(
-    out: &mut Vec<u8, A>,
-    name: Option<&[u8]>,
-) -> Result<(), AllocError>
+pub fn put_name<A: Allocator>(out: &mut Vec<u8, A>, name: Option<&[u8]>) -> Result<(), AllocError>
     ensures { OnOk result (out.new.items ≡ out.old.items ++ name_line (option_copied name.entry)) }
 {
     match name {
@@ -195,8 +192,9 @@ fn put_changes<A: Allocator + Copy>(
     }
 }
 
-/// Appends why a unit can't be undone that stops at a position, in this room.
-fn put_refusal<A: Allocator>(
+/// Appends why a unit can't be undone that stops at a position, in this many columns of a terminal if its name and its position fit. Fails if out of
+/// memory.
+pub fn put_refusal<A: Allocator>(
     out: &mut Vec<u8, A>,
     room: usize,
     source: &Source<A>,

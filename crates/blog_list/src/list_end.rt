@@ -12,7 +12,7 @@ use std::alloc::Allocator;
 
 /// Why a list ends early, of which the last unit is whole or isn't: the fault with which the reading of the source ended, before
 /// the stop or inside that unit; or `Unended` at the end.
-pub(crate) fn early_end<A: Allocator>(
+pub fn early_end<A: Allocator>(
     source: &Source<A>,
     whole: bool,
     stop: Option<u32>,

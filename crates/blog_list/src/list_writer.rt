@@ -330,8 +330,8 @@ impl<'z, A: Allocator + Copy> ListWriter<'z, A> {
     }
 }
 
-/// Opens the log of a source, with a seed by which its tables are looked up.
-pub(crate) fn open_log<A: Allocator>(source: &Source<A>, seed: u64) -> Result<Log<'_>, Fault>
+/// Opens the log of a source, with a seed by which its tables are looked up. Fails with its first fault if it can't be opened.
+pub fn open_log<A: Allocator>(source: &Source<A>, seed: u64) -> Result<Log<'_>, Fault>
     ensures exact { result_err result ≡ opening_fault (log_of source.now) }
     ensures bytes { IfOk result (λ log. log_bytes log ≡ log_of source.now) }
 {
@@ -361,8 +361,8 @@ fn is_listed(concern: Concern) -> bool
     }
 }
 
-/// Writes what is collected once it is a chunk.
-pub(crate) fn write_full<A: Allocator, O: Write>(
+/// Writes what is collected once it has 64 KB, and then empties it. Fails with `Write` if a write failed.
+pub fn write_full<A: Allocator, O: Write>(
     text: &mut Vec<u8, A>,
     writer: &mut Watched<O>,
 ) -> Result<(), RunFault>

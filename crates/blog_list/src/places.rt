@@ -20,7 +20,7 @@ fn position<A: Allocator>(source: &Source<A>, place: Option<u32>) -> Option<u32>
 }
 
 /// Returns which units of the log without checksums are wanted, where positions of the server's log are given.
-pub(crate) fn wanted_inside<'w, A: Allocator>(source: &Source<A>, wanted: &Wanted<'w>) -> Wanted<'w>
+pub fn wanted_inside<'w, A: Allocator>(source: &Source<A>, wanted: &Wanted<'w>) -> Wanted<'w>
     ensures { result ≡ inside (log_of source.now) wanted.now }
 {
     Wanted {

@@ -16,6 +16,8 @@ const USAGE: &str = "
 Usage: binlog list [-d NAME] [-T NAME] [-j POS] [--stop-position POS]
                    [--start-datetime TIME] [--stop-datetime TIME]
                    [--utc | --time-zone NAME] [--json] LOG..
+       binlog show [-d NAME] [-T NAME] [-j POS] [--stop-position POS] [--at POS]
+                   [--utc | --time-zone NAME] [--all-columns] LOG..
        binlog undo [--later LOG].. [--leave | --anyway] [-j POS] [--stop-position POS]
                    [-d NAME] [-T NAME]
                    [--dry-run] [-r FILE [--force]] LOG..

@@ -6,8 +6,9 @@ use std::process::Abort;
 use std::test::Fail;
 
 /// Lines of the help.
-static HELP_LINES: [&str; 15] = [
+static HELP_LINES: [&str; 17] = [
     "Usage: binlog list [-d NAME] [-T NAME] [-j POS] [--stop-position POS]",
+    "       binlog show [-d NAME] [-T NAME] [-j POS] [--stop-position POS] [--at POS]",
     "       binlog undo [--later LOG].. [--leave | --anyway] [-j POS] [--stop-position POS]",
     "       binlog redo [-j POS] [--stop-position POS] [-d NAME] [-T NAME]",
     "       binlog plain [-r FILE [--force]] LOG",
@@ -18,6 +19,7 @@ static HELP_LINES: [&str; 15] = [
     "  undo   Prints SQL that undoes changes of LOG: it deletes what was inserted, inserts what was deleted, and updates",
     "  redo   Prints SQL that makes changes of LOG once more, in their order: after an undo that was a mistake, or on a",
     "  list   Lists the units of each LOG: its transactions, and what stands between them and can't be undone.",
+    "  show   Shows the rows that the transactions of each LOG change, a line each: the position of the row's event, its",
     "  split  Cuts each statement of LOG into statements of at most BYTES bytes: their rows events, and the table",
     "  sql    Prints LOG as SQL that makes its changes on a server, in one transaction: all of them, or after any",
     "  help   Print this message or the help of the given subcommand(s)",

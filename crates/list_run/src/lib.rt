@@ -7,4 +7,4 @@ mod listed;
 
 pub use fault::ListFault;
 pub use given::GivenLog;
-pub use listed::list_logs;
+pub use listed::{earlier, list_logs, look, read_source};

@@ -171,8 +171,8 @@ fn list_several<A: Allocator + Copy, R: Read + Drop, W: Write>(
 /// Memory was refused.
 const NO_MEMORY: ListFault = ListFault::Run(RunFault::Log(Fault::OutOfMemory));
 
-/// The first early end, where the n-th log may have one and those before it may have.
-fn earlier(
+/// Returns the first early end of logs, of which the n-th has the last.
+pub fn earlier(
     end: Option<(usize, SumFault)>,
     n: usize,
     fault: Option<SumFault>,
@@ -226,8 +226,8 @@ fn look_at<A: Allocator + Copy>(
     }
 }
 
-/// Looks at the log of a source for the reason why nothing is listed. None where memory was refused.
-fn look<A: Allocator + Copy>(
+/// Looks at the log of a source for the reason why nothing of it is wanted. Returns None if there are no reasons, or if out of memory.
+pub fn look<A: Allocator + Copy>(
     reasons: &mut Option<Reasons<'_, A>>,
     source: &Source<A>,
     seed: u64,
@@ -240,8 +240,9 @@ fn look<A: Allocator + Copy>(
     seen.look(&log.with_seed(seed), start, stop).ok()
 }
 
-/// Reads a log to its end, and opens it as a source.
-fn read_source<A: Allocator, R: Read + Drop>(
+/// Reads a log to its end, and opens it as a source. Fails with `Run` if it can't be read, or if out of memory, and with `Unread` if nothing can
+/// be read of it.
+pub fn read_source<A: Allocator, R: Read + Drop>(
     alloc: A,
     reader: Watched<R>,
     how: Reading,

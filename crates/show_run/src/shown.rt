@@ -1,0 +1,139 @@
+//! Showing the rows of logs in turn.
+
+ghost use Rattle.std.specs.Prelude.{◌≡◌, ◌⊎◌, ◌<◌, IfErr};
+ghost use Rattle.list_run.specs.Listed.{MayFollow};
+
+use crate::source_rows::{Asked, Shown, show_source};
+use blog_device::Watched;
+use blog_reasons::Reasons;
+use blog_request::Wanted;
+use blog_show::RowStyle;
+use blog_source::Reading;
+use blog_sum::SumFault;
+use list_run::{GivenLog, ListFault, earlier, look, read_source};
+use std::alloc::Allocator;
+use std::io::{Read, Write};
+
+/// Which of the logs is shown, and what is wanted of all.
+#[derive(Clone, Copy)]
+struct Turn<'w> {
+    how: Reading,
+    asked: Asked<'w>,
+    /// How many they are.
+    count: usize,
+    /// The number of this one, from 0 on.
+    n: usize,
+}
+
+/// Shows the rows that the wanted units of logs change, a line each, and why a wanted unit is none of which rows are known. The logs are read in
+/// turn, one at a time in memory. Where there are several, what is shown of each is below its name. If there are positions in `at`, units are wanted
+/// that have an event at one of them. Returns how many units were shown.
+///
+/// A start of what is wanted is one of the first log, and a stop one of the last. Each log is shown up to its end, and so are
+/// those behind a log that ends early, or is damaged behind what was shown: `EndsEarly` of the first of these, by its number from
+/// 0 on. Of a log that can't be read, or of which nothing can be read, and of those behind it nothing is shown: `Run` and `Unread` by its
+/// number. `Run(Write)` where a write failed.
+///
+/// Where no unit is shown, `reasons` are of all logs then, and say why. They are taken away where a unit is shown, and where memory
+/// for them was refused.
+pub fn show_logs<A: Allocator + Copy, R: Read + Drop, W: Write>(
+    alloc: A,
+    logs: Vec<GivenLog<'_, R>, A>,
+    how: Reading,
+    wanted: &Wanted<'_>,
+    at: &[u32],
+    seed: u64,
+    style: &RowStyle<'_>,
+    reasons: &mut Option<Reasons<'_, A>>,
+    writer: &mut Watched<W>,
+) -> Result<u64, (usize, ListFault)>
+    // Where nothing can be read of the first log, nothing is written.
+    ensures { IfErr result (λ e. (0 < e.0) ⊎ (writer.new ≡ writer.old) ⊎ MayFollow e.1) }
+{
+    let mut turn = Turn {
+        how,
+        asked: Asked {
+            wanted: *wanted,
+            at,
+            seed,
+        },
+        count: logs.len(),
+        n: 0,
+    };
+    let mut units = 0u64;
+    let mut end = None;
+    'logs: for given in logs {
+        match show_one(alloc, given, &turn, style, reasons, writer) {
+            Ok(shown) => {
+                units = units.saturating_add(shown.units);
+                end = earlier(end, turn.n, shown.end);
+            }
+            Err(fault) => return Err((turn.n, fault)),
+        }
+        turn.n = turn.n.saturating_add(1);
+    }
+    ended(units, end)
+}
+
+/// What comes of showing all logs: how many units were shown, or the first early end.
+fn ended(units: u64, end: Option<(usize, SumFault)>) -> Result<u64, (usize, ListFault)>
+    ensures { IfErr result (λ e. MayFollow e.1) }
+{
+    match end {
+        Some((n, fault)) => Err((n, ListFault::EndsEarly(fault))),
+        None => Ok(units),
+    }
+}
+
+/// Reads a log when its turn comes, and shows it.
+fn show_one<A: Allocator + Copy, R: Read + Drop, W: Write>(
+    alloc: A,
+    given: GivenLog<'_, R>,
+    turn: &Turn<'_>,
+    style: &RowStyle<'_>,
+    reasons: &mut Option<Reasons<'_, A>>,
+    writer: &mut Watched<W>,
+) -> Result<Shown, ListFault>
+    ensures { IfErr result (λ e. (writer.new ≡ writer.old) ⊎ MayFollow e) }
+{
+    let name = turn.name(given.name);
+    let source = read_source(alloc, given.reader, turn.how)?;
+    let asked = turn.asked();
+    match show_source(alloc, &source, name, &asked, style, writer) {
+        Ok(shown) => {
+            if shown.units > 0 || look(reasons, &source, asked.seed, &asked.wanted).is_none() {
+                *reasons = None;
+            }
+            Ok(shown)
+        }
+        Err(fault) => Err(ListFault::Run(fault)),
+    }
+}
+
+impl<'w> Turn<'w> {
+    /// The name that is shown of a log.
+    fn name<'a>(&self, name: &'a str) -> Option<&'a [u8]> {
+        if self.count == 1 {
+            None
+        } else {
+            Some(name.as_bytes())
+        }
+    }
+
+    /// What is asked for of the log whose turn it is.
+    fn asked(&self) -> Asked<'w> {
+        let wanted = self.asked.wanted;
+        Asked {
+            wanted: Wanted {
+                start: if self.n == 0 { wanted.start } else { None },
+                stop: if self.n.saturating_add(1) == self.count {
+                    wanted.stop
+                } else {
+                    None
+                },
+                ..wanted
+            },
+            ..self.asked
+        }
+    }
+}
