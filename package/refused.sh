@@ -83,6 +83,7 @@ of_binlog() {
     refuse_each 0 plain --force -r result crc32_closed.binlog
     refuse_each 0 list --json -d d -T t -j 4 --start-datetime "2026-01-01 00:00:00" multi_table.binlog
     refuse_each 0 list --utc --sort rows crc32_closed.binlog
+    refuse_each 0 show --utc --at 811 --at 1300 -T shop.orders --all-columns crc32_closed.binlog
     refuse_each 0 undo --anyway --keep-times -j 811 --stop-position 1215 -d shop -T orders -r result --force crc32_closed.binlog
     refuse_each 0 undo --dry-run -j 811 --stop-position 1215 crc32_closed.binlog
     refuse_each 1 undo -j 198 --stop-position 512 crc32_closed.binlog
