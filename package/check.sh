@@ -95,6 +95,7 @@ begin_folder() {
 written() {
     case $1 in
         *.sql) mysql < "$1"; return ;;
+        *.html) head -n 1 "$1"; return ;;
     esac
     echo "cksum $(cksum < "$1")"
     od -An -v -tu1 "$1" | awk -f examples/events.awk
@@ -121,7 +122,7 @@ run_example() {
 
 # each example of a help begins anew, those of a man page go on where the last one stopped
 run_examples() {
-    for page in flashback binlog "binlog list" "binlog show" "binlog undo" "binlog redo" "binlog plain" "binlog split" "binlog sql"; do
+    for page in flashback binlog "binlog list" "binlog show" "binlog report" "binlog undo" "binlog redo" "binlog plain" "binlog split" "binlog sql"; do
         echo "## $page --help"
         help_examples $page > "$work/commands"
         while read -r command; do
@@ -245,14 +246,14 @@ pages_are_sound() {
 }
 
 options_agree() {
-    for page in flashback binlog "binlog list" "binlog show" "binlog undo" "binlog redo" "binlog plain" "binlog split" "binlog sql"; do
+    for page in flashback binlog "binlog list" "binlog show" "binlog report" "binlog undo" "binlog redo" "binlog plain" "binlog split" "binlog sql"; do
         help_options $page > "$work/options"
         completed $page | cmp -s "$work/options" - || differs "completion of $page has other options than its help"
     done
     for page in flashback binlog; do
         {
             help_options "$page"
-            [ "$page" = flashback ] || { help_options binlog list && help_options binlog show && help_options binlog undo && help_options binlog redo; help_options binlog plain && help_options binlog split && help_options binlog sql; }
+            [ "$page" = flashback ] || { help_options binlog list && help_options binlog show && help_options binlog report && help_options binlog undo && help_options binlog redo; help_options binlog plain && help_options binlog split && help_options binlog sql; }
         } | LC_ALL=C sort -u > "$work/options"
         man_options "$page" | cmp -s "$work/options" - || differs "$page.1 has other options than its help"
     done

@@ -1,5 +1,5 @@
 #!/bin/sh
-# Runs the gate, then package/check.sh, package/refused.sh, package/later.sh and package/show.sh on the programs that it built:
+# Runs the gate, then package/check.sh, package/refused.sh, package/later.sh, package/show.sh and package/report.sh on the programs that it built:
 #     package/gate.sh VERSION COMMAND..
 # The last line is the command's own, and the status isn't 0 where either failed.
 set -u
@@ -17,6 +17,7 @@ if [ "$status" -eq 0 ]; then
     sh "$(dirname "$0")/refused.sh" binlog crates/binlog/out/binlog || status=1
     sh "$(dirname "$0")/later.sh" crates/binlog/out/binlog || status=1
     sh "$(dirname "$0")/show.sh" crates/binlog/out/binlog || status=1
+    sh "$(dirname "$0")/report.sh" crates/binlog/out/binlog || status=1
 fi
 [ ! -f "$room/last" ] || cat "$room/last"
 exit "$status"

@@ -18,6 +18,7 @@ from later_trial import try_later
 from privileges_trial import try_privileges
 from programs import Programs, Report, warn
 from server import KINDS, MARIADB, MYSQL, Server, ServerError, Tree
+from shown_trial import try_shown
 from types_trial import try_types
 
 SETTINGS = {
@@ -25,7 +26,8 @@ SETTINGS = {
             ("GTIDs off, row metadata FULL", ("--gtid-mode=OFF", "--enforce-gtid-consistency=OFF", "--binlog-row-metadata=FULL"))),
     MARIADB: (("defaults", ()), ("no checksums", ("--binlog-checksum=NONE",))),
 }
-TRIALS = {"types": try_types, "errors": try_errors, "privileges": try_privileges, "later": try_later}
+TRIALS = {"types": try_types, "errors": try_errors, "privileges": try_privileges, "later": try_later,
+          "shown": try_shown}
 
 
 def arguments():

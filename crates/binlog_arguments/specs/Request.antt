@@ -35,8 +35,9 @@ use Rattle.binlog_arguments.specs.Zones.{HasName, IsZoneOf}
 use Rattle.binlog_arguments.specs.declared.zones.Zone.{Zone}
 use Rattle.binlog_arguments.specs.declared.zones.Zone.TheVariants.{Utc}
 use Rattle.binlog_arguments.specs.declared.arguments.Asked.{Asked}
-use Rattle.binlog_arguments.specs.declared.arguments.Asked.TheVariants.{Text, NewLog, List as OfList, Show, Sql, Part}
+use Rattle.binlog_arguments.specs.declared.arguments.Asked.TheVariants.{Text, NewLog, List as OfList, Show, Report, Sql, Part}
 use Rattle.binlog_arguments.specs.declared.list_arguments.ListTask.{ListTask}
+use Rattle.binlog_arguments.specs.declared.report_arguments.ReportTask.{ReportTask}
 use Rattle.binlog_arguments.specs.declared.show_arguments.ShowTask.{ShowTask}
 use Rattle.binlog_arguments.specs.declared.sql_arguments.SqlTask.{SqlTask}
 use Rattle.binlog_arguments.specs.declared.undo_arguments.PartTask.{PartTask}
@@ -170,6 +171,15 @@ pub record IsShowTask {A : Type 0} (found : Found) (task : ShowTask A) : Type 0 
   pub at : AreNumbers (all_values found (codes "at")) task.at.items
   pub all_columns : task.all_columns ≡ is_given found (codes "all-columns")
   pub width : (width : Option ℕ) × IsPositionOf (first_value found (codes "width")) width × (task.width ≡ unwrap_or width 60)
+  pub as_csv : task.as_csv ≡ is_given found (codes "csv")
+
+-- a report of units that are listed so
+pub record IsReportTask {A : Type 0} (found : Found) (task : ReportTask A) : Type 0 where
+  pub units : IsListTask found task.units
+  pub interval : IsPositionOf (first_value found (codes "interval")) task.interval
+  pub as_text : task.as_text ≡ is_given found (codes "text")
+  pub result_file : option_map (λ path. path.now) task.result_file ≡ first_value found (codes "result-file")
+  pub force : task.force ≡ is_given found (codes "force")
 
 -- ---- SQL
 
@@ -263,7 +273,8 @@ pub record IsPartTask {A : Type 0} (found : Found) (direction : Order) (task : P
       × IsPositionOf (first_value found (codes "stop-position")) stop × IsPart found start stop (selection_of task.part)
   pub order : task.order ≡ direction
   pub as_log : task.as_log ≡ is_given found (codes "binlog")
-  pub dry_run : task.dry_run ≡ is_given found (codes "dry-run")
+  pub dry_run : task.dry_run ≡ (is_given found (codes "dry-run") || is_given found (codes "show"))
+  pub shows_rows : task.shows_rows ≡ is_given found (codes "show")
   pub looks : task.looks ≡ looks_later found direction
   pub leaves : task.leaves ≡ leaves_rows found direction
   pub later : map (λ path. path.now) task.later.items ≡ later_paths found direction
@@ -352,6 +363,10 @@ RefusesList found fault = RefusesTime (first_value found (codes "time-zone")) fa
 abbrev pub RefusesShow : {A : Type 0} → Found → ArgumentsFault A → Type 0
 RefusesShow found fault = RefusesList found fault ⊎ RefusesNumbers (all_values found (codes "at")) fault ⊎ RefusesPosition (first_value found (codes "width")) fault
 
+-- why no report is asked for: for a reason for which no list is, or the interval is wrong
+abbrev pub RefusesReport : {A : Type 0} → Found → ArgumentsFault A → Type 0
+RefusesReport found fault = RefusesList found fault ⊎ RefusesPosition (first_value found (codes "interval")) fault
+
 -- changes as they are in a log, as SQL
 abbrev pub as_sql : ℕ → SqlOptions → Writing
 as_sql size how = record { order = Forward; limit = size; sql = Some how }
@@ -385,11 +400,12 @@ RefusesPart found fault = RefusesRange found fault ⊎ RefusesSql found fault
 abbrev pub names : ArgMatches → List ℕ → Bool
 names matches name = option_map_or (λ text. bytes_eq text name) (subcommand_name_of matches) false
 
--- it found no command, or another than these; and `list` and `show` count only if a list may be asked for, and `undo` and `redo` if a part may
+-- it found no command, or another than these; and `list`, `show` and `report` count only if a list may be asked for, and `undo` and `redo` if a part
+-- may
 abbrev pub NamesNone : Bool → Bool → ArgMatches → Type 0
 NamesNone lists parts matches = (names matches (codes "plain") ≡ false) × (names matches (codes "split") ≡ false) × (names matches (codes "sql") ≡ false)
     × ((names matches (codes "list") && lists) ≡ false) × ((names matches (codes "show") && lists) ≡ false)
-    × ((names matches (codes "undo") && parts) ≡ false) × ((names matches (codes "redo") && parts) ≡ false)
+    × ((names matches (codes "undo") && parts) ≡ false) × ((names matches (codes "redo") && parts) ≡ false) × ((names matches (codes "report") && lists) ≡ false)
 
 -- why nothing is asked for without a command: that it is wrong, or memory was refused
 abbrev pub RefusesCommand : {A : Type 0} → Bool → Bool → ArgMatches → ArgumentsFault A → Type 0
@@ -397,10 +413,10 @@ RefusesCommand lists parts matches (Wrong text) = NamesNone lists parts matches
 RefusesCommand lists parts matches NotText = ⊥
 RefusesCommand lists parts matches OutOfMemory = ⊤
 
--- the argument behind the program's name is `list` or `show`
+-- the argument after the program's name is `list`, `show` or `report`
 abbrev pub asks_for_list : {A : Type 0} → List (String A) → Bool
 asks_for_list arguments =
-    option_map_or (λ argument. bytes_eq (string_bytes argument) (codes "list") || bytes_eq (string_bytes argument) (codes "show")) (slice_get arguments 1) false
+    option_map_or (λ argument. (bytes_eq (string_bytes argument) (codes "list") || bytes_eq (string_bytes argument) (codes "show")) || bytes_eq (string_bytes argument) (codes "report")) (slice_get arguments 1) false
 
 -- it is `undo` or `redo`
 abbrev pub asks_for_part : {A : Type 0} → List (String A) → Bool
@@ -412,6 +428,7 @@ is_list (Text text) = false
 is_list (NewLog task) = false
 is_list (OfList task) = true
 is_list (Show task) = true
+is_list (Report task) = true
 is_list (Sql task) = false
 is_list (Part task) = false
 
@@ -437,6 +454,7 @@ abbrev pub IsRead : {A : Type 0} → Bool → Bool → Result ArgMatches Error �
 IsRead lists parts (Ok matches) (Ok (NewLog task)) = IsNewLogOf matches task
 IsRead lists parts (Ok matches) (Ok (OfList task)) = IsBehind (codes "list") matches (λ found. IsListTask found task)
 IsRead lists parts (Ok matches) (Ok (Show task)) = IsBehind (codes "show") matches (λ found. IsShowTask found task)
+IsRead lists parts (Ok matches) (Ok (Report task)) = IsBehind (codes "report") matches (λ found. IsReportTask found task)
 IsRead lists parts (Ok matches) (Ok (Sql task)) = IsBehind (codes "sql") matches (λ found. IsSqlTask found task)
 IsRead lists parts (Ok matches) (Ok (Part task)) = IsBehind (codes "undo") matches (λ found. IsPartTask found Backward task)
     ⊎ IsBehind (codes "redo") matches (λ found. IsPartTask found Forward task)
@@ -444,10 +462,12 @@ IsRead lists parts (Ok matches) (Ok (Text text)) = ⊥
 IsRead lists parts (Ok matches) (Err fault) = IsBehind (codes "list") matches (λ found. RefusesList found fault) ⊎ RefusesSplit matches fault
     ⊎ IsBehind (codes "sql") matches (λ found. RefusesSql found fault) ⊎ RefusesCommand lists parts matches fault ⊎ IsBehind (codes "undo") matches (λ found. RefusesPart found fault)
     ⊎ IsBehind (codes "redo") matches (λ found. RefusesPart found fault) ⊎ IsBehind (codes "show") matches (λ found. RefusesShow found fault)
+    ⊎ IsBehind (codes "report") matches (λ found. RefusesReport found fault)
 IsRead lists parts (Err error) (Ok (Text text)) = AsksForText (kind_of error)
 IsRead lists parts (Err error) (Ok (NewLog task)) = ⊥
 IsRead lists parts (Err error) (Ok (OfList task)) = ⊥
 IsRead lists parts (Err error) (Ok (Show task)) = ⊥
+IsRead lists parts (Err error) (Ok (Report task)) = ⊥
 IsRead lists parts (Err error) (Ok (Sql task)) = ⊥
 IsRead lists parts (Err error) (Ok (Part task)) = ⊥
 IsRead lists parts (Err error) (Err (Wrong text)) = ¬ (AsksForText (kind_of error))

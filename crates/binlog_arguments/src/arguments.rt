@@ -6,11 +6,13 @@ ghost use Rattle.console.specs.Positions.{IsPositionOf};
 ghost use Rattle.binlog_arguments.specs.Request.{HasShortSchemas, IsNewLogTask, as_log, IsSizeOf, IsRead, RefusesPosition, RefusesSize, asks_for_list, is_given, is_list, is_part, asks_for_part};
 ghost use Rattle.binlog_arguments.specs.declared.arguments.ArgumentsFault.TheVariants.{OutOfMemory};
 
+use crate::all_options::all_arguments;
 use crate::list_arguments::{ListTask, read_list};
 use crate::options::{
-    DEFAULT_SIZE, FORCE, LEAST_SIZE, LIST, LOG, PLAIN, REDO, RESULT_FILE, SHOW, SIZE, SPLIT, SQL,
-    UNDO, all_arguments,
+    DEFAULT_SIZE, FORCE, LEAST_SIZE, LIST, LOG, PLAIN, REDO, REPORT, RESULT_FILE, SHOW, SIZE,
+    SPLIT, SQL, UNDO,
 };
+use crate::report_arguments::{ReportTask, read_report};
 use crate::show_arguments::{ShowTask, read_show};
 use crate::sql_arguments::{SqlTask, read_sql};
 use crate::undo_arguments::{PartTask, read_part};
@@ -33,6 +35,8 @@ pub enum Asked<'a, A: Allocator> {
     List(ListTask<'a, A>),
     /// The rows that the units of a log change.
     Show(ShowTask<'a, A>),
+    /// A report of the units of logs.
+    Report(ReportTask<'a, A>),
     /// A log as SQL.
     Sql(SqlTask<'a, A>),
     /// The changes of a part of a log, undone or made once more.
@@ -80,8 +84,8 @@ impl<A: Allocator> From<AllocError> for ArgumentsFault<A> {
     }
 }
 
-/// Answers what the arguments ask for, of which the first is the program's name. A list, or rows, are asked for by the second one alone, and so is
-/// a part of a log.
+/// Answers what the arguments ask for, of which the first is the program's name. A list, rows or a report are asked for by the second one alone, and
+/// so is a part of a log.
 /// The parser takes its memory from the system, and the time zone of a list is read from the system's files.
 pub fn read_arguments<'a, R: Files + Env + AllocGlobal, A: Allocator + Copy>(
     rt: &R,
@@ -123,12 +127,12 @@ fn read_escaped<'a, R: AllocGlobal, A: Allocator + Copy>(
     }
 }
 
-/// Whether the argument behind the program's name is `list` or `show`.
+/// Whether the argument after the program's name is `list`, `show` or `report`.
 fn asks_for_list(arguments: &[String]) -> bool
     ensures { result ≡ asks_for_list arguments.now }
 {
     match arguments.get(1) {
-        Some(name) => name.as_str() == LIST || name.as_str() == SHOW,
+        Some(name) => { name.as_str() == LIST || name.as_str() == SHOW || name.as_str() == REPORT }
         None => false,
     }
 }
@@ -202,6 +206,9 @@ fn read_matches<'a, R: Files + Env + AllocGlobal, A: Allocator + Copy>(
         Some((name, found)) if name == REDO && parts => {
             Ok(Asked::Part(read_part(rt, alloc, command, found, Order::Forward)?))
         }
+        Some((name, found)) if name == REPORT && lists => {
+            Ok(Asked::Report(read_report(rt, alloc, command, found)?))
+        }
         _ => Err(ArgumentsFault::Wrong(wrong_command(alloc, command)?)),
     }
 }
@@ -218,7 +225,7 @@ fn as_log(size: u32) -> Writing<'static>
 }
 
 /// What is told where there is no command, or another one. The parser tells it by itself of most arguments.
-const GIVE_A_COMMAND: &str = "give a command: list, show, undo, redo, plain, split or sql";
+const GIVE_A_COMMAND: &str = "give a command: list, show, report, undo, redo, plain, split or sql";
 
 fn wrong_command<A: Allocator>(
     alloc: A,

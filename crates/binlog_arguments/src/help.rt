@@ -2,8 +2,8 @@
 
 /// What the program is for.
 pub const ABOUT: &str = "\
-Lists what can be undone of a binary log of MySQL or MariaDB, shows its rows, and prints SQL that undoes it.
-Prepares logs for flashback, cuts large statements, and prints logs as SQL.";
+Lists what can be undone of a binary log of MySQL or MariaDB, shows its rows, draws it as a page, and prints SQL
+that undoes it. Prepares logs for flashback, cuts large statements, and prints logs as SQL.";
 
 /// How it is called.
 pub const USAGE: &str = "\
@@ -11,10 +11,12 @@ binlog list [-d NAME] [-T NAME] [-j POS] [--stop-position POS]
                    [--start-datetime TIME] [--stop-datetime TIME]
                    [--utc | --time-zone NAME] [--json] LOG..
        binlog show [-d NAME] [-T NAME] [-j POS] [--stop-position POS] [--at POS]
-                   [--utc | --time-zone NAME] [--all-columns] LOG..
+                   [--utc | --time-zone NAME] [--all-columns] [--json | --csv] LOG..
+       binlog report [-d NAME] [-T NAME] [-j POS] [--stop-position POS]
+                   [--utc | --time-zone NAME] [--text] [-r FILE [--force]] LOG..
        binlog undo [--later LOG].. [--leave | --anyway] [-j POS] [--stop-position POS]
                    [-d NAME] [-T NAME]
-                   [--dry-run] [-r FILE [--force]] LOG..
+                   [--dry-run] [--show] [-r FILE [--force]] LOG..
        binlog redo [-j POS] [--stop-position POS] [-d NAME] [-T NAME]
                    [--dry-run] [-r FILE [--force]] LOG..
        binlog plain [-r FILE [--force]] LOG
@@ -30,6 +32,8 @@ Examples:
       and which rows it changes, or why it can't be undone
   binlog show --at 4021 binlog.000042
       show the rows that a transaction changes
+  binlog report binlog.000042 -r report.html
+      draw when which rows were changed, on a page for a browser
   binlog undo -j 4021 --stop-position 9144 binlog.000042 -r undo.sql
       write SQL that undoes the transactions from one position to another
   binlog plain binlog.000042 -r plain.000042
@@ -154,7 +158,7 @@ pub const SHOW_USAGE: &str = "\
 binlog show [--at POS].. [-j POS] [--stop-position POS] [-d NAME] [-T [NAME.]NAME]..
                    [--exclude-table [NAME.]NAME].. [--thread N].. [--gtid GTID]..
                    [--start-datetime TIME] [--stop-datetime TIME] [--utc | --time-zone NAME]
-                   [--all-columns] [--width COLUMNS] [--skip-damaged] LOG..";
+                   [--all-columns] [--width COLUMNS] [--json | --csv] [--skip-damaged] LOG..";
 
 /// What there is to know of `show`, with examples.
 pub const SHOW_AFTER_HELP: &str = "\
@@ -165,6 +169,12 @@ digits, and so are bytes. TIMESTAMP is printed in the time zone that other times
 If LOG doesn't say whether a column is UNSIGNED, as that of MariaDB, a negative number is followed by the number
 that it is without a sign: -1 (255). ENUM and SET are printed as numbers unless LOG has their texts.
 A value that isn't what its type says is printed as ?0x and hexadecimal digits.
+With --json each row is an object with log, position, time, op, schema, table, before and after: op is insert,
+update or delete, and before and after have all columns of the row, or are null. Whole numbers up to 2^53 are
+numbers, and so are FLOAT, DOUBLE and YEAR; a document of MySQL's JSON is one; other values are strings, whole.
+With --csv the columns of a row are behind its position, time, op, schema and table. An update has two lines, of
+op update-before and update-after. NULL is an empty field, and an empty text is \"\". A line with the names of
+the columns is above the rows of each table.
 Positions are bytes from the start of the file, decimal, 0 to 4294967295. Names are compared byte by byte.
 
 Examples:
@@ -180,6 +190,45 @@ Examples:
       texts of up to 200 columns
   binlog show --utc --thread 13 binlog.000042
       the rows that one connection of a client changed, with times in UTC
+  binlog show --json --at 4021 binlog.000042
+      the rows as JSON, for other programs
+  binlog show --csv -T shop.orders binlog.000042
+      the rows of one table as CSV, for a spreadsheet
+
+Exit status: 0 done, 1 the log is refused, ends too early, or something failed, 2 the arguments are wrong.";
+
+/// What `report` does.
+pub const REPORT_ABOUT: &str = "\
+Draws what the transactions of the LOGs change, as one page for a browser: how many rows were inserted, updated
+and deleted when, and of which table; the transactions with the most rows, and those that took longest; and those
+that can't be undone, and why. Each has the command that shows its rows, and the one that undoes it, to copy.
+The page needs no network. With --text the same is written as text.
+The transactions are those that binlog list lists with the same options. -j is a position of the first LOG, and
+--stop-position one of the last.
+Each checksum of LOG is checked, if it has checksums. Positions are those of LOG, as mysqlbinlog shows them.";
+
+/// How `report` is called.
+pub const REPORT_USAGE: &str = "\
+binlog report [-d NAME] [-T [NAME.]NAME].. [--exclude-table [NAME.]NAME].. [-j POS]
+                     [--stop-position POS] [--thread N].. [--gtid GTID].. [--start-datetime TIME]
+                     [--stop-datetime TIME] [--utc | --time-zone NAME] [--interval SECONDS]
+                     [--text] [--skip-damaged] [-r FILE [--force]] LOG..";
+
+/// What there is to know of `report`, with examples.
+pub const REPORT_AFTER_HELP: &str = "\
+Rows are counted by intervals. Unless you give their length, it is chosen so that they are 120 to 240; one that
+you give is doubled while they are more than 2,000.
+If a LOG ends too early or is damaged, the report has what is in front of that, and the exit status is 1.
+
+Examples:
+  binlog report binlog.000042 -r report.html
+      a page of a log; -r is the same as --result-file
+  binlog report --utc -T shop.orders binlog.000041 binlog.000042 -r report.html
+      a page of the rows of one table in two logs, with times in UTC
+  binlog report --interval 60 binlog.000042 -r report.html --force
+      count rows by minutes, and replace the page
+  binlog report --text binlog.000042
+      the same tables on a terminal
 
 Exit status: 0 done, 1 the log is refused, ends too early, or something failed, 2 the arguments are wrong.";
 
@@ -277,7 +326,8 @@ binlog undo [--later LOG].. [--leave | --anyway] [-j POS] [--stop-position POS] 
                    [--thread N].. [--gtid GTID].. [--start-datetime TIME] [--stop-datetime TIME]
                    [-d NAME] [-T [NAME.]NAME]
                    [--each-transaction] [--keep-times] [--rewrite-db FROM:TO].. [--size BYTES]
-                   [--utc | --time-zone NAME] [--binlog] [--dry-run] [-r FILE [--force]] LOG..";
+                   [--utc | --time-zone NAME] [--binlog] [--dry-run] [--show]
+                   [-r FILE [--force]] LOG..";
 
 /// What there is to know of `undo`, with examples.
 pub const UNDO_AFTER_HELP: &str = "\
@@ -293,11 +343,15 @@ unless --utc or --time-zone is given. Lines that say where rows were changed sin
 The last line that the client prints has to say COMMIT. ROLLBACK, or no such line, means that nothing
 was changed. Tables of an engine without transactions, such as MyISAM, keep what was changed before an error.
 With --binlog a binary log is written, as by flashback -B and binlog split. It isn't written to a terminal.
+With --show nothing is written: the report is printed, and then each row as it would be written, as binlog show
+prints rows: a row that was deleted is an INSERT. Positions are those that the rows would have with --binlog.
 What is written has rows of LOG in it: FILE appears once it is whole, and only its owner may read it.
 
 Examples:
   binlog undo -j 4021 --stop-position 9144 binlog.000042 --dry-run
       see what would be undone, and whether it can be
+  binlog undo -j 4021 --stop-position 9144 binlog.000042 --show
+      see the rows, too
   binlog undo -j 4021 --stop-position 9144 binlog.000042 -r undo.sql
       write to a file that isn't there yet; -r is the same as --result-file, -j as --start-position
   binlog undo -j 4021 --stop-position 9144 binlog.000042 -r undo.sql --force
@@ -353,7 +407,8 @@ binlog redo [-j POS] [--stop-position POS] [--at POS]..
                    [--thread N].. [--gtid GTID].. [--start-datetime TIME] [--stop-datetime TIME]
                    [-d NAME] [-T [NAME.]NAME]
                    [--each-transaction] [--keep-times] [--rewrite-db FROM:TO].. [--size BYTES]
-                   [--utc | --time-zone NAME] [--binlog] [--dry-run] [-r FILE [--force]] LOG..";
+                   [--utc | --time-zone NAME] [--binlog] [--dry-run] [--show]
+                   [-r FILE [--force]] LOG..";
 
 /// What there is to know of `redo`, with examples.
 pub const REDO_AFTER_HELP: &str = "\

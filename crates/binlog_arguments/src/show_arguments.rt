@@ -6,7 +6,7 @@ ghost use Rattle.binlog_arguments.specs.Request.{IsShowTask, RefusesShow};
 
 use crate::arguments::{ArgumentsFault, is_given, read_number};
 use crate::list_arguments::{ListTask, read_list, read_numbers};
-use crate::options::{ALL_COLUMNS, AT, DEFAULT_WIDTH, WIDTH};
+use crate::options::{ALL_COLUMNS, AT, CSV, DEFAULT_WIDTH, WIDTH};
 use clap::{ArgMatches, Command};
 use console::POSITION;
 use std::alloc::Allocator;
@@ -23,6 +23,8 @@ pub struct ShowTask<'a, A: Allocator> {
     pub all_columns: bool,
     /// In how many columns of a terminal a text is shown.
     pub width: u32,
+    /// Whether the rows are written as CSV.
+    pub as_csv: bool,
 }
 
 /// What a width is, as it is reported of a value that is none.
@@ -46,5 +48,6 @@ pub(crate) fn read_show<'a, R: Files + Env + AllocGlobal, A: Allocator + Copy>(
         at,
         all_columns: is_given(found, ALL_COLUMNS),
         width: width.unwrap_or(DEFAULT_WIDTH),
+        as_csv: is_given(found, CSV),
     })
 }

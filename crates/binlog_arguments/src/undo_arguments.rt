@@ -1,15 +1,15 @@
 //! Which arguments of `undo` and `redo` mean what.
 
-ghost use Rattle.std.specs.Prelude.{◌≡◌, IfErr, IfOk, codes, drop, map};
+ghost use Rattle.std.specs.Prelude.{◌≡◌, ◌||◌, IfErr, IfOk, codes, drop, map};
 ghost use Rattle.clap.specs.Words.{found_of};
 ghost use Rattle.blog_run.specs.Writing.{HasShortWriting};
 ghost use Rattle.blog_sql.specs.Changed.{HaveShortNames};
 ghost use Rattle.blog_trans.specs.Selection.{selection_of};
-ghost use Rattle.binlog_arguments.specs.Request.{HasPartWriting, HasLogs, IsPart, IsPartTask, IsWrong, RefusesLogs, RefusesPart, all_values, later_paths, leaves_rows, looks_later};
+ghost use Rattle.binlog_arguments.specs.Request.{HasPartWriting, HasLogs, IsPart, IsPartTask, IsWrong, RefusesLogs, RefusesPart, all_values, is_given, later_paths, leaves_rows, looks_later};
 
 use crate::arguments::{ArgumentsFault, is_given};
 use crate::list_arguments::{read_paths, read_range, read_zone};
-use crate::options::{ANYWAY, AS_LOG, AT, DATABASE, DRY_RUN, LATER, LEAVE, LOG, TABLE};
+use crate::options::{ANYWAY, AS_LOG, AT, DATABASE, DRY_RUN, LATER, LEAVE, LOG, SHOW_ROWS, TABLE};
 use crate::sql_arguments::{SqlTask, read_sql};
 use crate::unit_choice::{UnitChoice, read_unit_choice};
 use crate::zones::Zone;
@@ -37,8 +37,10 @@ pub struct PartTask<'a, A: Allocator> {
     pub order: Order,
     /// Whether they are written as a log, and not as SQL.
     pub as_log: bool,
-    /// Whether nothing but the report is written.
+    /// Whether nothing but the report is written, with the rows or without.
     pub dry_run: bool,
+    /// Whether the rows are printed as they would be written.
+    pub shows_rows: bool,
     /// Whether what came later in the log is looked at, so that nothing is written if it touches the part.
     pub looks: bool,
     /// Whether rows that were changed since are left as they are, and the others are undone.
@@ -91,12 +93,20 @@ pub(crate) fn read_part<'a, R: Files + Env + AllocGlobal, A: Allocator + Copy>(
         units,
         order,
         as_log: is_given(found, AS_LOG),
-        dry_run: is_given(found, DRY_RUN),
+        dry_run: is_dry_run(found),
+        shows_rows: is_given(found, SHOW_ROWS),
         looks: looks(found, order),
         leaves: leaves(found, order),
         later: read_later(alloc, found, order)?,
         zone,
     })
+}
+
+/// Whether nothing but the report is written, with the rows or without.
+fn is_dry_run(found: &ArgMatches<'_>) -> bool
+    ensures { result ≡ (is_given (found_of found.now) (codes "dry-run") || is_given (found_of found.now) (codes "show")) }
+{
+    is_given(found, DRY_RUN) || is_given(found, SHOW_ROWS)
 }
 
 /// Whether what came later is looked at: by `undo`, unless it is told not to.

@@ -21,6 +21,7 @@ ghost use Rattle.binlog_arguments.specs.declared.arguments.Making.TheVariants as
 use crate::list_runs::run_list;
 use crate::log_file::{LogFault, open_log};
 use crate::part_runs::run_part_of;
+use crate::report_runs::run_report;
 use crate::schemas::no_schema;
 use crate::show_runs::run_show;
 use binlog_arguments::{
@@ -253,6 +254,7 @@ fn carry_out<'a, R: Files + Env + AllocGlobal, A: Allocator + Copy, O: Write, E:
         }
         Asked::List(task) => run_list(rt, alloc, process.seed, &task, output, errors)?,
         Asked::Show(task) => run_show(rt, alloc, process.seed, &task, output, errors)?,
+        Asked::Report(task) => run_report(rt, alloc, process, &task, output, errors)?,
         Asked::Part(task) => {
             check_part_output(process, &task)?;
             run_part_of(rt, alloc, process, &task, output, errors)?
@@ -478,7 +480,7 @@ fn new_log_to_file<'a, R: Files, A: Allocator + Copy, D: Read>(
     requires { HasShortMaking making }
     ensures status { IfErr result (λ f. status_of f ≡ 1) }
 {
-    let mut file = ResultFile::create(rt, alloc, wanted)?;
+    let mut file = ResultFile::create(rt, alloc, wanted, &[])?;
     match new_log_to_output(alloc, seed, reader, making, &mut file.writer) {
         Ok(()) => Ok(file.finish(rt)?),
         Err(fault) => match file.discard(rt) {

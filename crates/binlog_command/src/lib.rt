@@ -7,6 +7,7 @@ mod list_runs;
 mod log_file;
 mod part_runs;
 mod reasons;
+mod report_runs;
 mod schemas;
 mod show_runs;
 

@@ -14,11 +14,17 @@ ghost use Rattle.undo_run.specs.declared.fault.LogsFault.TheVariants.{Part};
 use crate::commands::{Failure, Process};
 use crate::log_file::open_logs;
 use binlog_arguments::{PartTask, UnitChoice};
-use blog_device::{Watched, put};
+use blog_choice::TableChoice;
+use blog_device::{RunFault, Watched, put};
+use blog_event::Fault;
+use blog_request::Wanted as WantedUnits;
 use blog_run::Writing;
+use blog_show::{RowForm, RowStyle};
+use blog_source::Reading;
 use blog_trans::Selection;
-use list_run::GivenLog;
+use list_run::{GivenLog, ListFault};
 use result_file::{ResultFile, Wanted};
+use show_run::show_logs;
 use std::alloc::{AllocError, Allocator};
 use std::io;
 use std::io::{Read, Write};
@@ -56,6 +62,17 @@ pub(crate) fn run_part_of<'a, R: Files, A: Allocator + Copy, O: Write, E: Write>
     let mut logs = open_logs(rt, alloc, &paths)?;
     let mut given = logs.remove(0);
     let parts = split_logs(alloc, logs, task.further.len())?;
+    if task.shows_rows {
+        return show_part(
+            alloc,
+            process,
+            &mut given.reader,
+            parts.further,
+            parts.later,
+            task,
+            output,
+        );
+    }
     run_part(
         rt,
         alloc,
@@ -177,6 +194,118 @@ pub(crate) fn run_part<
             )?;
             tell(&told, output)
         }
+    }
+}
+
+/// Reports the part of a task's logs, or the units of it that are asked for, and then shows the rows as they would be written. Both are held in
+/// memory before they are printed.
+fn show_part<'a, A: Allocator + Copy, D: Read, L: Read + Drop, O: Write>(
+    alloc: A,
+    process: Process,
+    reader: &mut Watched<D>,
+    further: Vec<GivenLog<'a, L>, A>,
+    later: Vec<GivenLog<'a, L>, A>,
+    task: &PartTask<'a, A>,
+    output: &mut Watched<O>,
+) -> Result<(), Failure<'a, A>>
+    ensures status { IfErr result (λ f. status_of f ≡ 1) }
+    ensures refused { OnErr result (has_failed output.new ≡ false → output.new ≡ output.old) }
+{
+    let units = request(&task.units, &task.part, task.leaves);
+    let writing = Writing {
+        order: task.order,
+        limit: task.sql.size as usize,
+        sql: None,
+    };
+    let mut log = Watched::new(Vec::new(alloc));
+    let told = match part_to(
+        alloc, process, reader, further, later, task, units, &writing, &mut log,
+    ) {
+        Ok(told) => told,
+        Err(failure) => return Err(in_memory(failure, log.failed())),
+    };
+    let mut text = Watched::new(told);
+    match show_written(alloc, process.seed, log.device(), task, &mut text) {
+        Ok(()) => tell(text.device(), output),
+        Err(failure) => Err(in_memory(failure, text.failed())),
+    }
+}
+
+/// Why something isn't written to memory: where a write failed, memory was refused.
+fn in_memory<A: Allocator>(failure: Failure<'_, A>, failed: bool) -> Failure<'_, A>
+    ensures { status_of failure.entry ≡ 1 → status_of result ≡ 1 }
+{
+    if failed {
+        Failure::List(None, ListFault::Run(RunFault::Log(Fault::OutOfMemory)))
+    } else {
+        failure
+    }
+}
+
+/// Appends the rows that a log changes which was written for a task.
+fn show_written<'a, A: Allocator + Copy, W: Write>(
+    alloc: A,
+    seed: u64,
+    log: &[u8],
+    task: &PartTask<'a, A>,
+    text: &mut Watched<W>,
+) -> Result<(), Failure<'a, A>>
+    ensures status { IfErr result (λ f. status_of f ≡ 1) }
+{
+    let logs = one_log(alloc, task.sql.log, log)?;
+    let style = RowStyle {
+        zone: task.zone.time_zone(),
+        form: RowForm::Lines,
+        all_columns: false,
+        width: SHOWN_COLUMNS,
+    };
+    match show_logs(
+        alloc,
+        logs,
+        Reading::ALL,
+        &every_unit(),
+        &[],
+        seed,
+        &style,
+        &mut None,
+        text,
+    ) {
+        Ok(_) => Ok(()),
+        Err((_, fault)) => Err(Failure::List(None, fault)),
+    }
+}
+
+/// A log in memory, by a name.
+fn one_log<'n, 'l: 'n, A: Allocator + Copy>(
+    alloc: A,
+    name: &'n str,
+    log: &'l [u8],
+) -> Result<Vec<GivenLog<'n, &'l [u8]>, A>, AllocError> {
+    let mut logs = Vec::new(alloc);
+    logs.push(GivenLog {
+        name,
+        reader: Watched::new(log),
+    })?;
+    Ok(logs)
+}
+
+/// In how many columns of a terminal a text is shown.
+const SHOWN_COLUMNS: usize = 60;
+
+/// All units of a log.
+fn every_unit() -> WantedUnits<'static> {
+    WantedUnits {
+        start: None,
+        stop: None,
+        from_time: None,
+        to_time: None,
+        threads: &[],
+        gtids: &[],
+        choice: TableChoice {
+            database: None,
+            tables: &[],
+            excluded: &[],
+        },
     }
 }
 
@@ -321,7 +450,8 @@ fn part_to_file<'a, R: Files, A: Allocator + Copy, D: Read, L: Read + Drop>(
     ensures status { IfErr result (λ f. status_of f ≡ 1) }
     ensures told { IfOk result (λ told. IsToldOf L.remaining later.entry.items further.entry.items writing.now task.now units.entry (D.remaining (device_of reader.old)) (D.remaining (device_of reader.new)) told.items) }
 {
-    let mut file = ResultFile::create(rt, alloc, wanted)?;
+    let logs = paths_of(alloc, task)?;
+    let mut file = ResultFile::create(rt, alloc, wanted, &logs)?;
     match part_to(
         alloc,
         process,

@@ -9,8 +9,9 @@ use crate::log_file::open_logs;
 use crate::reasons::tell_reason;
 use binlog_arguments::ShowTask;
 use blog_device::Watched;
+use blog_list::Form;
 use blog_reasons::Reasons;
-use blog_show::RowStyle;
+use blog_show::{RowForm, RowStyle};
 use console::put_line;
 use list_run::GivenLog;
 use show_run::show_logs;
@@ -54,6 +55,7 @@ fn show_given<'a, A: Allocator + Copy, D: Read + Drop, O: Write, E: Write>(
     let several = logs.len() > 1;
     let style = RowStyle {
         zone: task.units.zone.time_zone(),
+        form: form_of(task),
         all_columns: task.all_columns,
         width: task.width as usize,
     };
@@ -78,6 +80,17 @@ fn show_given<'a, A: Allocator + Copy, D: Read + Drop, O: Write, E: Write>(
         }
         Err((n, fault)) if several || n > 0 => Err(Failure::List(Some(task.units.path(n)), fault)),
         Err((_, fault)) => Err(Failure::List(None, fault)),
+    }
+}
+
+/// The form in which a task shows rows. In JSON each log has its own name.
+fn form_of<A: Allocator>(task: &ShowTask<'_, A>) -> RowForm<'static> {
+    if task.as_csv {
+        return RowForm::Csv;
+    }
+    match task.units.form {
+        Form::Text => RowForm::Lines,
+        Form::Json => RowForm::Json { log: b"" },
     }
 }
 

@@ -5,3 +5,5 @@ pub mod Merging
 pub mod Columns
 pub mod Values
 pub mod Differences
+pub mod PartsMerged
+pub mod TouchingPairs

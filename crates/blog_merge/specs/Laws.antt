@@ -3,8 +3,9 @@ use Rattle.std.specs.Prelude.{◌≡◌, ℕ, Bool, true, not, if◌then◌else�
 use Rattle.std.specs.List.{list_all}
 use Rattle.blog_row.specs.Image.{Row}
 use Rattle.blog_flash.specs.States.{State, apply_all, inverse_all, is_same_value}
-use Rattle.blog_undo.specs.Mixed.{Marked, all_changes, is_same_row, is_untouched, selected_changes}
+use Rattle.blog_undo.specs.Mixed.{Marked, TableRow, all_changes, is_same_row, is_untouched, selected_changes}
 use Rattle.blog_undo.specs.Part.{SelectsWithin, untouched_part}
+use Rattle.blog_untouched.specs.ByPrints.{part_by}
 use Rattle.blog_merge.specs.Merge.{has_no_selected_delete, pairs_of, rebased, staying, updates_of}
 use Rattle.blog_merge.specs.Pairs.{Pair, real_row, real_rows, with_rows, would_row, would_rows}
 
@@ -58,6 +59,10 @@ UndoesAndMerges ms part = (before after : State) → SelectsWithin part ms → i
 -- the same for the greatest such part, without a premise
 abbrev pub UndoesAndMergesAll : List Marked → Type 0
 UndoesAndMergesAll ms = (before after : State) → apply_all (all_changes ms) before ≡ Some after → IsUndoneAndMerged ms (untouched_part ms) before after
+
+-- the same for the part that is found by fingerprints of rows
+abbrev pub UndoesAndMergesBy : (TableRow → ℕ) → List Marked → Type 0
+UndoesAndMergesBy f ms = (before after : State) → apply_all (all_changes ms) before ≡ Some after → IsUndoneAndMerged ms (part_by f ms) before after
 
 -- ---- pairs
 

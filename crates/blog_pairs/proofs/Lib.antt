@@ -5,3 +5,12 @@ pub mod Writing
 pub mod Lengths
 pub mod Prefixes
 pub mod Texts
+pub mod EachSlot
+pub mod RowPlaces
+pub mod Pairing
+pub mod Indexing
+pub mod Holding
+pub mod Keeping
+pub mod Fitted
+pub mod Stepping
+pub mod Tabled

@@ -1,14 +1,14 @@
-//! Values of columns.
+//! Values of columns on lines for people.
 
-use crate::lines::RowStyle;
-use crate::texts::{Scratch, put_bytes, put_quoted, put_string};
-use blog_columns::{CharacterSet, Column, Sign};
+use crate::forms::RowStyle;
+use crate::scratch::{Clock, Scratch};
+use crate::tables::{LastMap, ShownColumn};
+use crate::texts::{put_bytes, put_quoted, put_string};
+use crate::values::{enum_text, is_unsigned, put_members, put_plain, put_timestamp, value_of};
+use blog_columns::{Column, Sign};
 use blog_json::put_document;
-use blog_list::time_text;
 use blog_text::{put_number, put_text};
-use blog_value::{
-    ColumnType, Timestamp, Value, put_fraction, put_signed, put_unsigned, put_value, read_value,
-};
+use blog_value::{Timestamp, Value, put_signed, put_unsigned};
 use std::alloc::{AllocError, Allocator};
 
 /// Appends a negative number, and in brackets the number that its bytes are if they have no sign, if the map doesn't say.
@@ -22,7 +22,7 @@ fn put_signed_or_not<A: Allocator>(
     if number >= 0 || column.sign != Sign::Unknown {
         return Ok(());
     }
-    match read_value(&type_of(column), true, bytes) {
+    match value_of(column, true, bytes) {
         Value::Unsigned(other) => {
             put_text(out, b" (")?;
             put_unsigned(out, other)?;
@@ -32,70 +32,31 @@ fn put_signed_or_not<A: Allocator>(
     }
 }
 
-/// Appends a time since 1970 as a clock in a zone shows it.
-fn put_timestamp<A: Allocator>(
-    out: &mut Vec<u8, A>,
-    time: &Timestamp,
-    style: &RowStyle<'_>,
-) -> Result<(), AllocError> {
-    if time.seconds == 0 {
-        put_text(out, b"'0000-00-00 00:00:00")?;
-    } else {
-        put_text(out, b"'")?;
-        put_text(out, time_text(style.zone, time.seconds).as_bytes())?;
-    }
-    put_fraction(out, &time.fraction)?;
-    put_text(out, b"'")
-}
-
 /// Appends a value of an ENUM: its text if the map has it, else its number.
 fn put_enum<A: Allocator>(
     out: &mut Vec<u8, A>,
     scratch: &mut Scratch<A>,
-    column: &Column<'_>,
+    text: Option<&[u8]>,
     number: u64,
     width: usize,
 ) -> Result<(), AllocError> {
-    match number.checked_sub(1) {
-        Some(n) => match column.member(n) {
-            Some(text) => put_quoted(out, &mut scratch.doubled, text, width),
-            None => put_number(out, number),
-        },
-        None => put_text(out, b"''"),
+    match text {
+        Some(text) => put_quoted(out, &mut scratch.changed, text, width),
+        None => put_number(out, number),
     }
-}
-
-/// Puts the texts of a SET's bits in place of what is there. Returns whether the map has each of them.
-fn put_members<A: Allocator>(
-    scratch: &mut Vec<u8, A>,
-    column: &Column<'_>,
-    bits: u64,
-) -> Result<bool, AllocError> {
-    scratch.clear();
-    for n in 0..64u64 {
-        if bits >> n & 1 == 1 {
-            let Some(text) = column.member(n) else {
-                return Ok(false);
-            };
-            if !scratch.is_empty() {
-                put_text(scratch, b",")?;
-            }
-            put_text(scratch, text)?;
-        }
-    }
-    Ok(true)
 }
 
 /// Appends a value of a SET: its texts if the map has them, else its number.
-fn put_set<A: Allocator>(
+fn put_set<'a, A: Allocator, B: Allocator>(
     out: &mut Vec<u8, A>,
     scratch: &mut Scratch<A>,
-    column: &Column<'_>,
+    map: &LastMap<'a, B>,
+    column: &ShownColumn<'a>,
     bits: u64,
     width: usize,
 ) -> Result<(), AllocError> {
-    if put_members(&mut scratch.text, column, bits)? {
-        put_quoted(out, &mut scratch.doubled, &scratch.text, width)
+    if put_members(&mut scratch.text, map, column, bits)? {
+        put_quoted(out, &mut scratch.changed, &scratch.text, width)
     } else {
         put_number(out, bits)
     }
@@ -110,7 +71,7 @@ fn put_json<A: Allocator>(
 ) -> Result<(), AllocError> {
     scratch.text.clear();
     if put_document(&mut scratch.text, document)? {
-        put_quoted(out, &mut scratch.doubled, &scratch.text, width)
+        put_quoted(out, &mut scratch.changed, &scratch.text, width)
     } else {
         put_unknown(out, document, width)
     }
@@ -126,40 +87,38 @@ fn put_unknown<A: Allocator>(
     put_bytes(out, bytes, width)
 }
 
-/// The type of a column.
-fn type_of<'a>(column: &Column<'a>) -> ColumnType<'a> {
-    ColumnType {
-        kind: column.kind,
-        metadata: column.metadata,
-    }
-}
-
-/// Appends the text of a value that says all of it.
-fn put_plain<A: Allocator>(out: &mut Vec<u8, A>, value: &Value<'_>) -> Result<(), AllocError> {
-    put_value(out, value)?;
-    Ok(())
-}
-
-/// Appends the same between single quotes.
+/// Appends the text of a value that says all of it between single quotes.
 fn put_in_quotes<A: Allocator>(out: &mut Vec<u8, A>, value: &Value<'_>) -> Result<(), AllocError> {
     put_text(out, b"'")?;
     put_plain(out, value)?;
     put_text(out, b"'")
 }
 
+/// Appends a time since 1970 between single quotes.
+fn put_quoted_timestamp<A: Allocator>(
+    out: &mut Vec<u8, A>,
+    clock: &mut Clock<A>,
+    time: &Timestamp,
+    style: &RowStyle<'_>,
+) -> Result<(), AllocError> {
+    put_text(out, b"'")?;
+    put_timestamp(out, clock, time, style)?;
+    put_text(out, b"'")
+}
+
 /// Appends a value that isn't NULL.
-fn put_present<A: Allocator>(
+fn put_present<'a, A: Allocator, B: Allocator>(
     out: &mut Vec<u8, A>,
     scratch: &mut Scratch<A>,
-    column: &Column<'_>,
+    map: &LastMap<'a, B>,
+    column: &ShownColumn<'a>,
     bytes: &[u8],
     style: &RowStyle<'_>,
 ) -> Result<(), AllocError> {
     let width = style.width;
-    let unsigned = column.sign == Sign::Unsigned;
-    let value = read_value(&type_of(column), unsigned, bytes);
+    let value = value_of(&column.column, is_unsigned(&column.column), bytes);
     match value {
-        Value::Signed(number) => put_signed_or_not(out, number, column, bytes),
+        Value::Signed(number) => put_signed_or_not(out, number, &column.column, bytes),
         Value::Unsigned(_)
         | Value::Decimal(_)
         | Value::Float(_)
@@ -167,11 +126,13 @@ fn put_present<A: Allocator>(
         | Value::Year(_)
         | Value::Bits(_) => put_plain(out, &value),
         Value::Date(_) | Value::Time(_) | Value::DateTime(_) => put_in_quotes(out, &value),
-        Value::Timestamp(time) => put_timestamp(out, &time, style),
-        Value::Enum(number) => put_enum(out, scratch, column, number, width),
-        Value::Set(bits) => put_set(out, scratch, column, bits, width),
+        Value::Timestamp(time) => put_quoted_timestamp(out, &mut scratch.clock, &time, style),
+        Value::Enum(number) => {
+            put_enum(out, scratch, enum_text(map, column, number), number, width)
+        }
+        Value::Set(bits) => put_set(out, scratch, map, column, bits, width),
         Value::Text(text) | Value::Blob(text) => {
-            put_string(out, scratch, text, column.set, width)
+            put_string(out, scratch, text, column.column.set, width)
         }
         Value::Json(document) => put_json(out, scratch, document, width),
         Value::Geometry(bytes) => put_bytes(out, bytes, width),
@@ -180,15 +141,16 @@ fn put_present<A: Allocator>(
 }
 
 /// Appends a value, or NULL.
-pub(crate) fn put_cell<A: Allocator>(
+pub(crate) fn put_cell<'a, A: Allocator, B: Allocator>(
     out: &mut Vec<u8, A>,
     scratch: &mut Scratch<A>,
-    column: &Column<'_>,
+    map: &LastMap<'a, B>,
+    column: &ShownColumn<'a>,
     value: Option<&[u8]>,
     style: &RowStyle<'_>,
 ) -> Result<(), AllocError> {
     match value {
-        Some(bytes) => put_present(out, scratch, column, bytes, style),
+        Some(bytes) => put_present(out, scratch, map, column, bytes, style),
         None => put_text(out, b"NULL"),
     }
 }

@@ -1,7 +1,6 @@
 //! Names of tables and columns: as they are where nobody can mistake them, else between backticks.
 
-use blog_columns::Column;
-use blog_text::{put_escaped, put_number, put_text};
+use blog_text::{put_escaped, put_text};
 use std::alloc::{AllocError, Allocator};
 
 /// Whether a byte can be in a name that isn't quoted.
@@ -34,19 +33,4 @@ pub(crate) fn put_table<A: Allocator>(
     put_name(out, schema)?;
     put_text(out, b".")?;
     put_name(out, table)
-}
-
-/// Appends the name of a column, or its number from 1 on after `@`.
-pub(crate) fn put_column<A: Allocator>(
-    out: &mut Vec<u8, A>,
-    column: &Column<'_>,
-    n: usize,
-) -> Result<(), AllocError> {
-    match column.name {
-        Some(name) => put_name(out, name),
-        None => {
-            put_text(out, b"@")?;
-            put_number(out, (n as u64).saturating_add(1))
-        }
-    }
 }

@@ -1,20 +1,15 @@
 //! Texts and bytes as values, cut to a width.
 
+use crate::scratch::Scratch;
 use blog_columns::CharacterSet;
-use blog_text::{put_beginning, put_byte, put_text};
+use blog_text::{put_beginning, put_hex, put_text};
 use std::alloc::{AllocError, Allocator};
-
-/// Texts that are made before they are appended.
-#[derive(Drop)]
-pub(crate) struct Scratch<A: Allocator> {
-    /// A text that isn't in the log as it is shown.
-    pub(crate) text: Vec<u8, A>,
-    /// A text with its single quotes doubled.
-    pub(crate) doubled: Vec<u8, A>,
-}
 
 /// The most characters of a value in each column of its width: characters can be in no column.
 const CHARACTERS_A_COLUMN: usize = 4;
+
+/// How many bytes are written as digits at once.
+const BYTES_AT_ONCE: usize = 16;
 
 /// The characters of Windows-1252 from 128 to 159. The five that it lacks are control characters, as MySQL has them in latin1.
 const WINDOWS: [char; 32] = [
@@ -33,15 +28,36 @@ fn latin1_char(byte: u8) -> char {
 }
 
 /// Puts a text of latin1 in place of what is there, as UTF-8.
-fn put_latin1<A: Allocator>(scratch: &mut Vec<u8, A>, text: &[u8]) -> Result<(), AllocError> {
+pub(crate) fn put_latin1<A: Allocator>(
+    scratch: &mut Vec<u8, A>,
+    text: &[u8],
+) -> Result<(), AllocError> {
     scratch.clear();
     for byte in text {
-        put_text(
-            scratch,
-            latin1_char(*byte).encode_utf8(&mut [0; 4]).as_bytes(),
-        )?;
+        if byte.is_ascii() {
+            scratch.push(*byte)?;
+        } else {
+            put_text(
+                scratch,
+                latin1_char(*byte).encode_utf8(&mut [0; 4]).as_bytes(),
+            )?;
+        }
     }
     Ok(())
+}
+
+/// Appends bytes in hexadecimal digits.
+pub(crate) fn put_digits<A: Allocator>(
+    out: &mut Vec<u8, A>,
+    bytes: &[u8],
+) -> Result<(), AllocError> {
+    let mut rest = bytes;
+    'parts: while rest.len() > BYTES_AT_ONCE {
+        let (part, others) = rest.split_at(BYTES_AT_ONCE);
+        put_hex(out, part)?;
+        rest = others;
+    }
+    put_hex(out, rest)
 }
 
 /// Appends bytes in hexadecimal digits, as many as fit in this many columns. Two points follow if these aren't all.
@@ -52,13 +68,12 @@ pub(crate) fn put_bytes<A: Allocator>(
 ) -> Result<(), AllocError> {
     put_text(out, b"0x")?;
     let most = width / 2;
-    for n in 0..bytes.len() {
-        if n == most {
-            return put_text(out, b"..");
-        }
-        put_byte(out, bytes[n])?;
+    if bytes.len() > most {
+        put_digits(out, &bytes[..most])?;
+        put_text(out, b"..")
+    } else {
+        put_digits(out, bytes)
     }
-    Ok(())
 }
 
 /// Puts a text with its single quotes doubled in place of what is there.
@@ -82,6 +97,36 @@ fn put_cut<A: Allocator>(
     put_beginning(out, text, width, width.saturating_mul(CHARACTERS_A_COLUMN))
 }
 
+/// Whether a byte is a character that is shown as it is, in one column.
+fn is_plain(byte: u8) -> bool {
+    byte >= b' ' && byte <= b'~' && byte != b'\\' && byte != b'\''
+}
+
+/// Whether all bytes are such characters. No byte ends the loop, so vectors do it.
+fn are_plain(text: &[u8]) -> bool {
+    let mut plain = true;
+    'bytes: for byte in text {
+        plain &= is_plain(*byte);
+    }
+    plain
+}
+
+/// Appends a text that may have a quote, with quotes doubled, escaped, and cut to this many columns.
+#[inline(never)]
+fn put_any<A: Allocator>(
+    out: &mut Vec<u8, A>,
+    doubled: &mut Vec<u8, A>,
+    text: &[u8],
+    width: usize,
+) -> Result<(), AllocError> {
+    if text.contains(&b'\'') {
+        put_doubled(doubled, text)?;
+        put_cut(out, doubled, width)
+    } else {
+        put_cut(out, text, width)
+    }
+}
+
 /// Appends a text between single quotes, with those in it doubled, escaped, and cut to this many columns.
 pub(crate) fn put_quoted<A: Allocator>(
     out: &mut Vec<u8, A>,
@@ -90,11 +135,10 @@ pub(crate) fn put_quoted<A: Allocator>(
     width: usize,
 ) -> Result<(), AllocError> {
     put_text(out, b"'")?;
-    if text.contains(&b'\'') {
-        put_doubled(doubled, text)?;
-        put_cut(out, doubled, width)?;
+    if text.len() <= width && are_plain(text) {
+        put_text(out, text)?;
     } else {
-        put_cut(out, text, width)?;
+        put_any(out, doubled, text, width)?;
     }
     put_text(out, b"'")
 }
@@ -108,13 +152,13 @@ pub(crate) fn put_string<A: Allocator>(
     width: usize,
 ) -> Result<(), AllocError> {
     match set {
-        CharacterSet::Utf8 => put_quoted(out, &mut scratch.doubled, text, width),
+        CharacterSet::Utf8 => put_quoted(out, &mut scratch.changed, text, width),
         CharacterSet::Latin1 => {
             put_latin1(&mut scratch.text, text)?;
-            put_quoted(out, &mut scratch.doubled, &scratch.text, width)
+            put_quoted(out, &mut scratch.changed, &scratch.text, width)
         }
         CharacterSet::Unknown if str::from_utf8(text).is_ok() => {
-            put_quoted(out, &mut scratch.doubled, text, width)
+            put_quoted(out, &mut scratch.changed, text, width)
         }
         CharacterSet::Unknown | CharacterSet::Binary | CharacterSet::Other => {
             put_bytes(out, text, width)

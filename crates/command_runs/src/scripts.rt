@@ -17,10 +17,12 @@ Usage: binlog list [-d NAME] [-T NAME] [-j POS] [--stop-position POS]
                    [--start-datetime TIME] [--stop-datetime TIME]
                    [--utc | --time-zone NAME] [--json] LOG..
        binlog show [-d NAME] [-T NAME] [-j POS] [--stop-position POS] [--at POS]
-                   [--utc | --time-zone NAME] [--all-columns] LOG..
+                   [--utc | --time-zone NAME] [--all-columns] [--json | --csv] LOG..
+       binlog report [-d NAME] [-T NAME] [-j POS] [--stop-position POS]
+                   [--utc | --time-zone NAME] [--text] [-r FILE [--force]] LOG..
        binlog undo [--later LOG].. [--leave | --anyway] [-j POS] [--stop-position POS]
                    [-d NAME] [-T NAME]
-                   [--dry-run] [-r FILE [--force]] LOG..
+                   [--dry-run] [--show] [-r FILE [--force]] LOG..
        binlog redo [-j POS] [--stop-position POS] [-d NAME] [-T NAME]
                    [--dry-run] [-r FILE [--force]] LOG..
        binlog plain [-r FILE [--force]] LOG

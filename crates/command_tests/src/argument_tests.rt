@@ -6,9 +6,10 @@ use std::process::Abort;
 use std::test::Fail;
 
 /// Lines of the help.
-static HELP_LINES: [&str; 17] = [
+static HELP_LINES: [&str; 19] = [
     "Usage: binlog list [-d NAME] [-T NAME] [-j POS] [--stop-position POS]",
     "       binlog show [-d NAME] [-T NAME] [-j POS] [--stop-position POS] [--at POS]",
+    "       binlog report [-d NAME] [-T NAME] [-j POS] [--stop-position POS]",
     "       binlog undo [--later LOG].. [--leave | --anyway] [-j POS] [--stop-position POS]",
     "       binlog redo [-j POS] [--stop-position POS] [-d NAME] [-T NAME]",
     "       binlog plain [-r FILE [--force]] LOG",

@@ -114,7 +114,7 @@ fn a_file_that_appears_meanwhile_stays(rt: HostRuntime) -> Result<(), Fail> {
             has_links,
         };
         let wanted = folder.wanted(false);
-        let Ok(mut file) = ResultFile::create(&files, rt.alloc(), &wanted) else {
+        let Ok(mut file) = ResultFile::create(&files, rt.alloc(), &wanted, &[]) else {
             return Err(Fail::new("nothing is there"));
         };
         assert!(rt; put(&mut file.writer, TEXT).is_ok());
@@ -153,7 +153,7 @@ fn a_taken_temporary_name_is_left_alone(rt: HostRuntime) -> Result<(), Fail> {
 fn a_discarded_file_leaves_nothing(rt: HostRuntime) -> Result<(), Fail> {
     let folder = Folder::new(&rt, "discarded")?;
     let wanted = folder.wanted(false);
-    let Ok(mut file) = ResultFile::create(&rt, rt.alloc(), &wanted) else {
+    let Ok(mut file) = ResultFile::create(&rt, rt.alloc(), &wanted, &[]) else {
         return Err(Fail::new("nothing is there"));
     };
     assert!(rt; put(&mut file.writer, TEXT).is_ok());

@@ -82,7 +82,7 @@ pub(crate) fn write_text<'a, R: Files>(
 where
     R::File: Drop,
 {
-    let mut file = ResultFile::create(rt, alloc, wanted)?;
+    let mut file = ResultFile::create(rt, alloc, wanted, &[])?;
     if put(&mut file.writer, TEXT).is_ok() {
         return file.finish(rt);
     }

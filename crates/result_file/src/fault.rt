@@ -11,7 +11,7 @@ use std::io;
 pub enum FileFault<'a, A: Allocator> {
     /// The file is there, and is not to be replaced.
     IsThere(&'a str),
-    /// The file is the log.
+    /// The file is one of the logs.
     IsLog(&'a str),
     /// The path is that of a symbolic link to a file, or to nothing.
     IsLink(&'a str),

@@ -13,7 +13,7 @@ use std::{fs, io};
 pub enum Found {
     /// Nothing.
     Nothing,
-    /// The log, by this name or another.
+    /// One of the logs, by this name or another.
     Log,
     /// A file.
     File,
@@ -41,7 +41,7 @@ pub enum Way {
 pub enum Refusal {
     /// A file is there.
     IsThere,
-    /// The log is there.
+    /// One of the logs is there.
     IsLog,
     /// A symbolic link is there.
     IsLink,
@@ -65,8 +65,8 @@ pub fn way_to(found: Found, replace: bool) -> Result<Way, Refusal>
     }
 }
 
-/// Looks at what has this name. Fails where the system doesn't say what it is, or whether it is the log.
-pub fn look<R: Files>(rt: &R, path: &str, log: &str) -> io::Result<Found> {
+/// Looks at what has this name. Fails where the system doesn't say what it is, or whether it is one of the logs.
+pub fn look<R: Files>(rt: &R, path: &str, log: &str, others: &[&str]) -> io::Result<Found> {
     let named = match fs::symlink_metadata(rt, path) {
         Ok(named) => named,
         Err(cause) if cause.kind() == io::ErrorKind::NotFound => return Ok(Found::Nothing),
@@ -77,11 +77,22 @@ pub fn look<R: Files>(rt: &R, path: &str, log: &str) -> io::Result<Found> {
         Err(_) if named.is_symlink() => return Ok(Found::Link),
         Err(cause) => return Err(cause),
     };
-    let log = fs::metadata(rt, log)?;
-    if are_same(&FileId::of(&meant), &FileId::of(&log)) {
+    let id = FileId::of(&meant);
+    if has_id(rt, log, &id)? {
         return Ok(Found::Log);
     }
+    for other in others {
+        if has_id(rt, other, &id)? {
+            return Ok(Found::Log);
+        }
+    }
     Ok(found_by(&named, &meant))
+}
+
+/// Whether the file of a path has this id. Fails where the system doesn't say.
+fn has_id<R: Files>(rt: &R, path: &str, id: &FileId) -> io::Result<bool> {
+    let file = fs::metadata(rt, path)?;
+    Ok(are_same(id, &FileId::of(&file)))
 }
 
 /// What was found: `named` is what has the name, and `meant` what a link of that name leads to.

@@ -52,7 +52,8 @@ enum Naming<A: Allocator> {
 }
 
 impl<'a, F, A: Allocator + Copy> ResultFile<'a, F, A> {
-    /// Creates the temporary file beside the result file, with mode 0600. If the result file is a device, opens that.
+    /// Creates the temporary file beside the result file, with mode 0600. If the result file is a device, opens that. The other logs are never
+    /// overwritten, either.
     ///
     /// Nothing is created where the result file may not be written: `IsThere`, `IsLog`, `IsLink`, `IsDirectory`.
     /// `NotCreated` and `NamesTaken` where the system refuses.
@@ -60,11 +61,12 @@ impl<'a, F, A: Allocator + Copy> ResultFile<'a, F, A> {
         rt: &R,
         alloc: A,
         wanted: &Wanted<'a>,
+        others: &[&str],
     ) -> Result<Self, FileFault<'a, A>>
         ensures mark { IfOk result (λ file. has_failed file.writer ≡ false) }
     {
         let path = wanted.path;
-        let found = match look(rt, path, wanted.log) {
+        let found = match look(rt, path, wanted.log, others) {
             Ok(found) => found,
             Err(cause) => return Err(FileFault::NotCreated(path, cause)),
         };

@@ -1,7 +1,11 @@
-//! The run behind `show`: the rows that the units of one log or of several change, each log read when its turn comes.
+//! The runs behind `show` and `report`: the rows that the units of one log or of several change, each log read when its turn comes.
 #![tactic(auto)]
 
+mod reported;
 mod shown;
+mod source_report;
 mod source_rows;
+mod turns;
 
+pub use reported::{Reported, report_logs};
 pub use shown::show_logs;

@@ -1,32 +1,26 @@
 //! Showing the rows of logs in turn.
 
-ghost use Rattle.std.specs.Prelude.{◌≡◌, ◌⊎◌, ◌<◌, IfErr};
-ghost use Rattle.list_run.specs.Listed.{MayFollow};
+ghost use Rattle.std.specs.Prelude.{◌≡◌, ◌⊎◌, ◌<◌, IfErr, OnOk, length};
+ghost use Rattle.blog_device.specs.Watched.{device_of};
+ghost use Rattle.list_run.specs.Listed.{IsRead, MayFollow, NamedLog};
+ghost use Rattle.show_run.specs.Shown.{IsFormOf, OfShown, ShowsGiven, ShowsNamed};
+ghost use Rattle.show_run.specs.code.Turns.{showing_of};
 
-use crate::source_rows::{Asked, Shown, show_source};
+use crate::source_rows::{Shown, show_source};
+use crate::turns::{Asked, Turn};
 use blog_device::Watched;
 use blog_reasons::Reasons;
 use blog_request::Wanted;
-use blog_show::RowStyle;
+use blog_show::{RowForm, RowStyle};
 use blog_source::Reading;
 use blog_sum::SumFault;
 use list_run::{GivenLog, ListFault, earlier, look, read_source};
 use std::alloc::Allocator;
 use std::io::{Read, Write};
 
-/// Which of the logs is shown, and what is wanted of all.
-#[derive(Clone, Copy)]
-struct Turn<'w> {
-    how: Reading,
-    asked: Asked<'w>,
-    /// How many they are.
-    count: usize,
-    /// The number of this one, from 0 on.
-    n: usize,
-}
-
 /// Shows the rows that the wanted units of logs change, a line each, and why a wanted unit is none of which rows are known. The logs are read in
-/// turn, one at a time in memory. Where there are several, what is shown of each is below its name. If there are positions in `at`, units are wanted
+/// turn, one at a time in memory. Where there are several, what is shown of each is below its name, on lines for people; in JSON each object has the
+/// name of its log, in place of that of the form. If there are positions in `at`, units are wanted
 /// that have an event at one of them. Returns how many units were shown.
 ///
 /// A start of what is wanted is one of the first log, and a stop one of the last. Each log is shown up to its end, and so are
@@ -47,12 +41,15 @@ pub fn show_logs<A: Allocator + Copy, R: Read + Drop, W: Write>(
     reasons: &mut Option<Reasons<'_, A>>,
     writer: &mut Watched<W>,
 ) -> Result<u64, (usize, ListFault)>
+    ensures shown { OfShown (ShowsGiven R.remaining style.now.form (record { how = how; wanted = wanted.now; places = at.now; count = length logs.entry.items }) 0 logs.entry.items
+        (W.contents (device_of writer.old)) (W.contents (device_of writer.new))) result }
+
     // Where nothing can be read of the first log, nothing is written.
-    ensures { IfErr result (λ e. (0 < e.0) ⊎ (writer.new ≡ writer.old) ⊎ MayFollow e.1) }
+    ensures unwritten { IfErr result (λ e. (0 < e.0) ⊎ (writer.new ≡ writer.old) ⊎ MayFollow e.1) }
 {
     let mut turn = Turn {
         how,
-        asked: Asked {
+        all: Asked {
             wanted: *wanted,
             at,
             seed,
@@ -70,7 +67,7 @@ pub fn show_logs<A: Allocator + Copy, R: Read + Drop, W: Write>(
             }
             Err(fault) => return Err((turn.n, fault)),
         }
-        turn.n = turn.n.saturating_add(1);
+        turn.n += 1;
     }
     ended(units, end)
 }
@@ -94,12 +91,19 @@ fn show_one<A: Allocator + Copy, R: Read + Drop, W: Write>(
     reasons: &mut Option<Reasons<'_, A>>,
     writer: &mut Watched<W>,
 ) -> Result<Shown, ListFault>
-    ensures { IfErr result (λ e. (writer.new ≡ writer.old) ⊎ MayFollow e) }
+    requires { turn.now.n < turn.now.count }
+    ensures shown { OnOk result ((log : NamedLog) × IsRead R.remaining given.entry log × ShowsNamed style.now.form (showing_of turn.now) turn.now.n log
+        (W.contents (device_of writer.old)) (W.contents (device_of writer.new))) }
+    ensures unwritten { IfErr result (λ e. (writer.new ≡ writer.old) ⊎ MayFollow e) }
 {
     let name = turn.name(given.name);
+    let style = RowStyle {
+        form: form_of(&style.form, given.name),
+        ..*style
+    };
     let source = read_source(alloc, given.reader, turn.how)?;
     let asked = turn.asked();
-    match show_source(alloc, &source, name, &asked, style, writer) {
+    match show_source(alloc, &source, name, &asked, &style, writer) {
         Ok(shown) => {
             if shown.units > 0 || look(reasons, &source, asked.seed, &asked.wanted).is_none() {
                 *reasons = None;
@@ -110,30 +114,15 @@ fn show_one<A: Allocator + Copy, R: Read + Drop, W: Write>(
     }
 }
 
-impl<'w> Turn<'w> {
-    /// The name that is shown of a log.
-    fn name<'a>(&self, name: &'a str) -> Option<&'a [u8]> {
-        if self.count == 1 {
-            None
-        } else {
-            Some(name.as_bytes())
-        }
-    }
-
-    /// What is asked for of the log whose turn it is.
-    fn asked(&self) -> Asked<'w> {
-        let wanted = self.asked.wanted;
-        Asked {
-            wanted: Wanted {
-                start: if self.n == 0 { wanted.start } else { None },
-                stop: if self.n.saturating_add(1) == self.count {
-                    wanted.stop
-                } else {
-                    None
-                },
-                ..wanted
-            },
-            ..self.asked
-        }
+/// The form in which the rows of the log of a name are shown.
+fn form_of<'n>(form: &RowForm<'_>, name: &'n str) -> RowForm<'n>
+    ensures { IsFormOf form.now name.now result }
+{
+    match form {
+        RowForm::Lines => RowForm::Lines,
+        RowForm::Json { .. } => RowForm::Json {
+            log: name.as_bytes(),
+        },
+        RowForm::Csv => RowForm::Csv,
     }
 }

@@ -1,33 +1,36 @@
 //! Showing the rows of one log.
 
-ghost use Rattle.std.specs.Prelude.{◌≡◌, ◌⊎◌, IfErr};
+ghost use Rattle.std.specs.Prelude.{◌≡◌, ◌⊎◌, ◌++◌, IfErr, IfOk, List, OnOk, false, map, option_copied};
+ghost use Rattle.blog_choice.specs.code.ChosenView.{names_choice};
+ghost use Rattle.blog_choice.specs.code.Views.{choice_value};
+ghost use Rattle.blog_device.specs.Watched.{device_of};
+ghost use Rattle.blog_event.specs.code.LogView.{log_bytes};
+ghost use Rattle.blog_list.specs.code.Held.{has_no_memory};
+ghost use Rattle.blog_list.specs.code.Told.{source_place};
+ghost use Rattle.blog_request.specs.Wanted.{is_wanted};
+ghost use Rattle.blog_source.specs.Places.{position_of};
+ghost use Rattle.blog_source.specs.code.SourceView.{end_of, log_of};
+ghost use Rattle.blog_units.specs.Units.{facts_of, units};
+ghost use Rattle.blog_units.specs.code.UnitsView.{IsJudged, facts_told};
+ghost use Rattle.show_run.specs.Shown.{HasShown, ShowsIf, ShowsLog, ShowsUnit, above, is_shown, shown_among};
 ghost use Rattle.blog_device.specs.declared.fault.RunFault.TheVariants as RunFault;
 ghost use Rattle.blog_event.specs.declared.fault.Fault.TheVariants.{OutOfMemory};
 ghost use Rattle.list_run.specs.Listed.{MayFollow};
 ghost use Rattle.list_run.specs.declared.fault.ListFault.TheVariants.{Run};
 
+use crate::turns::{Asked, is_at};
 use blog_choice::ChosenNames;
 use blog_device::{RunFault, Watched, put};
 use blog_event::{Fault, Log};
 use blog_list::{early_end, open_log, put_name, put_refusal, time_text, wanted_inside, write_full};
 use blog_request::{Concern, Wanted, is_before};
-use blog_show::{LastMap, LineRoom, RowStyle, put_unit};
+use blog_show::{LastMap, LineRoom, RowForm, RowStyle, put_csv_field, put_unit};
 use blog_source::Source;
 use blog_sum::SumFault;
-use blog_text::{put_number, put_text};
+use blog_text::{put_number, put_string, put_text};
 use blog_units::{Unit, UnitFacts, Units};
 use std::alloc::{AllocError, Allocator};
 use std::io::Write;
-
-/// What is asked for of a log.
-#[derive(Clone, Copy)]
-pub(crate) struct Asked<'w> {
-    pub(crate) wanted: Wanted<'w>,
-    /// Units that have an event at one of these positions of the server's log; any if there are none.
-    pub(crate) at: &'w [u32],
-    /// The seed by which tables are looked up.
-    pub(crate) seed: u64,
-}
 
 /// What was shown of a log.
 #[derive(Clone, Copy)]
@@ -42,6 +45,9 @@ pub(crate) struct Shown {
 #[derive(Drop)]
 struct Page<'a, A: Allocator> {
     text: Vec<u8, A>,
+    /// What is said of a unit that isn't shown, and why it isn't.
+    said: Vec<u8, A>,
+    why: Vec<u8, A>,
     room: LineRoom<A>,
     map: LastMap<'a, A>,
 }
@@ -49,23 +55,53 @@ struct Page<'a, A: Allocator> {
 /// In how many columns of a terminal it is said why a unit isn't shown.
 const REFUSAL_COLUMNS: usize = 80;
 
-/// Whether a unit has an event at one of some positions of the server's log, or there are none.
-fn is_at<A: Allocator>(source: &Source<A>, at: &[u32], unit: &UnitFacts<'_>) -> bool {
-    if at.is_empty() {
-        return true;
+/// Whether memory for the groups of a unit was refused.
+pub(crate) fn has_no_memory<A: Allocator>(unit: &Unit<'_, A>) -> bool
+    ensures { result ≡ has_no_memory unit.now.groups }
+{
+    match &unit.groups {
+        Err(Fault::OutOfMemory) => true,
+        _ => false,
     }
-    for n in 0..at.len() {
-        let pos = source.position(at[n]);
-        if unit.start <= pos && pos < unit.stop {
-            return true;
-        }
-    }
-    false
 }
 
-/// Whether memory for the groups of a unit was refused.
-fn has_no_memory<A: Allocator>(unit: &Unit<'_, A>) -> bool {
-    matches!(&unit.groups, Err(Fault::OutOfMemory))
+/// Appends that a unit isn't shown, and why.
+fn put_not_shown<A: Allocator>(
+    out: &mut Vec<u8, A>,
+    form: &RowForm<'_>,
+    place: u32,
+    time: &[u8],
+    why: &[u8],
+) -> Result<(), AllocError> {
+    match form {
+        RowForm::Lines => {
+            put_number(out, u64::from(place))?;
+            put_text(out, b" ")?;
+            put_text(out, time)?;
+            put_text(out, b" not shown: ")?;
+            put_text(out, why)?;
+            put_text(out, b"\n")
+        }
+        RowForm::Json { log } => {
+            put_text(out, b"{\"log\":")?;
+            put_string(out, log)?;
+            put_text(out, b",\"position\":")?;
+            put_number(out, u64::from(place))?;
+            put_text(out, b",\"time\":\"")?;
+            put_text(out, time)?;
+            put_text(out, b"\",\"not_shown\":")?;
+            put_string(out, why)?;
+            put_text(out, b"}\n")
+        }
+        RowForm::Csv => {
+            put_number(out, u64::from(place))?;
+            put_text(out, b",")?;
+            put_text(out, time)?;
+            put_text(out, b",not-shown,")?;
+            put_csv_field(out, why)?;
+            put_text(out, b"\n")
+        }
+    }
 }
 
 impl<'a, A: Allocator + Copy> Page<'a, A> {
@@ -77,14 +113,27 @@ impl<'a, A: Allocator + Copy> Page<'a, A> {
         facts: &UnitFacts<'_>,
         fault: &Fault,
         style: &RowStyle<'_>,
-    ) -> Result<(), AllocError> {
-        let out = &mut self.text;
-        put_number(out, u64::from(source.place(facts.start)))?;
-        put_text(out, b" ")?;
-        put_text(out, time_text(style.zone, facts.time).as_bytes())?;
-        put_text(out, b" not shown: ")?;
-        put_refusal(out, REFUSAL_COLUMNS, source, log, fault, facts.stop)?;
-        put_text(out, b"\n")
+    ) -> Result<(), AllocError>
+        ensures { OnOk result ((said : List _) × (self.new.text.items ≡ self.old.text.items ++ said)) }
+    {
+        self.why.clear();
+        put_refusal(
+            &mut self.why,
+            REFUSAL_COLUMNS,
+            source,
+            log,
+            fault,
+            facts.stop,
+        )?;
+        self.said.clear();
+        put_not_shown(
+            &mut self.said,
+            &style.form,
+            source.place(facts.start),
+            time_text(style.zone, facts.time).as_bytes(),
+            &self.why,
+        )?;
+        put_text(&mut self.text, &self.said)
     }
 
     /// Appends the rows of a unit.
@@ -96,7 +145,11 @@ impl<'a, A: Allocator + Copy> Page<'a, A> {
         wanted: &Wanted<'_>,
         unit: &Unit<'a, A>,
         style: &RowStyle<'_>,
-    ) -> Result<(), AllocError> {
+    ) -> Result<(), AllocError>
+        requires judged { IsJudged (log_bytes log.now) unit.now }
+        requires memory { has_no_memory unit.now.groups ≡ false }
+        ensures { OnOk result (ShowsUnit style.now.form (choice_value wanted.now.choice) (source_place source.now) (log_bytes log.now) (facts_told unit.now.facts) self.old.text.items self.new.text.items) }
+    {
         match &unit.groups {
             Ok(index) => put_unit(
                 alloc,
@@ -113,6 +166,21 @@ impl<'a, A: Allocator + Copy> Page<'a, A> {
     }
 }
 
+/// Appends what is above the rows of a log: its name, if there is one, on lines for people.
+fn put_above<A: Allocator>(
+    out: &mut Vec<u8, A>,
+    form: &RowForm<'_>,
+    name: Option<&[u8]>,
+) -> Result<(), AllocError>
+    ensures { OnOk result (out.new.items ≡ out.old.items ++ above form.now (option_copied name.entry)) }
+{
+    match form {
+        RowForm::Lines => put_name(out, name),
+        RowForm::Json { .. } => Ok(()),
+        RowForm::Csv => Ok(()),
+    }
+}
+
 /// Shows the rows of a log's wanted units below its name, if there is one.
 pub(crate) fn show_source<A: Allocator + Copy, W: Write>(
     alloc: A,
@@ -122,7 +190,8 @@ pub(crate) fn show_source<A: Allocator + Copy, W: Write>(
     style: &RowStyle<'_>,
     writer: &mut Watched<W>,
 ) -> Result<Shown, RunFault>
-    ensures { IfErr result (λ e. (writer.new ≡ writer.old) ⊎ MayFollow (Run e)) }
+    ensures shown { OnOk result (ShowsLog style.now.form (option_copied name.entry) asked.now.wanted asked.now.at.now (log_of source.now) (end_of source.now) (W.contents (device_of writer.old)) (W.contents (device_of writer.new))) }
+    ensures unwritten { IfErr result (λ e. (writer.new ≡ writer.old) ⊎ MayFollow (Run e)) }
 {
     let log = match open_log(source, asked.seed) {
         Ok(log) => log,
@@ -131,10 +200,12 @@ pub(crate) fn show_source<A: Allocator + Copy, W: Write>(
     let inside = wanted_inside(source, &asked.wanted);
     let mut page = Page {
         text: Vec::new(alloc),
+        said: Vec::new(alloc),
+        why: Vec::new(alloc),
         room: LineRoom::new(alloc),
         map: LastMap::none(alloc),
     };
-    put_name(&mut page.text, name)?;
+    put_above(&mut page.text, &style.form, name)?;
     let (units, whole) = show_units(
         alloc, &mut page, source, &log, &inside, asked.at, style, writer,
     )?;
@@ -154,35 +225,77 @@ fn show_units<'a, A: Allocator + Copy, W: Write>(
     source: &Source<A>,
     log: &Log<'a>,
     wanted: &Wanted<'_>,
-    at: &[u32],
+    places: &[u32],
     style: &RowStyle<'_>,
     writer: &mut Watched<W>,
 ) -> Result<(u64, Option<bool>), RunFault>
-    ensures { IfErr result (λ e. (e ≡ RunFault.Log OutOfMemory) ⊎ (e ≡ RunFault.Write)) }
+    ensures shown { OnOk result (HasShown style.now.form (choice_value wanted.now.choice) (source_place source.now) (log_bytes log.now)
+        (shown_among wanted.now (map (position_of (log_of source.now)) places.now) (log_bytes log.now) (map facts_of (units (log_bytes log.now))))
+        (W.contents (device_of writer.old)) (W.contents (device_of writer.new)) page.old.text.items page.new.text.items) }
+    ensures fault { IfErr result (λ e. (e ≡ RunFault.Log OutOfMemory) ⊎ (e ≡ RunFault.Write)) }
 {
     let names = ChosenNames::new(alloc, &wanted.choice)?;
-    let mut units = 0u64;
+    let mut shown = 0u64;
     let mut whole = true;
     for unit in Units::new(log) {
         if !is_before(unit.start, wanted.stop) {
-            return Ok((units, None));
+            return Ok((shown, None));
         }
         whole = unit.whole;
-        if !wanted.has_in_range(&unit) || !is_at(source, at, &unit) {
-            continue;
-        }
-        let judged = unit.with_groups(alloc);
-        if has_no_memory(&judged) {
-            return Err(RunFault::Log(Fault::OutOfMemory));
-        }
-        match wanted.concern(&names, log, &judged) {
-            Concern::Wanted => {
-                page.put_unit(alloc, source, log, wanted, &judged, style)?;
-                units = units.saturating_add(1);
-                write_full(&mut page.text, writer)?;
-            }
-            Concern::PassedOver | Concern::Other => {}
-        }
+        let is_shown = show_unit(
+            alloc, page, source, log, wanted, &names, places, unit, style, writer,
+        )?;
+        shown = shown.saturating_add(u64::from(is_shown));
     }
-    Ok((units, Some(whole)))
+    Ok((shown, Some(whole)))
+}
+
+/// Appends the rows of a unit, if it is wanted and has an event at one of some places, and writes what is collected once it is a chunk. Returns
+/// whether it is shown.
+fn show_unit<'a, A: Allocator + Copy, W: Write>(
+    alloc: A,
+    page: &mut Page<'a, A>,
+    source: &Source<A>,
+    log: &Log<'a>,
+    wanted: &Wanted<'_>,
+    names: &ChosenNames<'_, A>,
+    places: &[u32],
+    unit: UnitFacts<'a>,
+    style: &RowStyle<'_>,
+    writer: &mut Watched<W>,
+) -> Result<bool, RunFault>
+    requires names { names_choice names.now ≡ choice_value wanted.now.choice }
+    requires log { unit.log ≡ log.now }
+    ensures shown { OnOk result (ShowsIf (is_shown wanted.now (map (position_of (log_of source.now)) places.now) (log_bytes log.now) (facts_told unit.entry))
+        style.now.form (choice_value wanted.now.choice) (source_place source.now) (log_bytes log.now) (facts_told unit.entry)
+        (W.contents (device_of writer.old)) (W.contents (device_of writer.new)) page.old.text.items page.new.text.items) }
+    ensures told { IfOk result (λ told. told ≡ is_shown wanted.now (map (position_of (log_of source.now)) places.now) (log_bytes log.now) (facts_told unit.entry)) }
+    ensures fault { IfErr result (λ e. (e ≡ RunFault.Log OutOfMemory) ⊎ (e ≡ RunFault.Write)) }
+{
+    if !is_at(source, places, &unit) {
+        return Ok(false);
+    }
+    if !wanted.has_in_range(&unit) {
+        return Ok(false);
+    }
+    let judged = unit.with_groups(alloc);
+    if has_no_memory(&judged) {
+        return Err(RunFault::Log(Fault::OutOfMemory));
+    }
+    if !is_wanted(wanted.concern(names, log, &judged)) {
+        return Ok(false);
+    }
+    page.put_unit(alloc, source, log, wanted, &judged, style)?;
+    write_full(&mut page.text, writer)?;
+    Ok(true)
+}
+
+/// Whether a unit is shown, by whether it is wanted.
+fn is_wanted(concern: Concern) -> bool
+    ensures { result ≡ is_wanted concern }
+{
+    match concern {
+        Concern::Wanted => true,
+        Concern::PassedOver | Concern::Other => false,
+    }
 }

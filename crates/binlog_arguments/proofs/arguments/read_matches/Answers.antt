@@ -63,7 +63,7 @@ pub returns-in_err-read_show-in-Some-5-clause-read :
 returns-in_err-read_show-in-Some-5-clause-read g c =
     let named : subcommand_name_of c.args.matches.now ≡ Some (codes "show") = grind (arith, c.in-Some-5.ensures.name, c.if-eq-5.ensures, (bytes_eq-Decides c.in-Some-5.name.now (codes "show")).0) in
     let p = err_from_is_err_and c.from_residual-in_err-read_show-in-Some-5.result c.from_residual-in_err-read_show-in-Some-5.ensures.1 in
-    rw (p.1, p.2) (inr (inr (inr (inr (inr (inr (named, (found_of c.in-Some.found.now, sym c.in-Some.ensures.rows, c.in_err-read_show-in-Some-5.ensures.refused))))))))
+    rw (p.1, p.2) (inr (inr (inr (inr (inr (inr (inl (named, (found_of c.in-Some.found.now, sym c.in-Some.ensures.rows, c.in_err-read_show-in-Some-5.ensures.refused)))))))))
 
 pub returns-in_ok-read_part-in-Some-6-clause-read :
     goal.returns-in_ok-read_part-in-Some-6-clause-read
@@ -90,3 +90,16 @@ returns-in_err-read_part-in-Some-7-clause-read g c =
     let named : subcommand_name_of c.args.matches.now ≡ Some (codes "redo") = grind (arith, c.in-Some-7.ensures.name, c.if-eq-7.ensures, (bytes_eq-Decides c.in-Some-7.name.now (codes "redo")).0) in
     let p = err_from_is_err_and c.from_residual-in_err-read_part-in-Some-7.result c.from_residual-in_err-read_part-in-Some-7.ensures.1 in
     rw (p.1, p.2) (inr (inr (inr (inr (inr (inl (named, (found_of c.in-Some.found.now, sym c.in-Some.ensures.rows, c.in_err-read_part-in-Some-7.ensures.refused))))))))
+
+pub returns-in_ok-read_report-in-Some-8-clause-read :
+    goal.returns-in_ok-read_report-in-Some-8-clause-read
+returns-in_ok-read_report-in-Some-8-clause-read g c =
+    let named : subcommand_name_of c.args.matches.now ≡ Some (codes "report") = grind (arith, c.in-Some-8.ensures.name, c.if-eq-8.ensures, (bytes_eq-Decides c.in-Some-8.name.now (codes "report")).0) in
+    (named, (found_of c.in-Some.found.now, sym c.in-Some.ensures.rows, c.in_ok-read_report-in-Some-8.ensures.asked))
+
+pub returns-in_err-read_report-in-Some-8-clause-read :
+    goal.returns-in_err-read_report-in-Some-8-clause-read
+returns-in_err-read_report-in-Some-8-clause-read g c =
+    let named : subcommand_name_of c.args.matches.now ≡ Some (codes "report") = grind (arith, c.in-Some-8.ensures.name, c.if-eq-8.ensures, (bytes_eq-Decides c.in-Some-8.name.now (codes "report")).0) in
+    let p = err_from_is_err_and c.from_residual-in_err-read_report-in-Some-8.result c.from_residual-in_err-read_report-in-Some-8.ensures.1 in
+    rw (p.1, p.2) (inr (inr (inr (inr (inr (inr (inr (named, (found_of c.in-Some.found.now, sym c.in-Some.ensures.rows, c.in_err-read_report-in-Some-8.ensures.refused)))))))))

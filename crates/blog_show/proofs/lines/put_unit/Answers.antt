@@ -12,7 +12,7 @@ loop-event-init g c =
     record {
       next = tt;
       finite = tt;
-      shown = λ new s. subst (λ (es : List GroupEvent). ShowsEvents (choice_value c.args.choice.now) (source_place c.args.source.now) es c.args.out.now.items new) all s;
+      shown = λ new s. subst (λ (es : List GroupEvent). ShowsEvents c.args.style.now.form (choice_value c.args.choice.now) (source_place c.args.source.now) es c.args.out.now.items new) all s;
     }
 
 pub loop-event-preserved : goal.loop-event-preserved
@@ -20,6 +20,6 @@ loop-event-preserved g c = record {
   next = tt;
   finite = tt;
   shown = λ new s.
-      c.loop-event.invariant.shown new (subst (λ (es : List GroupEvent). ShowsEvents (choice_value c.args.choice.now) (source_place c.args.source.now) es c.loop-event.out.items new)
+      c.loop-event.invariant.shown new (subst (λ (es : List GroupEvent). ShowsEvents c.args.style.now.form (choice_value c.args.choice.now) (source_place c.args.source.now) es c.loop-event.out.items new)
       (sym c.in-Some.ensures.steps.first) (_, c.in_ok-put_event.ensures, s));
 }

@@ -13,6 +13,6 @@ abbrev pub invariant-loop-event : goal.invariant-loop-event
 invariant-loop-event g l = record {
   next : (goal.iterator-loop-event g).can_next l.event-iterator;
   finite : (goal.iterator-loop-event g).is_finite l.event-iterator;
-  shown : (new : List ℕ) → ShowsEvents (choice_value l.choice) (source_place l.source) (events_left l.event-iterator) l.out.items new
-      → ShowsEvents (choice_value l.choice) (source_place l.source) (in_turn Forward (index_groups l.index)) l.fn.out.items new;
+  shown : (new : List ℕ) → ShowsEvents l.style.form (choice_value l.choice) (source_place l.source) (events_left l.event-iterator) l.out.items new
+      → ShowsEvents l.style.form (choice_value l.choice) (source_place l.source) (in_turn Forward (index_groups l.index)) l.fn.out.items new;
 }
