@@ -69,14 +69,14 @@ man_examples() {
 }
 
 # The folder in which an example, or those of a man page, run: binlog.000042 has checksums for binlog, and none for flashback; to
-# list there is binlog.000041 too, to undo the two logs after it, and to cut undo.binlog, which undoes the plain log. Where the pages
+# list and to report there is binlog.000041 too, to undo the two logs after it, and to cut undo.binlog, which undoes the plain log. Where the pages
 # have 4021 and 9144, the transaction that deletes begins at 811 and stops at 1215, and in the plain log at 842 and at 1143.
 begin_folder() {
     rm -rf "$work/here"
     mkdir "$work/here"
     case $1 in
         flashback*) cp "$work/logs/plain" "$work/here/binlog.000042" ;;
-        "binlog list"*)
+        "binlog list"* | "binlog report"*)
             cp examples/mysql/crc32_closed.binlog "$work/here/binlog.000041"
             cp examples/mysql/crc32_closed.binlog "$work/here/binlog.000042"
             ;;
