@@ -1,0 +1,2 @@
+-- What only contracts of code need: its structs as values.
+pub mod MergedView
