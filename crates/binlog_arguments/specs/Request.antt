@@ -225,6 +225,11 @@ abbrev pub leaves_rows : Found → Order → Bool
 leaves_rows found Forward = false
 leaves_rows found Backward = is_given found (codes "leave")
 
+-- whether they are merged
+abbrev pub merges_rows : Found → Order → Bool
+merges_rows found Forward = false
+merges_rows found Backward = is_given found (codes "merge")
+
 -- the later logs, which `undo` alone has
 abbrev pub later_paths : Found → Order → List (List ℕ)
 later_paths found Forward = []
@@ -277,6 +282,7 @@ pub record IsPartTask {A : Type 0} (found : Found) (direction : Order) (task : P
   pub shows_rows : task.shows_rows ≡ is_given found (codes "show")
   pub looks : task.looks ≡ looks_later found direction
   pub leaves : task.leaves ≡ leaves_rows found direction
+  pub merges : task.merges ≡ merges_rows found direction
   pub later : map (λ path. path.now) task.later.items ≡ later_paths found direction
   pub zone : IsZoneAsked found task.zone
   pub units : (zone : TimeZone) × IsZoneOf task.zone zone × IsUnitChoice found zone task.units

@@ -20,6 +20,8 @@ pub const REDO: &str = "redo";
 pub const ANYWAY: &str = "anyway";
 /// The name of `--leave`.
 pub const LEAVE: &str = "leave";
+/// The name of `--merge`.
+pub const MERGE: &str = "merge";
 /// The name of `--later`.
 pub const LATER: &str = "later";
 /// The name of `--binlog`.

@@ -2,7 +2,7 @@
 
 use crate::options::{
     ALL_COLUMNS, ANYWAY, AS_LOG, BY_ROWS, CSV, DRY_RUN, EACH_TRANSACTION, FORCE, INTERVAL, JSON,
-    KEEP_TIMES, LATER, LEAVE, LOG, RESULT_FILE, REWRITTEN, SHOW_GTID, SHOW_ROWS, SIZE,
+    KEEP_TIMES, LATER, LEAVE, LOG, MERGE, RESULT_FILE, REWRITTEN, SHOW_GTID, SHOW_ROWS, SIZE,
     SKIP_DAMAGED, SORT, TEXT, WIDTH,
 };
 use console::{Described, FLAG, Takes};
@@ -75,16 +75,23 @@ pub(crate) static OF_SQL: [Described<'static>; 4] = [
 ];
 
 /// The options of `undo` alone.
-pub(crate) static OF_UNDO: [Described<'static>; 3] = [
+pub(crate) static OF_UNDO: [Described<'static>; 4] = [
     Described {
         name: ANYWAY,
         help: "Undo without looking at what came later, and overwrite it",
+        excludes: Some(MERGE),
         ..FLAG
     },
     Described {
         name: LEAVE,
         help: "Leave rows that were changed since as they are, and undo the others",
         excludes: Some(ANYWAY),
+        ..FLAG
+    },
+    Described {
+        name: MERGE,
+        help: "Of rows that were changed since, undo the columns that only the mistake changed",
+        excludes: Some(LEAVE),
         ..FLAG
     },
     Described {

@@ -5,11 +5,11 @@ ghost use Rattle.clap.specs.Words.{found_of};
 ghost use Rattle.blog_run.specs.Writing.{HasShortWriting};
 ghost use Rattle.blog_sql.specs.Changed.{HaveShortNames};
 ghost use Rattle.blog_trans.specs.Selection.{selection_of};
-ghost use Rattle.binlog_arguments.specs.Request.{HasPartWriting, HasLogs, IsPart, IsPartTask, IsWrong, RefusesLogs, RefusesPart, all_values, is_given, later_paths, leaves_rows, looks_later};
+ghost use Rattle.binlog_arguments.specs.Request.{HasPartWriting, HasLogs, IsPart, IsPartTask, IsWrong, RefusesLogs, RefusesPart, all_values, is_given, later_paths, leaves_rows, looks_later, merges_rows};
 
 use crate::arguments::{ArgumentsFault, is_given};
 use crate::list_arguments::{read_paths, read_range, read_zone};
-use crate::options::{ANYWAY, AS_LOG, AT, DATABASE, DRY_RUN, LATER, LEAVE, LOG, SHOW_ROWS, TABLE};
+use crate::options::{ANYWAY, AS_LOG, AT, DATABASE, DRY_RUN, LATER, LEAVE, LOG, MERGE, SHOW_ROWS, TABLE};
 use crate::sql_arguments::{SqlTask, read_sql};
 use crate::unit_choice::{UnitChoice, read_unit_choice};
 use crate::zones::Zone;
@@ -45,6 +45,8 @@ pub struct PartTask<'a, A: Allocator> {
     pub looks: bool,
     /// Whether rows that were changed since are left as they are, and the others are undone.
     pub leaves: bool,
+    /// Whether the changes are taken out of these rows column by column, and the others are undone.
+    pub merges: bool,
     /// The paths of later logs, in order, which are looked at too.
     pub later: Vec<&'a str, A>,
     /// The time zone in which times are given and printed.
@@ -97,6 +99,7 @@ pub(crate) fn read_part<'a, R: Files + Env + AllocGlobal, A: Allocator + Copy>(
         shows_rows: is_given(found, SHOW_ROWS),
         looks: looks(found, order),
         leaves: leaves(found, order),
+        merges: merges(found, order),
         later: read_later(alloc, found, order)?,
         zone,
     })
@@ -126,6 +129,16 @@ fn leaves(found: &ArgMatches<'_>, order: Order) -> bool
     match order {
         Order::Forward => false,
         Order::Backward => is_given(found, LEAVE),
+    }
+}
+
+/// Whether rows that were changed since are merged: by `undo` with `--merge`.
+fn merges(found: &ArgMatches<'_>, order: Order) -> bool
+    ensures { result ≡ merges_rows (found_of found.now) order }
+{
+    match order {
+        Order::Forward => false,
+        Order::Backward => is_given(found, MERGE),
     }
 }
 

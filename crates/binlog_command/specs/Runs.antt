@@ -28,7 +28,6 @@ use Rattle.undo_run.specs.declared.fault.LogsFault.{LogsFault}
 use Rattle.undo_run.specs.declared.fault.LogsFault.TheVariants.{Opening, Further, Part}
 use Rattle.undo_run.specs.declared.fault.PartFault.TheVariants.{LaterLog, NoUnitWithGtid}
 use Rattle.undo_run.specs.declared.request.UnitRequest.{UnitRequest}
-use Rattle.binlog_arguments.specs.declared.unit_choice.UnitChoice.{UnitChoice}
 use Rattle.binlog_arguments.specs.Zones.{IsZoneOf}
 use Rattle.binlog_arguments.specs.declared.list_arguments.ListTask.{ListTask}
 use Rattle.binlog_command.specs.declared.commands.Failure.{Failure}
@@ -185,15 +184,19 @@ OfPart task P (Err failure) = OfTold task P (Err failure)
 abbrev pub is_of_tables : Selection → Bool
 is_of_tables part = is_some part.database || is_some part.table
 
--- Which units are asked for; None where all of them are, with all tables and rows. Of some tables each unit is asked for, so that statements that
--- name none of these are passed over; and so it is where rows may be left as they are.
-abbrev pub HasRequest : {A : Type 0} → UnitChoice A → Selection → Bool → Option UnitRequest → Type 0
-HasRequest choice part leaves None = HasUnits (leaves || is_of_tables part) choice None
-HasRequest choice part leaves (Some asked) = HasUnits (leaves || is_of_tables part) choice (Some asked.wanted) × (asked.at.now ≡ choice.at.items) × (asked.leaves ≡ leaves)
+-- Of some tables each unit is asked for, so that statements that name none of these are passed over; and so it is where rows may be left as they are,
+-- or merged.
+abbrev pub asks_for_each : {A : Type 0} → PartTask A → Bool
+asks_for_each task = (task.leaves || task.merges) || is_of_tables (selection_of task.part)
+
+-- which units are asked for; None where all of them are, with all tables and rows
+abbrev pub HasRequest : {A : Type 0} → PartTask A → Option UnitRequest → Type 0
+HasRequest task None = HasUnits (asks_for_each task) task.units None
+HasRequest task (Some asked) = HasUnits (asks_for_each task) task.units (Some asked.wanted) × (asked.at.now ≡ task.units.at.items) × (asked.leaves ≡ task.leaves) × (asked.merges ≡ task.merges)
 
 -- a task's part is written, or the chosen transactions of that, as it is written at this time
 abbrev pub WritesTask : {A R : Type 0} → (R → Option (List ℕ)) → List (GivenLog R) → List (GivenLog R) → PartTask A → ℕ → Option (List ℕ) → Option (List ℕ) → Option (List ℕ) → Option (List ℕ) → Result Unit (Failure A) → Type 0
-WritesTask known givens further task now old new had has result = (how : Writing) × HasPartWriting task now how × ((asked : Option UnitRequest) × HasRequest task.units (selection_of task.part) task.leaves asked
+WritesTask known givens further task now old new had has result = (how : Writing) × HasPartWriting task now how × ((asked : Option UnitRequest) × HasRequest task asked
     × OfPart task (WritesPart task.looks known givens how task.sql.log.now further (selection_of task.part) asked old new had has) result)
 
 -- this is reported of it, of the log that was read
@@ -202,7 +205,7 @@ IsToldOf known givens further how task asked old new told = ReportsPart task.loo
 
 -- and it is written
 abbrev pub TellsPart : {A R : Type 0} → (R → Option (List ℕ)) → List (GivenLog R) → List (GivenLog R) → PartTask A → ℕ → Option (List ℕ) → Option (List ℕ) → Option (List ℕ) → Option (List ℕ) → Type 0
-TellsPart known givens further task now old new had has = (how : Writing) × HasPartWriting task now how × ((asked : Option UnitRequest) × HasRequest task.units (selection_of task.part) task.leaves asked
+TellsPart known givens further task now old new had has = (how : Writing) × HasPartWriting task now how × ((asked : Option UnitRequest) × HasRequest task asked
     × ((told : List ℕ) × IsToldOf known givens further how task asked old new told × Appends had has told))
 
 -- ---- lists

@@ -6,14 +6,14 @@ ghost use Rattle.blog_device.specs.Watched.{device_of, has_failed};
 ghost use Rattle.blog_run.specs.Writing.{HasShortWriting};
 ghost use Rattle.blog_sql.specs.Changed.{HaveShortNames};
 ghost use Rattle.blog_trans.specs.Selection.{selection_of};
-ghost use Rattle.binlog_command.specs.Runs.{HasRequest, IsFailureOf, IsToldOf, OfTold, TellsPart, WritesTask, is_of_tables, log_path, shown_path};
+ghost use Rattle.binlog_command.specs.Runs.{HasRequest, IsFailureOf, IsToldOf, OfTold, TellsPart, WritesTask, asks_for_each, is_of_tables, log_path, shown_path};
 ghost use Rattle.binlog_command.specs.Status.{status_of};
 ghost use Rattle.undo_run.specs.Writes.{WritesPart};
 ghost use Rattle.undo_run.specs.declared.fault.LogsFault.TheVariants.{Part};
 
 use crate::commands::{Failure, Process};
 use crate::log_file::open_logs;
-use binlog_arguments::{PartTask, UnitChoice};
+use binlog_arguments::PartTask;
 use blog_choice::TableChoice;
 use blog_device::{RunFault, Watched, put};
 use blog_event::Fault;
@@ -157,7 +157,7 @@ pub(crate) fn run_part<
         (O.contents (device_of output.old)) (O.contents (device_of output.new))) }
 {
     let writing = task.writing(process.began);
-    let units = request(&task.units, &task.part, task.leaves);
+    let units = request(task);
     if task.dry_run {
         let mut nowhere = Watched::new(Nowhere {});
         let told = part_to(
@@ -211,7 +211,7 @@ fn show_part<'a, A: Allocator + Copy, D: Read, L: Read + Drop, O: Write>(
     ensures status { IfErr result (λ f. status_of f ≡ 1) }
     ensures refused { OnErr result (has_failed output.new ≡ false → output.new ≡ output.old) }
 {
-    let units = request(&task.units, &task.part, task.leaves);
+    let units = request(task);
     let writing = Writing {
         order: task.order,
         limit: task.sql.size as usize,
@@ -316,19 +316,23 @@ fn is_of_tables(part: &Selection<'_>) -> bool
     part.database.is_some() || part.table.is_some()
 }
 
-/// Which units of a part are asked for; all of it if no option chooses some of them, or tables.
-fn request<'u, A: Allocator>(
-    units: &'u UnitChoice<'_, A>,
-    part: &Selection<'_>,
-    leaves: bool,
-) -> Option<UnitRequest<'u>>
-    ensures { HasRequest units.now (selection_of part.now) leaves result }
+/// Whether each unit of a task's part is asked for by itself, though no option chooses some.
+fn asks_for_each<A: Allocator>(task: &PartTask<'_, A>) -> bool
+    ensures { result ≡ asks_for_each task.now }
 {
-    match units.wanted(leaves || is_of_tables(part)) {
+    task.leaves || task.merges || is_of_tables(&task.part)
+}
+
+/// Which units of a task's part are asked for; all of it if no option chooses some of them, or tables.
+fn request<'u, A: Allocator>(task: &'u PartTask<'_, A>) -> Option<UnitRequest<'u>>
+    ensures { HasRequest task.now result }
+{
+    match task.units.wanted(asks_for_each(task)) {
         Some(wanted) => Some(UnitRequest {
             wanted,
-            at: units.at.as_slice(),
-            leaves,
+            at: task.units.at.as_slice(),
+            leaves: task.leaves,
+            merges: task.merges,
         }),
         None => None,
     }

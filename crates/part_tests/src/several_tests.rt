@@ -57,6 +57,7 @@ fn of_threads(threads: &[u32]) -> UnitRequest<'_> {
         },
         at: &[],
         leaves: false,
+        merges: false,
     }
 }
 

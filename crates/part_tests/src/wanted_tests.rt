@@ -43,6 +43,7 @@ fn only_starts_and_begins_are_positions_of_units(rt: HostRuntime) -> Result<(), 
             wanted: ANY,
             at: at.as_slice(),
             leaves: false,
+            merges: false,
         };
         let (came, _, _) = units_with(&rt, &log, &between(4, None), asked, false, &[], &UNDO)?;
         assert!(rt; came == wanted);

@@ -146,7 +146,7 @@ whole-written known givens w name t had has seen bytes r (logs, read, (safe, sin
     let every : are_all (marks_undone t logs) ≡ true = subst (HasRest t logs) none rest in
     let log : bytes ≡ log_undone t logs = same ∙ sym (cond-true (are_all (marks_undone t logs)) t.log (left_out_text (marks_undone t logs) t.log all) every) in
     let telling : Option Since → List ℕ → List ℕ = λ s b. report_told w name s b all in
-    planned true known givens w (plan_left w name t) ⊤ (λ cause. ⊥) had has logs (telling (Some (since_seen seen.since)) bytes) bytes all r tt read safe log refl inr
+    planned true known givens w (plan_left w name t) ⊤ (λ cause. ⊥) had has logs (telling (Some (since_seen seen.since)) bytes) bytes all r tt read safe log refl (λ long. (safe, inr long))
     (λ told told_is. inl (every, told_is ∙ (λ i. telling (since i) (log i)))) is
 
 -- others are left out
@@ -157,5 +157,5 @@ rest-written known givens w name t had has seen rest r (logs, read, (safe, since
     let (out, text, (lines, told_is)) : HasRest t logs (Some rest) = subst (HasRest t logs) some left in
     let log : bytes_left rest.log ≡ log_undone t logs = text ∙ left-log t logs out in
     let telling : Option Since → List ℕ → List ℕ = λ s b. report_told w name s b all in
-    planned true known givens w (plan_left w name t) ⊤ (λ cause. ⊥) had has logs (telling (Some (since_seen seen.since)) (bytes_left rest.log) ++ rest.told.items) (bytes_left rest.log) all r tt read safe log refl inr
+    planned true known givens w (plan_left w name t) ⊤ (λ cause. ⊥) had has logs (telling (Some (since_seen seen.since)) (bytes_left rest.log) ++ rest.told.items) (bytes_left rest.log) all r tt read safe log refl (λ long. (safe, inr long))
     (λ told is. inr (out, (lines, is ∙ (λ i. telling (since i) (log i) ++ told_is i)))) writes

@@ -6,6 +6,8 @@ mod Judged
 mod Kept
 mod LastEvent
 mod Leaving
+mod MergedLog
+mod Merging
 mod LookedAt
 mod Names
 mod PartLog

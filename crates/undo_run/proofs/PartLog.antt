@@ -46,7 +46,7 @@ selected-flat (Other cs ∷ ss) = selected-none cs (marked_in ss) ∙ selected-f
 abbrev change_of : Marked → Change
 change_of m = m.change
 
-kept-marks : (f : TableRow → ℕ) (ms : List Marked) → kept (marks_in ms (part_by f ms)) (selected_changes ms) ≡ selected_changes (part_by f ms)
+pub kept-marks : (f : TableRow → ℕ) (ms : List Marked) → kept (marks_in ms (part_by f ms)) (selected_changes ms) ≡ selected_changes (part_by f ms)
 kept-marks f [] = refl
 kept-marks f (m ∷ ms) = by_case m.selected (is_left_alone_by f m.change part) (kept-marks f ms)
   where
@@ -60,7 +60,7 @@ kept-marks f (m ∷ ms) = by_case m.selected (is_left_alone_by f m.change part) 
     by_case true false later = later
     by_case false b later = later
 
-marks-length : (f : TableRow → ℕ) (ms : List Marked) → length (marks_in ms (part_by f ms)) ≡ length (selected_changes ms)
+pub marks-length : (f : TableRow → ℕ) (ms : List Marked) → length (marks_in ms (part_by f ms)) ≡ length (selected_changes ms)
 marks-length f [] = refl
 marks-length f (m ∷ ms) = by_case m.selected (is_left_alone_by f m.change (part_by f ms)) (marks-length f ms)
   where
@@ -69,7 +69,7 @@ marks-length f (m ∷ ms) = by_case m.selected (is_left_alone_by f m.change (par
     by_case true b later = omega (arith, later)
     by_case false b later = later
 
-kept-whole : (marks : List Bool) (cs : List Change) → are_all marks ≡ true → length marks ≡ length cs → kept marks cs ≡ cs
+pub kept-whole : (marks : List Bool) (cs : List Change) → are_all marks ≡ true → length marks ≡ length cs → kept marks cs ≡ cs
 kept-whole [] [] every long = refl
 kept-whole [] (c ∷ cs) every long = absurd (omega (arith, long))
 kept-whole (true ∷ marks) [] every long = absurd (omega (arith, long))
@@ -101,6 +101,16 @@ gathered-some sel handed ws u us is are accepted short =
 
 -- ---- together
 
+-- the log has all selected changes
+pub own-changes : (names : Names) (p : Facts → Bool) (sel : Selection) (handed : List ℕ) (end : ℕ) (fault : Option SumFault) (logs : List NamedLog) (u : Facts) (us : List Facts)
+    → chosen_units p sel handed ≡ u ∷ us → AreBytes handed → AreSound p sel handed None → length (kept_log sel handed (chosen_units p sel handed)) ≤ 4294967295
+    → changes (chosen_taken names p sel handed end fault).log all ≡ selected_changes (mixed (chosen_taken names p sel handed end fault) logs)
+own-changes names p sel handed end fault logs u us some_chosen are sound short =
+    let t = chosen_taken names p sel handed end fault in
+    gathered-some sel handed (chosen_units p sel handed) u us some_chosen are sound.accepted short
+    ∙ ap (flat_map (λ (cs : List Change). cs)) (sym (selected-chosen p sel handed) ∙ sym (selected-later t.steps (map whole_log logs)))
+    ∙ sym (selected-flat (t.steps ++ map later_step (map whole_log logs)))
+
 pub undone-changes : (names : Names) (p : Facts → Bool) (sel : Selection) (handed : List ℕ) (end : ℕ) (fault : Option SumFault) (logs : List NamedLog) (u : Facts) (us : List Facts)
     → chosen_units p sel handed ≡ u ∷ us → AreBytes handed → AreBytes (kept_log sel handed (chosen_units p sel handed)) → AreSound p sel handed None → length (kept_log sel handed (chosen_units p sel handed)) ≤ 4294967295
     → length (log_undone (chosen_taken names p sel handed end fault) logs) ≤ 4294967295
@@ -117,10 +127,7 @@ undone-changes names p sel handed end fault logs u us some_chosen are are_kept s
     marks = marks_undone t logs
 
     own : changes t.log all ≡ selected_changes ms
-    own =
-        gathered-some sel handed (chosen_units p sel handed) u us some_chosen are sound.accepted short
-        ∙ ap (flat_map (λ (cs : List Change). cs)) (sym (selected-chosen p sel handed) ∙ sym (selected-later t.steps (map whole_log logs)))
-        ∙ sym (selected-flat (t.steps ++ map later_step (map whole_log logs)))
+    own = own-changes names p sel handed end fault logs u us some_chosen are sound short
 
     by_case : (b : Bool) → are_all marks ≡ b → changes (log_undone t logs) all ≡ selected_changes (part_undone t logs)
     by_case true every =

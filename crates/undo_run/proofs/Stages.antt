@@ -21,8 +21,10 @@ use Rattle.undo_run.specs.Several.{Joined, Names, OfLogs, part_among, starts_in_
 use Rattle.undo_run.specs.Taken.{AreLater, IsSafeIf, OfLater, Plan, Taken, WritesBy, plan_taken, since_told}
 use Rattle.undo_run.specs.Units.{LacksUnit, RefusesChosen, RefusesUnits, is_asked}
 use Rattle.undo_run.specs.Leaving.{plan_left}
+use Rattle.undo_run.specs.Merging.{plan_merged}
 use Rattle.undo_run.specs.Writes.{FailsJoined, IsLocated, IsLocatedIn, WritesHanded, WritesJoined, WritesPart, is_failed_write, plan_by}
 use Rattle.undo_run.specs.code.Leaves.{Leaves, WritesLeft}
+use Rattle.undo_run.specs.code.Merges.{MergesAfter, WritesMerged}
 use Rattle.undo_run.specs.code.NamesView.{names_told}
 use Rattle.undo_run.specs.code.Reading.{IsJoined, OpensLogs}
 use Rattle.undo_run.specs.code.SinceView.{since_seen}
@@ -64,7 +66,7 @@ planned looks known givens w p Sound Refuses had has logs telling bytes sel r so
     by_groups (Err (Run run.Write)) (can, text) = (sound, (logs, read, ((safe, can), text)))
     by_groups (Err (Run run.Read)) none = absurd none
     by_groups (Err (Run (run.Log f))) refused = refused
-    by_groups (Err TooLong) (is_long, keeps) = (inl (sound, (logs, read, (safe, long is_long))), keeps)
+    by_groups (Err TooLong) (is_long, keeps) = (inl (sound, (logs, read, long is_long)), keeps)
     by_groups (Err (NoSchema text)) (lacks, keeps) = ((sound, (logs, read, (safe, lacks))), keeps)
     by_groups (Err (LaterLog n f)) none = absurd none
     by_groups (Err (ChangedSince rows lines)) none = absurd none
@@ -82,7 +84,7 @@ pub taken-written : {A R : Type 0} (looks : Bool) (known : R → Option (List �
 taken-written {A = A} looks known givens w name t Sound Refuses had has since bytes sel r sound looked same chosen is =
     let (logs, read, (safe, seen)) = are-free A looks known givens t since looked in
     let telling : Option Since → List ℕ = λ s. report_told w name s t.log t.sel in
-    planned looks known givens w (plan_taken looks w name t) Sound Refuses had has logs (telling (option_map since_seen since)) t.log t.sel r sound read safe refl refl (λ long. long) (λ told told_is. told_is ∙ ap telling seen)
+    planned looks known givens w (plan_taken looks w name t) Sound Refuses had has logs (telling (option_map since_seen since)) t.log t.sel r sound read safe refl refl (λ long. (safe, long)) (λ told told_is. told_is ∙ ap telling seen)
     (subst (λ (s : Selection). WritesIndex w name (option_map since_seen since) t.log s had has r) chosen
     (subst (λ (b : List ℕ). WritesIndex w name (option_map since_seen since) b sel had has r) same is))
 
@@ -124,10 +126,16 @@ no-write-failed X true known givens t TooLong is = refl
 
 -- ---- where rows may be left
 
+-- written by a plan, as some log
+abbrev WritesSome : {A R : Type 0} → Bool → Bool → Bool → (R → Option (List ℕ)) → List (GivenLog R) → Writing → Names → Taken → Type 0 → (PartFault A → Type 0) → Option (List ℕ) → Option (List ℕ) → Result (Vec ℕ A) (PartFault A) → Type 0
+WritesSome merges leaves looks known givens w name t Sound Refuses had has r = (log : List ℕ) × WritesBy looks known givens w (plan_by merges leaves looks w name t log) Sound Refuses had has r
+
 -- none are
-pub by-all : {A R : Type 0} (b looks : Bool) (known : R → Option (List ℕ)) (givens : List (GivenLog R)) (w : Writing) (name : Names) (t : Taken) (Sound : Type 0) (Refuses : PartFault A → Type 0) (had has : Option (List ℕ)) (r : Result (Vec ℕ A) (PartFault A))
-    → b ≡ false → WritesBy looks known givens w (plan_taken looks w name t) Sound Refuses had has r → WritesBy looks known givens w (plan_by b looks w name t) Sound Refuses had has r
-by-all b looks known givens w name t Sound Refuses had has r e is = subst (λ (c : Bool). WritesBy looks known givens w (plan_by c looks w name t) Sound Refuses had has r) (sym e) is
+pub by-all : {A R : Type 0} (m b looks : Bool) (known : R → Option (List ℕ)) (givens : List (GivenLog R)) (w : Writing) (name : Names) (t : Taken) (Sound : Type 0) (Refuses : PartFault A → Type 0) (had has : Option (List ℕ)) (r : Result (Vec ℕ A) (PartFault A))
+    → m ≡ false → b ≡ false → WritesBy looks known givens w (plan_taken looks w name t) Sound Refuses had has r → WritesSome m b looks known givens w name t Sound Refuses had has r
+by-all m b looks known givens w name t Sound Refuses had has r d e is =
+    ([], subst (λ (k : Bool). WritesBy looks known givens w (plan_by k b looks w name t []) Sound Refuses had has r) (sym d)
+    (subst (λ (c : Bool). WritesBy looks known givens w (plan_by false c looks w name t []) Sound Refuses had has r) (sym e) is))
 
 -- what is written of units that are sound
 sound-written : {A R : Type 0} (looks : Bool) (known : R → Option (List ℕ)) (givens : List (GivenLog R)) (w : Writing) (p : Plan) (Sound : Type 0) (Refuses : PartFault A → Type 0) (had has : Option (List ℕ)) (r : Result (Vec ℕ A) (PartFault A))
@@ -150,11 +158,53 @@ sound-written looks known givens w p Sound Refuses had has (Err (Log f)) sound (
 sound-written looks known givens w p Sound Refuses had has (Err NothingSelected) sound (none, keeps) = absurd none
 
 -- rows may be
-pub by-left : {A R : Type 0} (looks leaves : Bool) (known : R → Option (List ℕ)) (givens : List (GivenLog R)) (w : Writing) (name : Names) (t : Taken) (Sound : Type 0) (Refuses : PartFault A → Type 0) (had has : Option (List ℕ)) (r : Result (Vec ℕ A) (PartFault A))
-    → (looks && leaves) ≡ true → Sound → WritesLeft known givens w name t had has r → WritesBy looks known givens w (plan_by (looks && leaves) looks w name t) Sound Refuses had has r
-by-left true true known givens w name t Sound Refuses had has r e sound is = sound-written true known givens w (plan_left w name t) Sound Refuses had has r sound is
-by-left true false known givens w name t Sound Refuses had has r e sound is = absurd (false≢true e)
-by-left false leaves known givens w name t Sound Refuses had has r e sound is = absurd (false≢true e)
+pub by-left : {A R : Type 0} (m looks leaves : Bool) (known : R → Option (List ℕ)) (givens : List (GivenLog R)) (w : Writing) (name : Names) (t : Taken) (Sound : Type 0) (Refuses : PartFault A → Type 0) (had has : Option (List ℕ)) (r : Result (Vec ℕ A) (PartFault A))
+    → m ≡ false → (looks && leaves) ≡ true → Sound → WritesLeft known givens w name t had has r → WritesSome m (looks && leaves) looks known givens w name t Sound Refuses had has r
+by-left false true true known givens w name t Sound Refuses had has r d e sound is = ([], sound-written true known givens w (plan_left w name t) Sound Refuses had has r sound is)
+by-left false true false known givens w name t Sound Refuses had has r d e sound is = absurd (false≢true e)
+by-left false false leaves known givens w name t Sound Refuses had has r d e sound is = absurd (false≢true e)
+by-left true looks leaves known givens w name t Sound Refuses had has r d e sound is = absurd (false≢true (sym d))
+
+-- or merged
+pub by-merged : {A R : Type 0} (looks merges leaves : Bool) (known : R → Option (List ℕ)) (givens : List (GivenLog R)) (w : Writing) (name : Names) (t : Taken) (Sound : Type 0) (Refuses : PartFault A → Type 0) (had has : Option (List ℕ)) (r : Result (Vec ℕ A) (PartFault A))
+    → (looks && merges) ≡ true → Sound → WritesMerged known givens w name t had has r → WritesSome (looks && merges) leaves looks known givens w name t Sound Refuses had has r
+by-merged true true leaves known givens w name t Sound Refuses had has r e sound (log, is) = (log, sound-written true known givens w (plan_merged w name t log) Sound Refuses had has r sound is)
+by-merged true false leaves known givens w name t Sound Refuses had has r e sound is = absurd (false≢true e)
+by-merged false merges leaves known givens w name t Sound Refuses had has r e sound is = absurd (false≢true e)
+
+-- what came later keeps it back that they are
+pub not-merged : {A R : Type 0} (known : R → Option (List ℕ)) (givens : List (GivenLog R)) (w : Writing) (name : Names) (t : Taken) (had has : Option (List ℕ)) (cause : PartFault A) → MergesAfter {A = A} known givens t (Err cause) → Keeps had has
+    → WritesMerged known givens w name t had has (Err cause)
+not-merged known givens w name t had has (ChangedSince rows lines) is keeps = ([], ((tt, is), keeps))
+not-merged known givens w name t had has (UnknownSince lines) is keeps = ([], ((tt, is), keeps))
+not-merged known givens w name t had has TooLong (logs, read, (safe, out)) keeps = ([], (inl (tt, (logs, read, (safe, inl out))), keeps))
+not-merged known givens w name t had has (LaterLog n f) fails keeps = ([], ((tt, refl, fails), keeps))
+not-merged known givens w name t had has (Run (run.Log f)) is keeps = ([], (is, keeps))
+not-merged known givens w name t had has (Run run.Read) none keeps = absurd none
+not-merged known givens w name t had has (Run run.Write) none keeps = absurd none
+not-merged known givens w name t had has (Sums f) none keeps = absurd none
+not-merged known givens w name t had has (NoEventAt pos) none keeps = absurd none
+not-merged known givens w name t had has (NoUnitAt place) none keeps = absurd none
+not-merged known givens w name t had has (NoUnitWithGtid gtid) none keeps = absurd none
+not-merged known givens w name t had has (Log f) none keeps = absurd none
+not-merged known givens w name t had has (NoSchema text) none keeps = absurd none
+not-merged known givens w name t had has NothingSelected none keeps = absurd none
+
+pub no-merge-failed : {A R : Type 0} (X : Type 0) (known : R → Option (List ℕ)) (givens : List (GivenLog R)) (t : Taken) (cause : PartFault A) → MergesAfter {A = A} known givens t (Err cause) → is_failed_write {A = A} {X = X} (Err cause) ≡ false
+no-merge-failed X known givens t (Run run.Write) none = absurd none
+no-merge-failed X known givens t (Run run.Read) is = refl
+no-merge-failed X known givens t (Run (run.Log f)) is = refl
+no-merge-failed X known givens t (ChangedSince rows lines) is = refl
+no-merge-failed X known givens t (UnknownSince lines) is = refl
+no-merge-failed X known givens t (LaterLog n f) is = refl
+no-merge-failed X known givens t (Sums f) is = refl
+no-merge-failed X known givens t (NoEventAt pos) is = refl
+no-merge-failed X known givens t (NoUnitAt place) is = refl
+no-merge-failed X known givens t (NoUnitWithGtid gtid) is = refl
+no-merge-failed X known givens t (Log f) is = refl
+no-merge-failed X known givens t (NoSchema text) is = refl
+no-merge-failed X known givens t NothingSelected is = refl
+no-merge-failed X known givens t TooLong is = refl
 
 -- what came later keeps them back
 pub not-left : {A R : Type 0} (known : R → Option (List ℕ)) (givens : List (GivenLog R)) (w : Writing) (name : Names) (t : Taken) (had has : Option (List ℕ)) (cause : PartFault A) → Leaves {A = A} known givens t (Err cause) → Keeps had has

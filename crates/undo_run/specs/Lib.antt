@@ -1,6 +1,7 @@
 pub mod Several
 pub mod After
 pub mod Leaving
+pub mod Merging
 pub mod Parts
 pub mod Reports
 pub mod Taken

@@ -93,6 +93,19 @@ left_words n = if n == 1 then codes " row as it is, which was changed since:\n" 
 abbrev pub left_text : ℕ → List ℕ
 left_text n = codes "leaves " ++ (decimal n ++ left_words n)
 
+-- how many rows stay that a mistake inserted, and of how many it is taken out, which were changed since
+abbrev pub staying_words : ℕ → List ℕ
+staying_words n = if n == 1 then codes " row as it is, which the mistake inserted and others changed since\n" else codes " rows as they are, which the mistake inserted and others changed since\n"
+
+abbrev pub staying_text : ℕ → List ℕ
+staying_text n = if n == 0 then [] else codes "leaves " ++ (decimal n ++ staying_words n)
+
+abbrev pub merged_words : ℕ → List ℕ
+merged_words n = if n == 1 then codes " row that was changed since, and keeps these changes:\n" else codes " rows that were changed since, and keep these changes:\n"
+
+abbrev pub merged_text : ℕ → ℕ → List ℕ
+merged_text merged stay = staying_text stay ++ (codes "merges " ++ (decimal merged ++ merged_words merged))
+
 abbrev pub cascades_text : Order → List TableCount → List ℕ
 cascades_text order counts =
     if list_any (λ c. has_followers (turned order c)) counts then codes "child rows of foreign keys that cascade follow the updated and deleted rows, and are not counted\n" else []

@@ -132,7 +132,7 @@ plan_taken looks w names t = record {
   safe = IsSafeIf looks t;
   log = λ logs. t.log;
   sel = t.sel;
-  long = λ logs. 4294967295 < end_of_text w.sql w.order w.limit t.log t.sel;
+  long = λ logs. IsSafeIf looks t logs × (4294967295 < end_of_text w.sql w.order w.limit t.log t.sel);
   told = λ logs told. told ≡ report_taken looks w names t logs t.log t.sel;
   changed = λ rows logs. (looks ≡ true) × AreChanged (steps_after t logs) rows;
   unknown = λ logs. (looks ≡ true) × MayBeChanged (steps_after t logs) (tables_taken t) (after t logs);
@@ -155,7 +155,7 @@ WritesBy looks known givens w p Sound Refuses had has (Err (Run run.Write)) = So
     (λ logs. CanBe w p logs × AppendsBeginning had has (text_planned w p logs))
 WritesBy looks known givens w p Sound Refuses had has (Err (Run run.Read)) = ⊥
 WritesBy looks known givens w p Sound Refuses had has (Err (Run (run.Log f))) = (f ≡ OutOfMemory) × Keeps had has
-WritesBy looks known givens w p Sound Refuses had has (Err TooLong) = ((Sound × OfLater looks known givens (λ logs. p.safe logs × p.long logs)) ⊎ Refuses TooLong) × Keeps had has
+WritesBy looks known givens w p Sound Refuses had has (Err TooLong) = ((Sound × OfLater looks known givens p.long) ⊎ Refuses TooLong) × Keeps had has
 WritesBy looks known givens w p Sound Refuses had has (Err (NoSchema text)) = (Sound × OfLater looks known givens
     (λ logs. p.safe logs × ((n : ℕ) × (lacks w.sql (groups (p.log logs) p.sel) ≡ Some n)))) × Keeps had has
 WritesBy looks known givens w p Sound Refuses had has (Err (LaterLog n f)) = (Sound × (looks ≡ true) × FailsLater known givens n f) × Keeps had has

@@ -16,6 +16,7 @@ use Rattle.blog_trans.specs.Selection.{Selection}
 use Rattle.list_run.specs.Listed.{AreRead, IsRead, NamedLog}
 use Rattle.list_run.specs.declared.given.GivenLog.{GivenLog}
 use Rattle.undo_run.specs.Leaving.{plan_left}
+use Rattle.undo_run.specs.Merging.{plan_merged}
 use Rattle.undo_run.specs.Parts.{IsSound, Refuses, damage_before, part_taken, reading_of}
 use Rattle.undo_run.specs.Several.{CanJoinAll, Joined, Names, OfLogs, alone, joined_on, located, part_among, reading_to, starts_in_first}
 use Rattle.undo_run.specs.Taken.{CanBe, FailsToOpen, OfLater, Plan, Taken, WritesBy, plan_taken}
@@ -43,21 +44,26 @@ abbrev pub RefusesIn : {A : Type 0} → Bool → Option UnitRequest → Selectio
 RefusesIn looks None part handed end fault cause = Refuses part handed end (damage_before looks part end fault) cause
 RefusesIn looks (Some r) part handed end fault cause = RefusesUnits r part handed end fault (damage_among looks part end fault) cause
 
--- how it is written: where that is asked, without rows that were changed since
-abbrev pub plan_by : Bool → Bool → Writing → Names → Taken → Plan
-plan_by true looks w names t = plan_left w names t
-plan_by false looks w names t = plan_taken looks w names t
+-- How it is written: where that is asked, with what rows that were changed since are updated to, as some log; or without these rows.
+abbrev pub plan_by : Bool → Bool → Bool → Writing → Names → Taken → List ℕ → Plan
+plan_by true leaves looks w names t log = plan_merged w names t log
+plan_by false true looks w names t log = plan_left w names t
+plan_by false false looks w names t log = plan_taken looks w names t
+
+abbrev pub merges_rows : Bool → Option UnitRequest → Bool
+merges_rows looks None = false
+merges_rows looks (Some r) = looks && r.merges
 
 abbrev pub leaves_rows : Bool → Option UnitRequest → Bool
 leaves_rows looks None = false
 leaves_rows looks (Some r) = looks && r.leaves
 
-abbrev pub plan_in : Bool → Writing → Option UnitRequest → Names → Selection → List ℕ → ℕ → Option SumFault → Plan
-plan_in looks w asked names part handed end fault = plan_by (leaves_rows looks asked) looks w names (taken_in looks asked names part handed end fault)
+abbrev pub plan_in : Bool → Writing → Option UnitRequest → Names → Selection → List ℕ → ℕ → Option SumFault → List ℕ → Plan
+plan_in looks w asked names part handed end fault log = plan_by (merges_rows looks asked) (leaves_rows looks asked) looks w names (taken_in looks asked names part handed end fault) log
 
 -- what comes of writing it
 abbrev pub WritesHanded : {A R : Type 0} → Bool → (R → Option (List ℕ)) → List (GivenLog R) → Writing → Names → Selection → Option UnitRequest → List ℕ → ℕ → Option SumFault → Option (List ℕ) → Option (List ℕ) → Result (Vec ℕ A) (PartFault A) → Type 0
-WritesHanded looks known givens w names part asked handed end fault had has result = WritesBy looks known givens w (plan_in looks w asked names part handed end fault)
+WritesHanded looks known givens w names part asked handed end fault had has result = (log : List ℕ) × WritesBy looks known givens w (plan_in looks w asked names part handed end fault log)
     (IsSoundIn looks asked part handed end fault) (RefusesIn looks asked part handed end fault) had has result
 
 -- ---- of logs that are read as one
@@ -132,10 +138,13 @@ abbrev pub has_failed_read : {A X : Type 0} → Result X (LogsFault A) → Bool
 has_failed_read (Err (Opening (opening.Run run.Read))) = true
 has_failed_read _ = false
 
+-- this is told of what a plan writes, which can be written
+abbrev pub IsToldBy : Writing → Plan → List NamedLog → List ℕ → Type 0
+IsToldBy w plan logs told = CanBe w plan logs × plan.told logs told
+
 -- this is the report of it, which can be written
 abbrev pub ReportsPart : {R : Type 0} → Bool → (R → Option (List ℕ)) → List (GivenLog R) → Writing → List ℕ → List (GivenLog R) → Selection → Option UnitRequest → Option (List ℕ) → Option (List ℕ) → List ℕ → Type 0
 ReportsPart looks known later w name more part asked old new told = OfLogs known (reading_of looks asked part).stop name more old new (λ j.
     let inside = part_among j.names part in
-    let plan = plan_in looks w asked j.names inside j.handed j.end j.fault in
     (starts_in_first j.names.more part.start ≡ true) × IsSoundIn looks asked inside j.handed j.end j.fault
-    × OfLater looks known later (λ logs. CanBe w plan logs × plan.told logs told))
+    × ((log : List ℕ) × OfLater looks known later (λ logs. IsToldBy w (plan_in looks w asked j.names inside j.handed j.end j.fault log) logs told)))

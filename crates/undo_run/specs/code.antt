@@ -2,5 +2,6 @@
 pub mod SinceView
 pub mod Steps
 pub mod Leaves
+pub mod Merges
 pub mod NamesView
 pub mod Reading

@@ -7,6 +7,8 @@ mod later;
 mod laws;
 mod lines;
 mod log_names;
+mod merged;
+mod merged_part;
 mod missing;
 mod opening;
 mod part;
@@ -20,6 +22,6 @@ mod untouched;
 mod written_part;
 
 pub use fault::{FurtherFault, LogsFault, OpeningFault, PartFault};
-pub use laws::what_is_written_is_what_is_undone;
+pub use laws::{what_is_merged_is_what_is_undone, what_is_written_is_what_is_undone};
 pub use request::UnitRequest;
 pub use written_part::write_part;

@@ -25,8 +25,22 @@ pub(crate) fn report_of<A: Allocator, N: Allocator, B: Allocator>(
 ) -> Result<Vec<u8, A>, AllocError>
     ensures { IfOk result (λ told. told.items ≡ report order (names_told logs.now) (length (index_groups index.now)) (counts_in index.now) (option_map since_seen since.now)) }
 {
+    report_of_many(alloc, logs, order, index.transactions(), index, since)
+}
+
+/// Returns the report of the groups of an index, told as so many transactions.
+pub(crate) fn report_of_many<A: Allocator, N: Allocator, B: Allocator>(
+    alloc: A,
+    logs: &Names<'_, N>,
+    order: Order,
+    transactions: usize,
+    index: &Index<'_, '_, B>,
+    since: &Option<Since<'_, A>>,
+) -> Result<Vec<u8, A>, AllocError>
+    ensures { IfOk result (λ told. told.items ≡ report order (names_told logs.now) transactions (counts_in index.now) (option_map since_seen since.now)) }
+{
     let mut out = Vec::new(alloc);
-    put_changes(&mut out, logs, order, index)?;
+    put_changes(&mut out, logs, order, transactions, index)?;
     put_later(&mut out, order, since)?;
     put_text(&mut out, cascades_text(order, index))?;
     Ok(out)
@@ -37,12 +51,13 @@ fn put_changes<A: Allocator, N: Allocator, B: Allocator>(
     out: &mut Vec<u8, A>,
     logs: &Names<'_, N>,
     order: Order,
+    transactions: usize,
     index: &Index<'_, '_, B>,
 ) -> Result<(), AllocError>
-    ensures { OnOk result (out.new.items ≡ out.old.items ++ changes_told order (names_told logs.now) (length (index_groups index.now)) (counts_in index.now)) }
+    ensures { OnOk result (out.new.items ≡ out.old.items ++ changes_told order (names_told logs.now) transactions (counts_in index.now)) }
 {
     put_text(out, verb(order))?;
-    put_transactions(out, index.transactions())?;
+    put_transactions(out, transactions)?;
     put_text(out, b" of ")?;
     put_names(out, logs)?;
     put_text(out, b": ")?;

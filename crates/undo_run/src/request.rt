@@ -23,6 +23,8 @@ pub struct UnitRequest<'w> {
     pub at: &'w [u32],
     /// Whether rows that were changed since are left as they are, if what came later is looked at.
     pub leaves: bool,
+    /// Whether the changes are taken out of these rows column by column, if what came later is looked at. `leaves` isn't looked at then.
+    pub merges: bool,
 }
 
 /// Which units are asked for, by positions in what is handed out of a log.

@@ -43,9 +43,9 @@ use std::io::Read;
 
 /// What was seen of what came after chosen units, and the rows of these and of what came after, by their fingerprints.
 #[derive(Drop)]
-struct Recorded<'n, A: Allocator> {
-    since: Since<'n, A>,
-    record: ChangeRecord<A>,
+pub(crate) struct Recorded<'n, A: Allocator> {
+    pub(crate) since: Since<'n, A>,
+    pub(crate) record: ChangeRecord<A>,
 }
 
 /// What is left of chosen units, without the changes that were touched since.
@@ -67,7 +67,7 @@ pub(crate) struct Seen<'n, A: Allocator> {
 
 /// Looks at what came after the first chosen unit of the log of a source, and records the changes of the chosen units, and the rows that others
 /// take. `lines` say where.
-fn look_and_record<'n, A: Allocator + Copy, L: Read + Drop>(
+pub(crate) fn look_and_record<'n, A: Allocator + Copy, L: Read + Drop>(
     alloc: A,
     source: &Source<A>,
     logs: &Names<'n, A>,
@@ -167,14 +167,14 @@ pub(crate) fn look_and_leave<'n, A: Allocator + Copy, L: Read + Drop>(
 }
 
 /// Whether some marks are true.
-fn are_some(marks: &[bool]) -> bool
+pub(crate) fn are_some(marks: &[bool]) -> bool
     ensures { result ≡ are_some marks.now }
 {
     marks.iter().any(|mark| *mark)
 }
 
 /// How many changes aren't kept.
-fn rows_left<A: Allocator>(kept: &Kept<A>) -> usize
+pub(crate) fn rows_left<A: Allocator>(kept: &Kept<A>) -> usize
     requires { map (λ t. t.row) kept.now.touched.items ≡ left_out 0 kept.now.marks.items }
     ensures { result ≡ length (filter not kept.now.marks.items) }
 {
@@ -182,7 +182,7 @@ fn rows_left<A: Allocator>(kept: &Kept<A>) -> usize
 }
 
 /// The groups of an index without the rows whose mark is false.
-fn leave_rows<A: Allocator + Copy>(
+pub(crate) fn leave_rows<A: Allocator + Copy>(
     alloc: A,
     index: &Index<'_, '_, A>,
     marks: &[bool],

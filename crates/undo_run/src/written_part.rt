@@ -12,7 +12,7 @@ ghost use Rattle.blog_trans.specs.Selection.{all, selection_of};
 ghost use Rattle.blog_trans.specs.code.IndexView.{index_bytes, index_selection};
 ghost use Rattle.undo_run.specs.Parts.{part_taken, reading_of, selection_in};
 ghost use Rattle.undo_run.specs.Units.{chosen_taken, chosen_units, damage_among, kept_log, units_of_part};
-ghost use Rattle.undo_run.specs.Writes.{IsLocatedIn, WritesHanded, WritesPart, has_failed_read, has_failed_write, is_failed_write, leaves_rows};
+ghost use Rattle.undo_run.specs.Writes.{IsLocatedIn, WritesHanded, WritesPart, has_failed_read, has_failed_write, is_failed_write, leaves_rows, merges_rows};
 ghost use Rattle.undo_run.specs.code.NamesView.{names_told};
 ghost use Rattle.undo_run.specs.code.Leaves.{WritesLeft};
 ghost use Rattle.undo_run.specs.code.SinceView.{since_seen};
@@ -22,6 +22,7 @@ use crate::chosen::{Chosen, choose, index_of_chosen};
 use crate::fault::{LogsFault, PartFault};
 use crate::later::{look_after_units, look_later};
 use crate::log_names::Names;
+use crate::merged_part::write_merged;
 use crate::missing::{first_missing, first_without_unit};
 use crate::part::{damage_before, has_start, inside_of, no_start, select_part};
 use crate::reports::report_of;
@@ -323,6 +324,13 @@ fn leaves_rows(looks: bool, asked: &UnitRequest<'_>) -> bool
     looks && asked.leaves
 }
 
+/// Whether rows that were changed since are merged.
+fn merges_rows(looks: bool, asked: &UnitRequest<'_>) -> bool
+    ensures { result ≡ merges_rows looks (Some asked.now) }
+{
+    looks && asked.merges
+}
+
 /// Writes those units of a part of the log of a source that are asked for.
 fn write_units<'n, A: Allocator + Copy, L: Read + Drop, W: Write>(
     alloc: A,
@@ -384,6 +392,13 @@ fn write_units<'n, A: Allocator + Copy, L: Read + Drop, W: Write>(
         Ok(index) => index,
         Err(fault) => return Err(fault),
     };
+    let merges = merges_rows(looks, asked);
+    if merges {
+        return write_merged(
+            alloc, source, logs, &log, &inside, &among, &marks, &index, leaving, later, seed, zone,
+            writing, writer,
+        );
+    }
     let leaves = leaves_rows(looks, asked);
     if leaves {
         return write_untouched(
@@ -489,7 +504,7 @@ fn report_with<'n, A: Allocator + Copy>(
 }
 
 /// Writes the groups of an index, and returns the report of them and of what was seen of what came later.
-fn write_index<'n, A: Allocator + Copy, W: Write>(
+pub(crate) fn write_index<'n, A: Allocator + Copy, W: Write>(
     alloc: A,
     logs: &Names<'n, A>,
     index: &Index<'_, '_, A>,
@@ -507,7 +522,7 @@ fn write_index<'n, A: Allocator + Copy, W: Write>(
 }
 
 /// Writes the groups of an index, and returns what is told of them.
-fn write_told<A: Allocator + Copy, W: Write>(
+pub(crate) fn write_told<A: Allocator + Copy, W: Write>(
     alloc: A,
     index: &Index<'_, '_, A>,
     told: Vec<u8, A>,
