@@ -60,7 +60,7 @@ binlog.000042 9358 2026-11-26 04:20:00 `shop`.`customers`: update
 binlog.000042 9707 2026-11-26 04:21:00 `shop`.`customers`: update
 binlog.000042 10056 2026-11-26 04:22:00 `shop`.`customers`: update
 binlog.000042 10396 2026-11-26 04:30:00 `shop`.`customers`: delete
-binlog: ChangedSince: 13 rows that would be undone were changed since: undo these later changes first; --leave undoes the other rows alone, and --anyway overwrites these
+binlog: ChangedSince: 13 rows that would be undone were changed since: undo these later changes first; --merge keeps them and undoes the rest, --leave undoes the other rows alone, and --anyway overwrites these
 END
 undoes 1 altered_since.binlog 499 1957 61 << 'END'
 binlog.000042 1957: may change these tables, and can't be looked into

@@ -32,6 +32,7 @@ impl<A: Allocator> Failure<'_, A> {
         match self {
             Failure::Part(_, PartFault::ChangedSince(_, lines)) => lines,
             Failure::Part(_, PartFault::UnknownSince(lines)) => lines,
+            Failure::Part(_, PartFault::Unmerged(lines)) => lines,
             _ => &[],
         }
     }
@@ -169,6 +170,7 @@ fn print_part_fault<W: fmt::Write, A: Allocator>(
             "ChangedSince: {rows} rows that would be undone were changed since: {CHANGED_SINCE}"
         ),
         PartFault::UnknownSince(_) => f.write_str(UNKNOWN_SINCE),
+        PartFault::Unmerged(_) => f.write_str(UNMERGED),
         PartFault::TooLong => f.write_str(CUT_TOO_LONG),
         PartFault::NoSchema(text) => f.write_str(text.as_str()),
     }
@@ -312,10 +314,13 @@ const NOTHING_SELECTED: &str =
     "NothingSelected: no row of these tables is changed in this range: see binlog list";
 
 const CHANGED_SINCE: &str =
-    "undo these later changes first; --leave undoes the other rows alone, and --anyway overwrites these";
+    "undo these later changes first; --merge keeps them and undoes the rest, --leave undoes the other rows alone, and --anyway overwrites these";
 
 const UNKNOWN_SINCE: &str =
     "UnknownSince: what came later may have changed these tables: give --anyway if it left these rows as they were";
+
+const UNMERGED: &str =
+    "Unmerged: rows that were changed since can't be merged: --leave undoes the other rows alone";
 
 const CUT_TOO_LONG: &str =
     "TooLong: cut so small the log would have more than 4294967295 bytes: give a larger --size";

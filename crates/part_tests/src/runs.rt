@@ -45,6 +45,7 @@ pub(crate) enum Came {
     LaterLog(usize, OpeningFault),
     ChangedSince(u64),
     UnknownSince,
+    Unmerged,
     Other,
 }
 
@@ -68,6 +69,7 @@ fn came_of<A: Allocator>(fault: &PartFault<A>) -> Came {
         PartFault::LaterLog(n, fault) => Came::LaterLog(*n, *fault),
         PartFault::ChangedSince(rows, _) => Came::ChangedSince(*rows),
         PartFault::UnknownSince(_) => Came::UnknownSince,
+        PartFault::Unmerged(_) => Came::Unmerged,
         PartFault::NoUnitAt(pos) => Came::NoUnitAt(*pos),
         PartFault::NoUnitWithGtid(n) => Came::NoUnitWithGtid(*n),
         PartFault::Run(_) | PartFault::TooLong | PartFault::NoSchema(_) => Came::Other,
@@ -79,6 +81,7 @@ fn lines_of<R: AllocGlobal, A: Allocator>(rt: &R, fault: &LogsFault<A>) -> Resul
     let lines: &[u8] = match fault {
         LogsFault::Part(_, PartFault::ChangedSince(_, lines)) => lines,
         LogsFault::Part(_, PartFault::UnknownSince(lines)) => lines,
+        LogsFault::Part(_, PartFault::Unmerged(lines)) => lines,
         _ => &[],
     };
     Ok(lines.to_vec(rt.alloc())?)

@@ -34,7 +34,7 @@ use Rattle.undo_run.specs.code.Steps.{IsSource, LooksInto, LooksOn, OpensLog}
 use Rattle.undo_run.specs.declared.fault.OpeningFault.{OpeningFault}
 use Rattle.undo_run.specs.declared.fault.OpeningFault.TheVariants as opening
 use Rattle.undo_run.specs.declared.fault.PartFault.{PartFault}
-use Rattle.undo_run.specs.declared.fault.PartFault.TheVariants.{Run, Sums, NoEventAt, NoUnitAt, NoUnitWithGtid, Log, NothingSelected, LaterLog, ChangedSince, UnknownSince, TooLong, NoSchema}
+use Rattle.undo_run.specs.declared.fault.PartFault.TheVariants.{Run, Sums, NoEventAt, NoUnitAt, NoUnitWithGtid, Log, NothingSelected, LaterLog, ChangedSince, UnknownSince, Unmerged, TooLong, NoSchema}
 use Rattle.undo_run.specs.declared.since.Since as told
 
 -- ---- what is recorded of them
@@ -122,6 +122,7 @@ stops known givens rest all given n kept choice m k ls ks One All (ChangedSince 
 stops known givens rest all given n kept choice m k ls ks One All (UnknownSince lines) split number is = absurd is
 stops known givens rest all given n kept choice m k ls ks One All TooLong split number is = absurd is
 stops known givens rest all given n kept choice m k ls ks One All (NoSchema text) split number is = absurd is
+stops known givens rest all given n kept choice m k ls ks One All (Unmerged lines) split number is = absurd is
 
 -- ---- one more log
 

@@ -26,7 +26,7 @@ use Rattle.undo_run.specs.declared.fault.FurtherFault.TheVariants as further
 use Rattle.undo_run.specs.declared.fault.LogsFault.{LogsFault}
 use Rattle.undo_run.specs.declared.fault.LogsFault.TheVariants.{Opening, Further, Part}
 use Rattle.undo_run.specs.declared.fault.OpeningFault.{OpeningFault}
-use Rattle.undo_run.specs.declared.fault.PartFault.TheVariants.{Run, Sums, NoEventAt, NoUnitAt, NoUnitWithGtid, Log, NothingSelected, LaterLog, ChangedSince, UnknownSince, TooLong, NoSchema}
+use Rattle.undo_run.specs.declared.fault.PartFault.TheVariants.{Run, Sums, NoEventAt, NoUnitAt, NoUnitWithGtid, Log, NothingSelected, LaterLog, ChangedSince, UnknownSince, Unmerged, TooLong, NoSchema}
 use Rattle.undo_run.specs.declared.several.Logs.{Logs}
 use Rattle.undo_run.proofs.InTurn.{not-opened}
 
@@ -81,6 +81,7 @@ stops-joining known j givens rest all given n old (Part k (ChangedSince rows lin
 stops-joining known j givens rest all given n old (Part k (UnknownSince lines)) split number a none = absurd none
 stops-joining known j givens rest all given n old (Part k TooLong) split number a none = absurd none
 stops-joining known j givens rest all given n old (Part k (NoSchema text)) split number a none = absurd none
+stops-joining known j givens rest all given n old (Part k (Unmerged lines)) split number a none = absurd none
 
 -- what holds of logs that were read as one
 pub of-logs : {R : Type 0} (known : R → Option (List ℕ)) (stop : Option ℕ) (name : List ℕ) (givens : List (GivenLog R)) (old new : Option (List ℕ)) (P Q : Joined → Type 0) → OfLogs known stop name givens old new P
@@ -205,6 +206,7 @@ middle-unopened A known stop name middle givens last old new first fault split (
     by-fault (Part k (UnknownSince lines)) none = absurd none
     by-fault (Part k TooLong) none = absurd none
     by-fault (Part k (NoSchema text)) none = absurd none
+    by-fault (Part k (Unmerged lines)) none = absurd none
 
 -- the last
 last-ended : (A : Type 0) {R : Type 0} (known : R → Option (List ℕ)) (stop : Option ℕ) (name : List ℕ) (middle givens : List (GivenLog R)) (last : GivenLog R) (n : ℕ) (old new : Option (List ℕ)) (bytes : List ℕ) (logs : List NamedLog)
@@ -232,6 +234,7 @@ last-ended A known stop name middle givens last n old new bytes logs reads sound
 last-ended A known stop name middle givens last n old new bytes logs reads sound split number read can (Err (Part k (UnknownSince lines))) none = absurd none
 last-ended A known stop name middle givens last n old new bytes logs reads sound split number read can (Err (Part k TooLong)) none = absurd none
 last-ended A known stop name middle givens last n old new bytes logs reads sound split number read can (Err (Part k (NoSchema text))) none = absurd none
+last-ended A known stop name middle givens last n old new bytes logs reads sound split number read can (Err (Part k (Unmerged lines))) none = absurd none
 
 pub last-opened : (A : Type 0) {R : Type 0} (known : R → Option (List ℕ)) (stop : Option ℕ) (name : List ℕ) (middle givens : List (GivenLog R)) (last : GivenLog R) (n : ℕ) (old new : Option (List ℕ)) (first logs : Logs A)
     (r : Result (Logs A) (LogsFault A)) → givens ≡ middle ++ last ∷ [] → n ≡ length givens → OpensFirst None name old new (Ok first)

@@ -15,7 +15,7 @@ use Rattle.undo_run.specs.Taken.{Taken, after, since_told, steps_after, tables_t
 use Rattle.undo_run.specs.code.SinceView.{AreSeen, since_seen}
 use Rattle.undo_run.specs.code.Steps.{CountsOn, Judges, LooksAt, LooksOn}
 use Rattle.undo_run.specs.declared.fault.PartFault.{PartFault}
-use Rattle.undo_run.specs.declared.fault.PartFault.TheVariants.{Run, Sums, NoEventAt, NoUnitAt, NoUnitWithGtid, Log, NothingSelected, LaterLog, ChangedSince, UnknownSince, TooLong, NoSchema}
+use Rattle.undo_run.specs.declared.fault.PartFault.TheVariants.{Run, Sums, NoEventAt, NoUnitAt, NoUnitWithGtid, Log, NothingSelected, LaterLog, ChangedSince, UnknownSince, Unmerged, TooLong, NoSchema}
 use Rattle.undo_run.specs.declared.since.Since as told
 
 -- a later log isn't opened, or memory was refused
@@ -35,6 +35,7 @@ not-looked known givens t kept choice m ls Also (ChangedSince rows lines) none =
 not-looked known givens t kept choice m ls Also (UnknownSince lines) none = absurd none
 not-looked known givens t kept choice m ls Also TooLong none = absurd none
 not-looked known givens t kept choice m ls Also (NoSchema text) none = absurd none
+not-looked known givens t kept choice m ls Also (Unmerged lines) none = absurd none
 
 -- what is told is what was seen
 pub told-since : {A : Type 0} (t : Taken) (logs : List NamedLog) (n : ℕ) (choice : Choice) (all : told.Since A) → choice ≡ tables_taken t → AreSeen n choice (after t logs) all
@@ -85,3 +86,4 @@ all-judged known givens t kept choice m Also all (Err (Log f)) named counts (log
 all-judged known givens t kept choice m Also all (Err NothingSelected) named counts (logs, read, seen, also) judges is = absurd (judges (m + touches kept (map whole_log logs)) (after t logs) seen)
 all-judged known givens t kept choice m Also all (Err TooLong) named counts (logs, read, seen, also) judges is = absurd (judges (m + touches kept (map whole_log logs)) (after t logs) seen)
 all-judged known givens t kept choice m Also all (Err (NoSchema text)) named counts (logs, read, seen, also) judges is = absurd (judges (m + touches kept (map whole_log logs)) (after t logs) seen)
+all-judged known givens t kept choice m Also all (Err (Unmerged lines)) named counts (logs, read, seen, also) judges is = absurd (judges (m + touches kept (map whole_log logs)) (after t logs) seen)

@@ -23,7 +23,7 @@ use Rattle.undo_run.specs.Units.{AreAccepted, IsFirstRefused, IsUnitAccepted, ch
 use Rattle.undo_run.specs.code.Steps.{Adds, Chooses, Gathers, HandsGroups, HasChosen, IsKept, chosen_changes}
 use Rattle.undo_run.specs.declared.chosen.Chosen.{Chosen}
 use Rattle.undo_run.specs.declared.fault.PartFault.{PartFault}
-use Rattle.undo_run.specs.declared.fault.PartFault.TheVariants.{Run, Sums, NoEventAt, NoUnitAt, NoUnitWithGtid, Log, NothingSelected, LaterLog, ChangedSince, UnknownSince, TooLong, NoSchema}
+use Rattle.undo_run.specs.declared.fault.PartFault.TheVariants.{Run, Sums, NoEventAt, NoUnitAt, NoUnitWithGtid, Log, NothingSelected, LaterLog, ChangedSince, UnknownSince, Unmerged, TooLong, NoSchema}
 
 -- ---- one more
 
@@ -78,6 +78,7 @@ not-gathered looks sel handed us (LaterLog n f) none = absurd none
 not-gathered looks sel handed us (ChangedSince rows lines) none = absurd none
 not-gathered looks sel handed us (UnknownSince lines) none = absurd none
 not-gathered looks sel handed us (NoSchema text) none = absurd none
+not-gathered looks sel handed us (Unmerged lines) none = absurd none
 not-gathered looks sel handed us NothingSelected none = absurd none
 
 -- ---- what is kept
@@ -210,6 +211,7 @@ not-handed looks p sel handed end damage chosen marks left rest u (LaterLog n f)
 not-handed looks p sel handed end damage chosen marks left rest u (ChangedSince rows lines) s first (is, (inner, refused, none)) = absurd none
 not-handed looks p sel handed end damage chosen marks left rest u (UnknownSince lines) s first (is, (inner, refused, none)) = absurd none
 not-handed looks p sel handed end damage chosen marks left rest u (NoSchema text) s first (is, (inner, refused, none)) = absurd none
+not-handed looks p sel handed end damage chosen marks left rest u (Unmerged lines) s first (is, (inner, refused, none)) = absurd none
 not-handed looks p sel handed end damage chosen marks left rest u NothingSelected s first (is, (inner, refused, none)) = absurd none
 not-handed looks p sel handed end damage chosen marks left rest u TooLong s first (is, (inner, refused, none)) = absurd none
 
@@ -236,4 +238,5 @@ not-added looks p sel handed end damage chosen marks left rest u (LaterLog n f) 
 not-added looks p sel handed end damage chosen marks left rest u (ChangedSince rows lines) s first is accepted none = absurd none
 not-added looks p sel handed end damage chosen marks left rest u (UnknownSince lines) s first is accepted none = absurd none
 not-added looks p sel handed end damage chosen marks left rest u (NoSchema text) s first is accepted none = absurd none
+not-added looks p sel handed end damage chosen marks left rest u (Unmerged lines) s first is accepted none = absurd none
 not-added looks p sel handed end damage chosen marks left rest u NothingSelected s first is accepted none = absurd none

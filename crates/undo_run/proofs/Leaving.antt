@@ -26,7 +26,7 @@ use Rattle.undo_run.specs.code.Leaves.{AreRecorded, HasRest, Leaves, LeavesOut, 
 use Rattle.undo_run.specs.code.SinceView.{AreSeen, since_seen}
 use Rattle.undo_run.specs.code.Steps.{WritesGroups, WritesIndex, report_told}
 use Rattle.undo_run.specs.declared.fault.PartFault.{PartFault}
-use Rattle.undo_run.specs.declared.fault.PartFault.TheVariants.{Run, Sums, NoEventAt, NoUnitAt, NoUnitWithGtid, Log, NothingSelected, LaterLog, ChangedSince, UnknownSince, TooLong, NoSchema}
+use Rattle.undo_run.specs.declared.fault.PartFault.TheVariants.{Run, Sums, NoEventAt, NoUnitAt, NoUnitWithGtid, Log, NothingSelected, LaterLog, ChangedSince, UnknownSince, Unmerged, TooLong, NoSchema}
 use Rattle.undo_run.specs.declared.since.Since as told
 use Rattle.undo_run.specs.declared.untouched.Recorded.{Recorded}
 use Rattle.undo_run.specs.declared.untouched.Rest.{Rest}
@@ -99,6 +99,7 @@ none-kept known givens t recorded (Log f) clear whole (logs, read, are) leaves =
 none-kept known givens t recorded (LaterLog n f) clear whole (logs, read, are) leaves = absurd (leaves logs are)
 none-kept known givens t recorded (UnknownSince lines) clear whole (logs, read, are) leaves = absurd (leaves logs are)
 none-kept known givens t recorded (NoSchema text) clear whole (logs, read, are) leaves = absurd (leaves logs are)
+none-kept known givens t recorded (Unmerged lines) clear whole (logs, read, are) leaves = absurd (leaves logs are)
 none-kept known givens t recorded NothingSelected clear whole (logs, read, are) leaves = absurd (leaves logs are)
 
 pub not-recorded-left : {A R : Type 0} (known : R → Option (List ℕ)) (givens : List (GivenLog R)) (t : Taken) (cause : PartFault A) → RecordsAfter {A = A} known givens t (Err cause) → Leaves {A = A} known givens t (Err cause)
@@ -115,6 +116,7 @@ not-recorded-left known givens t (ChangedSince rows lines) none = absurd none
 not-recorded-left known givens t (UnknownSince lines) none = absurd none
 not-recorded-left known givens t TooLong none = absurd none
 not-recorded-left known givens t (NoSchema text) none = absurd none
+not-recorded-left known givens t (Unmerged lines) none = absurd none
 not-recorded-left known givens t NothingSelected none = absurd none
 
 -- ---- leaving out
@@ -135,6 +137,7 @@ not-left-out t logs touched text (LaterLog n f) some out is none = absurd none
 not-left-out t logs touched text (ChangedSince rows lines) some out is none = absurd none
 not-left-out t logs touched text (UnknownSince lines) some out is none = absurd none
 not-left-out t logs touched text (NoSchema told) some out is none = absurd none
+not-left-out t logs touched text (Unmerged lines) some out is none = absurd none
 not-left-out t logs touched text NothingSelected some out is none = absurd none
 
 -- ---- writing

@@ -37,7 +37,7 @@ use Rattle.undo_run.specs.code.Merges.{HasMerging, IsUnmerged, MergesAfter, Merg
 use Rattle.undo_run.specs.code.SinceView.{AreSeen, since_seen}
 use Rattle.undo_run.specs.code.Steps.{WritesGroups, WritesIndex, report_told}
 use Rattle.undo_run.specs.declared.fault.PartFault.{PartFault}
-use Rattle.undo_run.specs.declared.fault.PartFault.TheVariants.{Run, Sums, NoEventAt, NoUnitAt, NoUnitWithGtid, Log, NothingSelected, LaterLog, ChangedSince, UnknownSince, TooLong, NoSchema}
+use Rattle.undo_run.specs.declared.fault.PartFault.TheVariants.{Run, Sums, NoEventAt, NoUnitAt, NoUnitWithGtid, Log, NothingSelected, LaterLog, ChangedSince, UnknownSince, Unmerged, TooLong, NoSchema}
 use Rattle.undo_run.specs.declared.merged.Merging.{Merging}
 use Rattle.undo_run.specs.declared.merged.SeenToMerge.{SeenToMerge}
 use Rattle.undo_run.specs.declared.since.Since as told
@@ -84,7 +84,7 @@ some-undone false b some = some refl
 
 -- rows aren't merged
 pub unmerged-out : {A : Type 0} (t : Taken) (logs : List NamedLog) (touched : ℕ) (cause : PartFault A) → are_all (marks_undone t logs) ≡ false → IsUnmerged cause → MergesOut {A = A} t logs touched (Err cause)
-unmerged-out t logs touched (UnknownSince lines) out is = out
+unmerged-out t logs touched (UnknownSince lines) out none = absurd none
 unmerged-out t logs touched (Run (run.Log f)) out is = is
 unmerged-out t logs touched (Run run.Read) out none = absurd none
 unmerged-out t logs touched (Run run.Write) out none = absurd none
@@ -96,6 +96,7 @@ unmerged-out t logs touched (Log f) out none = absurd none
 unmerged-out t logs touched (LaterLog n f) out none = absurd none
 unmerged-out t logs touched (ChangedSince rows lines) out none = absurd none
 unmerged-out t logs touched (NoSchema told) out none = absurd none
+unmerged-out t logs touched (Unmerged lines) out is = out
 unmerged-out t logs touched NothingSelected out none = absurd none
 unmerged-out t logs touched TooLong out none = absurd none
 
@@ -114,6 +115,7 @@ rest-unwritten t logs touched text (LaterLog n f) out none = absurd none
 rest-unwritten t logs touched text (ChangedSince rows lines) out none = absurd none
 rest-unwritten t logs touched text (UnknownSince lines) out none = absurd none
 rest-unwritten t logs touched text (NoSchema told) out none = absurd none
+rest-unwritten t logs touched text (Unmerged lines) out none = absurd none
 rest-unwritten t logs touched text NothingSelected out none = absurd none
 
 -- ---- by what was recorded
@@ -126,7 +128,7 @@ is-known t logs recorded are known whole = record {
 
 pub not-known : {A R : Type 0} (known : R → Option (List ℕ)) (givens : List (GivenLog R)) (t : Taken) (recorded : Recorded A) (lines : Vec ℕ A) → RecordsAfter known givens t (Ok recorded) → (0 < recorded.since.unknown) ⊎ (recorded.since.is_damaged ≡ true)
     → MergesAfter {A = A} known givens t (Err (UnknownSince lines))
-not-known known givens t recorded lines (logs, read, are) is = (logs, read, inl (unknown-left t logs recorded are is))
+not-known known givens t recorded lines (logs, read, are) is = (logs, read, unknown-left t logs recorded are is)
 
 pub all-merged : {A R : Type 0} (known : R → Option (List ℕ)) (givens : List (GivenLog R)) (t : Taken) (recorded : Recorded A) (merging : Option (Merging A)) → recorded.since.unknown ≡ 0 → recorded.since.is_damaged ≡ false
     → RecordsAfter known givens t (Ok recorded) → ((logs : List NamedLog) → AreRead known givens logs → AreRecorded t logs recorded → MergesOut t logs recorded.since.touched (Ok merging))
@@ -137,7 +139,7 @@ all-merged known givens t recorded merging clear whole (logs, read, are) merges 
 pub none-merged : {A R : Type 0} (known : R → Option (List ℕ)) (givens : List (GivenLog R)) (t : Taken) (recorded : Recorded A) (cause : PartFault A) → recorded.since.unknown ≡ 0 → recorded.since.is_damaged ≡ false
     → RecordsAfter known givens t (Ok recorded) → ((logs : List NamedLog) → AreRead known givens logs → AreRecorded t logs recorded → MergesOut t logs recorded.since.touched (Err cause)) → MergesAfter {A = A} known givens t (Err cause)
 none-merged known givens t recorded (ChangedSince rows lines) clear whole (logs, read, are) merges = let (is, none) = merges logs read are in (logs, read, (is ∙ are.seen.touched, none))
-none-merged known givens t recorded (UnknownSince lines) clear whole (logs, read, are) merges = (logs, read, inr (merges logs read are))
+none-merged known givens t recorded (UnknownSince lines) clear whole (logs, read, are) merges = absurd (merges logs read are)
 none-merged known givens t recorded TooLong clear whole (logs, read, are) merges = (logs, read, (is-known t logs recorded are clear whole, merges logs read are))
 none-merged known givens t recorded (Run (run.Log f)) clear whole (logs, read, are) merges = merges logs read are
 none-merged known givens t recorded (Run run.Read) clear whole (logs, read, are) merges = absurd (merges logs read are)
@@ -149,6 +151,7 @@ none-merged known givens t recorded (NoUnitWithGtid gtid) clear whole (logs, rea
 none-merged known givens t recorded (Log f) clear whole (logs, read, are) merges = absurd (merges logs read are)
 none-merged known givens t recorded (LaterLog n f) clear whole (logs, read, are) merges = absurd (merges logs read are)
 none-merged known givens t recorded (NoSchema text) clear whole (logs, read, are) merges = absurd (merges logs read are)
+none-merged known givens t recorded (Unmerged lines) clear whole (logs, read, are) merges = (logs, read, (is-known t logs recorded are clear whole, merges logs read are))
 none-merged known givens t recorded NothingSelected clear whole (logs, read, are) merges = absurd (merges logs read are)
 
 pub not-recorded-merged : {A R : Type 0} (known : R → Option (List ℕ)) (givens : List (GivenLog R)) (t : Taken) (cause : PartFault A) → RecordsAfter {A = A} known givens t (Err cause) → MergesAfter {A = A} known givens t (Err cause)
@@ -165,6 +168,7 @@ not-recorded-merged known givens t (ChangedSince rows lines) none = absurd none
 not-recorded-merged known givens t (UnknownSince lines) none = absurd none
 not-recorded-merged known givens t TooLong none = absurd none
 not-recorded-merged known givens t (NoSchema text) none = absurd none
+not-recorded-merged known givens t (Unmerged lines) none = absurd none
 not-recorded-merged known givens t NothingSelected none = absurd none
 
 -- without later logs, none was read

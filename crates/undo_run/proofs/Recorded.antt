@@ -23,7 +23,7 @@ use Rattle.undo_run.specs.code.Leaves.{AreRecorded, Records, RecordsAfter}
 use Rattle.undo_run.specs.code.SinceView.{AreSeen}
 use Rattle.undo_run.specs.code.Steps.{CountsOn, LooksOn}
 use Rattle.undo_run.specs.declared.fault.PartFault.{PartFault}
-use Rattle.undo_run.specs.declared.fault.PartFault.TheVariants.{Run, Sums, NoEventAt, NoUnitAt, NoUnitWithGtid, Log, NothingSelected, LaterLog, ChangedSince, UnknownSince, TooLong, NoSchema}
+use Rattle.undo_run.specs.declared.fault.PartFault.TheVariants.{Run, Sums, NoEventAt, NoUnitAt, NoUnitWithGtid, Log, NothingSelected, LaterLog, ChangedSince, UnknownSince, Unmerged, TooLong, NoSchema}
 use Rattle.undo_run.specs.declared.untouched.Recorded.{Recorded as RecordedAfter}
 use Rattle.undo_run.proofs.Counted.{selected-later}
 
@@ -103,3 +103,4 @@ not-recorded known givens t kept choice m ls Also (ChangedSince rows lines) none
 not-recorded known givens t kept choice m ls Also (UnknownSince lines) none = absurd none
 not-recorded known givens t kept choice m ls Also TooLong none = absurd none
 not-recorded known givens t kept choice m ls Also (NoSchema text) none = absurd none
+not-recorded known givens t kept choice m ls Also (Unmerged lines) none = absurd none

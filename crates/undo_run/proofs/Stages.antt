@@ -32,7 +32,7 @@ use Rattle.undo_run.specs.code.Steps.{Chooses, Looks, WritesGroups, WritesIndex,
 use Rattle.undo_run.specs.declared.fault.LogsFault.{LogsFault}
 use Rattle.undo_run.specs.declared.fault.LogsFault.TheVariants.{Opening, Further, Part}
 use Rattle.undo_run.specs.declared.fault.PartFault.{PartFault}
-use Rattle.undo_run.specs.declared.fault.PartFault.TheVariants.{Run, Sums, NoEventAt, NoUnitAt, NoUnitWithGtid, Log, NothingSelected, LaterLog, ChangedSince, UnknownSince, TooLong, NoSchema}
+use Rattle.undo_run.specs.declared.fault.PartFault.TheVariants.{Run, Sums, NoEventAt, NoUnitAt, NoUnitWithGtid, Log, NothingSelected, LaterLog, ChangedSince, UnknownSince, Unmerged, TooLong, NoSchema}
 use Rattle.undo_run.specs.declared.request.UnitRequest.{UnitRequest}
 use Rattle.undo_run.specs.declared.several.Logs.{Logs}
 use Rattle.undo_run.specs.declared.since.Since as told
@@ -77,6 +77,7 @@ planned looks known givens w p Sound Refuses had has logs telling bytes sel r so
     by_groups (Err (Sums f)) none = absurd none
     by_groups (Err (Log f)) none = absurd none
     by_groups (Err NothingSelected) none = absurd none
+    by_groups (Err (Unmerged lines)) none = absurd none
 
 pub taken-written : {A R : Type 0} (looks : Bool) (known : R → Option (List ℕ)) (givens : List (GivenLog R)) (w : Writing) (name : Names) (t : Taken) (Sound : Type 0) (Refuses : PartFault A → Type 0) (had has : Option (List ℕ)) (since : Option (told.Since A))
     (bytes : List ℕ) (sel : Selection) (r : Result (Vec ℕ A) (PartFault A)) → Sound → Looks {A = A} looks known givens t (Ok since) → bytes ≡ t.log → sel ≡ t.sel
@@ -104,6 +105,7 @@ not-free true known givens w name t Sound Refuses had has (NoUnitAt place) sound
 not-free true known givens w name t Sound Refuses had has (NoUnitWithGtid gtid) sound none keeps = absurd none
 not-free true known givens w name t Sound Refuses had has (Log f) sound none keeps = absurd none
 not-free true known givens w name t Sound Refuses had has (NoSchema text) sound none keeps = absurd none
+not-free true known givens w name t Sound Refuses had has (Unmerged lines) sound none keeps = absurd none
 not-free true known givens w name t Sound Refuses had has NothingSelected sound none keeps = absurd none
 not-free true known givens w name t Sound Refuses had has TooLong sound none keeps = absurd none
 
@@ -121,6 +123,7 @@ no-write-failed X true known givens t (NoUnitAt place) is = refl
 no-write-failed X true known givens t (NoUnitWithGtid gtid) is = refl
 no-write-failed X true known givens t (Log f) is = refl
 no-write-failed X true known givens t (NoSchema text) is = refl
+no-write-failed X true known givens t (Unmerged lines) is = refl
 no-write-failed X true known givens t NothingSelected is = refl
 no-write-failed X true known givens t TooLong is = refl
 
@@ -156,6 +159,7 @@ sound-written looks known givens w p Sound Refuses had has (Err (NoUnitWithGtid 
 sound-written looks known givens w p Sound Refuses had has (Err (Sums f)) sound (none, keeps) = absurd none
 sound-written looks known givens w p Sound Refuses had has (Err (Log f)) sound (none, keeps) = absurd none
 sound-written looks known givens w p Sound Refuses had has (Err NothingSelected) sound (none, keeps) = absurd none
+sound-written looks known givens w p Sound Refuses had has (Err (Unmerged lines)) sound ((done, is), keeps) = ((sound, is), keeps)
 
 -- rows may be
 pub by-left : {A R : Type 0} (m looks leaves : Bool) (known : R → Option (List ℕ)) (givens : List (GivenLog R)) (w : Writing) (name : Names) (t : Taken) (Sound : Type 0) (Refuses : PartFault A → Type 0) (had has : Option (List ℕ)) (r : Result (Vec ℕ A) (PartFault A))
@@ -188,6 +192,7 @@ not-merged known givens w name t had has (NoUnitAt place) none keeps = absurd no
 not-merged known givens w name t had has (NoUnitWithGtid gtid) none keeps = absurd none
 not-merged known givens w name t had has (Log f) none keeps = absurd none
 not-merged known givens w name t had has (NoSchema text) none keeps = absurd none
+not-merged known givens w name t had has (Unmerged lines) is keeps = ([], ((tt, is), keeps))
 not-merged known givens w name t had has NothingSelected none keeps = absurd none
 
 pub no-merge-failed : {A R : Type 0} (X : Type 0) (known : R → Option (List ℕ)) (givens : List (GivenLog R)) (t : Taken) (cause : PartFault A) → MergesAfter {A = A} known givens t (Err cause) → is_failed_write {A = A} {X = X} (Err cause) ≡ false
@@ -203,6 +208,7 @@ no-merge-failed X known givens t (NoUnitAt place) is = refl
 no-merge-failed X known givens t (NoUnitWithGtid gtid) is = refl
 no-merge-failed X known givens t (Log f) is = refl
 no-merge-failed X known givens t (NoSchema text) is = refl
+no-merge-failed X known givens t (Unmerged lines) is = refl
 no-merge-failed X known givens t NothingSelected is = refl
 no-merge-failed X known givens t TooLong is = refl
 
@@ -222,6 +228,7 @@ not-left known givens w name t had has (NoUnitAt place) none keeps = absurd none
 not-left known givens w name t had has (NoUnitWithGtid gtid) none keeps = absurd none
 not-left known givens w name t had has (Log f) none keeps = absurd none
 not-left known givens w name t had has (NoSchema text) none keeps = absurd none
+not-left known givens w name t had has (Unmerged lines) none keeps = absurd none
 not-left known givens w name t had has NothingSelected none keeps = absurd none
 
 pub no-left-failed : {A R : Type 0} (X : Type 0) (known : R → Option (List ℕ)) (givens : List (GivenLog R)) (t : Taken) (cause : PartFault A) → Leaves {A = A} known givens t (Err cause) → is_failed_write {A = A} {X = X} (Err cause) ≡ false
@@ -237,6 +244,7 @@ no-left-failed X known givens t (NoUnitAt place) is = refl
 no-left-failed X known givens t (NoUnitWithGtid gtid) is = refl
 no-left-failed X known givens t (Log f) is = refl
 no-left-failed X known givens t (NoSchema text) is = refl
+no-left-failed X known givens t (Unmerged lines) is = refl
 no-left-failed X known givens t NothingSelected is = refl
 no-left-failed X known givens t TooLong is = refl
 
@@ -270,6 +278,7 @@ not-selected looks known givens w p Sound Refuses had has (LaterLog n f) none ke
 not-selected looks known givens w p Sound Refuses had has (ChangedSince rows lines) none keeps = absurd none
 not-selected looks known givens w p Sound Refuses had has (UnknownSince lines) none keeps = absurd none
 not-selected looks known givens w p Sound Refuses had has (NoSchema text) none keeps = absurd none
+not-selected looks known givens w p Sound Refuses had has (Unmerged lines) none keeps = absurd none
 
 -- ---- of a part
 
@@ -285,6 +294,7 @@ part-refused part handed end damage (LaterLog n f) none = absurd none
 part-refused part handed end damage (ChangedSince rows lines) none = absurd none
 part-refused part handed end damage (UnknownSince lines) none = absurd none
 part-refused part handed end damage (NoSchema text) none = absurd none
+part-refused part handed end damage (Unmerged lines) none = absurd none
 part-refused part handed end damage TooLong none = absurd none
 
 pub all-refused : {A R : Type 0} (looks : Bool) (known : R → Option (List ℕ)) (givens : List (GivenLog R)) (w : Writing) (p : Plan) (Sound : Type 0) (had has : Option (List ℕ)) (part : Selection) (handed : List ℕ) (end : ℕ) (damage : Option SumFault)
@@ -306,6 +316,7 @@ start-refused r part handed end fault damage (LaterLog n f) none = absurd none
 start-refused r part handed end fault damage (ChangedSince rows lines) none = absurd none
 start-refused r part handed end fault damage (UnknownSince lines) none = absurd none
 start-refused r part handed end fault damage (NoSchema text) none = absurd none
+start-refused r part handed end fault damage (Unmerged lines) none = absurd none
 start-refused r part handed end fault damage NothingSelected none = absurd none
 start-refused r part handed end fault damage TooLong none = absurd none
 
@@ -321,6 +332,7 @@ unit-lacking r part handed end fault damage (LaterLog k f) start none = absurd n
 unit-lacking r part handed end fault damage (ChangedSince rows lines) start none = absurd none
 unit-lacking r part handed end fault damage (UnknownSince lines) start none = absurd none
 unit-lacking r part handed end fault damage (NoSchema text) start none = absurd none
+unit-lacking r part handed end fault damage (Unmerged lines) start none = absurd none
 unit-lacking r part handed end fault damage NothingSelected start none = absurd none
 unit-lacking r part handed end fault damage TooLong start none = absurd none
 
@@ -338,6 +350,7 @@ chosen-refused r part handed end fault damage (LaterLog n f) start none = absurd
 chosen-refused r part handed end fault damage (ChangedSince rows lines) start none = absurd none
 chosen-refused r part handed end fault damage (UnknownSince lines) start none = absurd none
 chosen-refused r part handed end fault damage (NoSchema text) start none = absurd none
+chosen-refused r part handed end fault damage (Unmerged lines) start none = absurd none
 
 pub not-chosen : {A : Type 0} (looks : Bool) (r : UnitRequest) (part : Selection) (handed : List ℕ) (end : ℕ) (fault damage : Option SumFault) (cause : PartFault A) → has_start part handed end ≡ true
     → Chooses {A = A} looks (is_asked r part handed) (selection_in part handed) handed end damage (Err cause) → IsRefused (RefusesUnits r part handed end fault damage) cause
@@ -355,6 +368,7 @@ not-chosen looks r part handed end fault damage (LaterLog n f) start none = absu
 not-chosen looks r part handed end fault damage (ChangedSince rows lines) start none = absurd none
 not-chosen looks r part handed end fault damage (UnknownSince lines) start none = absurd none
 not-chosen looks r part handed end fault damage (NoSchema text) start none = absurd none
+not-chosen looks r part handed end fault damage (Unmerged lines) start none = absurd none
 
 -- what holds of units and a selection of the program holds of those that they are
 pub of-units : (P : (Facts → Bool) → Selection → Type 0) (p q : Facts → Bool) (sel there : Selection) → p ≡ q → sel ≡ there → P p sel → P q there
@@ -425,3 +439,4 @@ not-read looks known later more w name part asked stop old new had has (Part n (
 not-read looks known later more w name part asked stop old new had has (Part n (UnknownSince lines)) none keeps = absurd none
 not-read looks known later more w name part asked stop old new had has (Part n TooLong) none keeps = absurd none
 not-read looks known later more w name part asked stop old new had has (Part n (NoSchema text)) none keeps = absurd none
+not-read looks known later more w name part asked stop old new had has (Part n (Unmerged lines)) none keeps = absurd none

@@ -76,4 +76,5 @@ plan_left w names t = record {
   told = λ logs told. IsLeftTold t logs (report_taken true w names t logs (log_undone t logs) all) told;
   changed = λ rows logs. AreAllChanged t logs rows;
   unknown = AreUnknown t;
+  unmerged = λ logs. ⊥;
 }

@@ -76,5 +76,6 @@ plan_merged w names t log = record {
   long = λ logs. IsKnown t logs × ((are_all (marks_undone t logs) ≡ false) ⊎ (4294967295 < end_of_text w.sql w.order w.limit log all));
   told = λ logs told. IsMergeTold t logs (report_merged w names t logs log) told;
   changed = λ rows logs. AreNoneMerged t logs rows;
-  unknown = λ logs. AreUnknown t logs ⊎ (are_all (marks_undone t logs) ≡ false);
+  unknown = AreUnknown t;
+  unmerged = λ logs. IsKnown t logs × (are_all (marks_undone t logs) ≡ false);
 }

@@ -26,7 +26,7 @@ use Rattle.undo_run.specs.Several.{Names, one_name}
 use Rattle.undo_run.specs.declared.fault.OpeningFault.{OpeningFault}
 use Rattle.undo_run.specs.declared.fault.OpeningFault.TheVariants as opening
 use Rattle.undo_run.specs.declared.fault.PartFault.{PartFault}
-use Rattle.undo_run.specs.declared.fault.PartFault.TheVariants.{Run, Sums, NoEventAt, NoUnitAt, NoUnitWithGtid, Log, NothingSelected, LaterLog, ChangedSince, UnknownSince, TooLong, NoSchema}
+use Rattle.undo_run.specs.declared.fault.PartFault.TheVariants.{Run, Sums, NoEventAt, NoUnitAt, NoUnitWithGtid, Log, NothingSelected, LaterLog, ChangedSince, UnknownSince, Unmerged, TooLong, NoSchema}
 
 -- ---- what is taken, and what came after
 
@@ -112,7 +112,8 @@ OfLater looks known givens P = (logs : List NamedLog) × AreLater looks known gi
 -- ---- how it is written
 
 -- How what is taken is written, by the later logs as they were read: that nothing that came later keeps it back; the log that has it, and the
--- selection of that; that this is too long; what is told of it; and that nothing is written since so many rows were changed, or may have been.
+-- selection of that; that this is too long; what is told of it; and that nothing is written since so many rows were changed, or may have been, or
+-- can't be merged.
 pub record Plan : Type 1 where
   pub safe : List NamedLog → Type 0
   pub log : List NamedLog → List ℕ
@@ -121,6 +122,7 @@ pub record Plan : Type 1 where
   pub told : List NamedLog → List ℕ → Type 0
   pub changed : ℕ → List NamedLog → Type 0
   pub unknown : List NamedLog → Type 0
+  pub unmerged : List NamedLog → Type 0
 
 -- what is reported of changes of a log, where logs of these names were read
 abbrev pub report_taken : Bool → Writing → Names → Taken → List NamedLog → List ℕ → Selection → List ℕ
@@ -136,6 +138,7 @@ plan_taken looks w names t = record {
   told = λ logs told. told ≡ report_taken looks w names t logs t.log t.sel;
   changed = λ rows logs. (looks ≡ true) × AreChanged (steps_after t logs) rows;
   unknown = λ logs. (looks ≡ true) × MayBeChanged (steps_after t logs) (tables_taken t) (after t logs);
+  unmerged = λ logs. ⊥;
 }
 
 -- it can be written: nothing keeps it back, and it isn't too long and lacks no schema
@@ -161,6 +164,7 @@ WritesBy looks known givens w p Sound Refuses had has (Err (NoSchema text)) = (S
 WritesBy looks known givens w p Sound Refuses had has (Err (LaterLog n f)) = (Sound × (looks ≡ true) × FailsLater known givens n f) × Keeps had has
 WritesBy looks known givens w p Sound Refuses had has (Err (ChangedSince rows lines)) = (Sound × OfLater looks known givens (p.changed rows)) × Keeps had has
 WritesBy looks known givens w p Sound Refuses had has (Err (UnknownSince lines)) = (Sound × OfLater looks known givens p.unknown) × Keeps had has
+WritesBy looks known givens w p Sound Refuses had has (Err (Unmerged lines)) = (Sound × OfLater looks known givens p.unmerged) × Keeps had has
 WritesBy looks known givens w p Sound Refuses had has (Err (NoEventAt pos)) = Refuses (NoEventAt pos) × Keeps had has
 WritesBy looks known givens w p Sound Refuses had has (Err (NoUnitAt place)) = Refuses (NoUnitAt place) × Keeps had has
 WritesBy looks known givens w p Sound Refuses had has (Err (NoUnitWithGtid n)) = Refuses (NoUnitWithGtid n) × Keeps had has

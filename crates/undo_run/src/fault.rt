@@ -78,6 +78,8 @@ pub enum PartFault<A: Allocator> {
     ChangedSince(u64, Vec<u8, A>),
     /// What came later may concern the part's tables, and can't be looked into. These lines say where.
     UnknownSince(Vec<u8, A>),
+    /// Rows of the part that were changed since can't be merged. These lines say where they were, and why.
+    Unmerged(Vec<u8, A>),
     /// What would be written has, as a log, more than 4,294,967,295 bytes.
     TooLong,
     /// The changes have no table in a database that is to have another name, as this text tells.

@@ -133,7 +133,7 @@ fn merge_touched<A: Allocator + Copy>(
         return Err(unmerged(
             alloc,
             lines,
-            b"rows that were changed since are merged if all logs are given as LOG, and none as --later\n",
+            b"rows that were changed since can be merged if all logs are given as LOG, and none as --later\n",
         ));
     }
     match pairs_among(alloc, log, inside.start, chosen, inside, &kept.marks) {
@@ -176,7 +176,7 @@ fn merge_pairs<A: Allocator + Copy>(
         Err(MergeFault::Unfit) => Err(unmerged(
             alloc,
             lines,
-            b"the updates of these rows can't be written: leave them with --leave\n",
+            b"the updates of these rows can't be written\n",
         )),
     }
 }
@@ -208,7 +208,7 @@ fn unpaired<A: Allocator + Copy>(
         PairFault::OtherLayout => unmerged(
             alloc,
             lines,
-            b"a table of these rows had other columns when they were changed: leave them with --leave\n",
+            b"a table of these rows had other columns when they were changed\n",
         ),
     }
 }
@@ -222,7 +222,7 @@ fn unmerged<A: Allocator + Copy>(
     ensures { IsUnmerged result }
 {
     match unmerged_text(alloc, lines, why) {
-        Ok(text) => PartFault::UnknownSince(text),
+        Ok(text) => PartFault::Unmerged(text),
         Err(_) => PartFault::Run(RunFault::Log(Fault::OutOfMemory)),
     }
 }

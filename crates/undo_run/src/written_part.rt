@@ -70,12 +70,17 @@ use std::io::{Read, Write};
 /// change is written too. The report says how many changes aren't written, and where their rows were changed. It fails with `ChangedSince` then only
 /// if no change is left to write, and first with `UnknownSince`.
 ///
+/// If `asked` merges these rows, the same changes aren't written, and then each of these rows is updated to what it would be without the changes of the
+/// units: a column that only these changed gets its value from before them, and one that others changed keeps theirs. Rows that the units inserted stay.
+/// The report says how many rows are updated and how many stay. It fails with `ChangedSince` only if nothing is written, and with `Unmerged` if some
+/// rows were changed since and there are later logs, or their table had other columns then.
+///
 /// Fails at the first of these that holds: with `Opening` if the reader fails, the first log is too long or can't be opened, or if memory is
 /// refused; with `Further` of the first further log that can't be opened, or read behind those before it; and else with `Part`: with `NoEventAt` if no
 /// event of the first log begins at the start, or with `Sums` if the log ends too early or is damaged in front of it; with `NoUnitAt` at the
 /// first of the asked places that no unit of the part has, or with `NoUnitWithGtid` of the first of the global transaction ids, or with `Sums` if
 /// the part is damaged then; with `Log` or `Sums` of the first fault in the order of the logs; with `NothingSelected` if no rows are changed; with
-/// `LaterLog` of the first later log that isn't opened, by its number; with `ChangedSince` or `UnknownSince`; with `NoSchema` if the changes
+/// `LaterLog` of the first later log that isn't opened, by its number; with `ChangedSince`, `UnknownSince` or `Unmerged`; with `NoSchema` if the changes
 /// have no table of a schema that is to have another name; with `TooLong`. The writer wasn't called then. With `looks` and `asked` damage of
 /// the last log is no fault of its own, but `UnknownSince`.
 /// Fails with `Run(Write)` if a write failed; the writer then has a beginning of what is written.

@@ -21,7 +21,7 @@ use Rattle.undo_run.specs.Several.{Names}
 use Rattle.undo_run.specs.Taken.{FailsLater, OfLater, Taken, WritesBy, after, since_told, steps_after, tables_taken}
 use Rattle.undo_run.specs.code.SinceView.{AreSeen, since_seen}
 use Rattle.undo_run.specs.declared.fault.PartFault.{PartFault}
-use Rattle.undo_run.specs.declared.fault.PartFault.TheVariants.{Run, LaterLog, ChangedSince, UnknownSince, TooLong}
+use Rattle.undo_run.specs.declared.fault.PartFault.TheVariants.{Run, LaterLog, ChangedSince, UnknownSince, Unmerged, TooLong}
 use Rattle.undo_run.specs.declared.since.Since as told
 use Rattle.undo_run.specs.declared.untouched.Recorded.{Recorded}
 use Rattle.undo_run.specs.declared.untouched.Rest.{Rest}

@@ -1,5 +1,5 @@
 -- What comes of merging rows that were changed since.
-use Rattle.std.specs.Prelude.{◌≡◌, ◌⊎◌, ⊤, ℕ, true, false, List, ◌++◌, Option, Some, None, Vec, Result, Ok, Err, length}
+use Rattle.std.specs.Prelude.{◌≡◌, ⊤, ℕ, true, false, List, ◌++◌, Option, Some, None, Vec, Result, Ok, Err, length}
 use Rattle.blog_device.specs.declared.fault.RunFault.TheVariants as run
 use Rattle.blog_event.specs.declared.fault.Fault.TheVariants.{OutOfMemory}
 use Rattle.blog_merged.specs.code.MergedView.{bytes_merged}
@@ -18,7 +18,7 @@ use Rattle.undo_run.specs.Several.{Names}
 use Rattle.undo_run.specs.Taken.{FailsLater, OfLater, Taken, WritesBy, since_told}
 use Rattle.undo_run.specs.code.SinceView.{since_seen}
 use Rattle.undo_run.specs.declared.fault.PartFault.{PartFault}
-use Rattle.undo_run.specs.declared.fault.PartFault.TheVariants.{Run, LaterLog, ChangedSince, UnknownSince, TooLong}
+use Rattle.undo_run.specs.declared.fault.PartFault.TheVariants.{Run, LaterLog, ChangedSince, UnknownSince, Unmerged, TooLong}
 use Rattle.undo_run.specs.declared.merged.Merging.{Merging}
 use Rattle.undo_run.specs.declared.merged.SeenToMerge.{SeenToMerge}
 
@@ -31,14 +31,14 @@ HasMerging t logs (Some merging) = (are_all (marks_undone t logs) ≡ false) × 
 -- rows aren't merged: memory was refused, or it isn't known how
 abbrev pub IsUnmerged : {A : Type 0} → PartFault A → Type 0
 IsUnmerged (Run (run.Log f)) = f ≡ OutOfMemory
-IsUnmerged (UnknownSince lines) = ⊤
+IsUnmerged (Unmerged lines) = ⊤
 IsUnmerged cause = ⊥
 
 -- what comes of merging them, where so many rows were changed
 abbrev pub MergesOut : {A : Type 0} → Taken → List NamedLog → ℕ → Result (Option (Merging A)) (PartFault A) → Type 0
 MergesOut t logs touched (Ok merging) = HasMerging t logs merging
 MergesOut t logs touched (Err (ChangedSince rows lines)) = (rows ≡ touched) × (undoes_some t logs ≡ false)
-MergesOut t logs touched (Err (UnknownSince lines)) = are_all (marks_undone t logs) ≡ false
+MergesOut t logs touched (Err (Unmerged lines)) = are_all (marks_undone t logs) ≡ false
 MergesOut t logs touched (Err TooLong) = are_all (marks_undone t logs) ≡ false
 MergesOut t logs touched (Err (Run (run.Log f))) = f ≡ OutOfMemory
 MergesOut t logs touched (Err cause) = ⊥
@@ -47,7 +47,8 @@ MergesOut t logs touched (Err cause) = ⊥
 abbrev pub MergesAfter : {A R : Type 0} → (R → Option (List ℕ)) → List (GivenLog R) → Taken → Result (SeenToMerge A) (PartFault A) → Type 0
 MergesAfter known givens t (Ok seen) = OfLater true known givens (λ logs. IsKnown t logs × (Some (since_seen seen.since) ≡ since_told true t logs) × HasMerging t logs seen.merging)
 MergesAfter known givens t (Err (ChangedSince rows lines)) = OfLater true known givens (λ logs. AreNoneMerged t logs rows)
-MergesAfter known givens t (Err (UnknownSince lines)) = OfLater true known givens (λ logs. AreUnknown t logs ⊎ (are_all (marks_undone t logs) ≡ false))
+MergesAfter known givens t (Err (UnknownSince lines)) = OfLater true known givens (AreUnknown t)
+MergesAfter known givens t (Err (Unmerged lines)) = OfLater true known givens (λ logs. IsKnown t logs × (are_all (marks_undone t logs) ≡ false))
 MergesAfter known givens t (Err TooLong) = OfLater true known givens (λ logs. IsKnown t logs × (are_all (marks_undone t logs) ≡ false))
 MergesAfter known givens t (Err (LaterLog n f)) = FailsLater known givens n f
 MergesAfter known givens t (Err (Run (run.Log f))) = f ≡ OutOfMemory

@@ -44,7 +44,7 @@ use Rattle.undo_run.specs.declared.chosen.Chosen.{Chosen}
 use Rattle.undo_run.specs.declared.fault.OpeningFault.{OpeningFault}
 use Rattle.undo_run.specs.declared.fault.OpeningFault.TheVariants as opening
 use Rattle.undo_run.specs.declared.fault.PartFault.{PartFault}
-use Rattle.undo_run.specs.declared.fault.PartFault.TheVariants.{Run, Sums, Log, LaterLog, ChangedSince, UnknownSince, TooLong, NoSchema}
+use Rattle.undo_run.specs.declared.fault.PartFault.TheVariants.{Run, Sums, Log, LaterLog, ChangedSince, UnknownSince, Unmerged, TooLong, NoSchema}
 use Rattle.undo_run.specs.declared.request.Among.{Among}
 use Rattle.undo_run.specs.declared.request.UnitRequest.{UnitRequest}
 use Rattle.undo_run.specs.declared.since.Since as told
