@@ -9,7 +9,9 @@ ghost use Rattle.binlog_arguments.specs.Request.{HasPartWriting, HasLogs, IsPart
 
 use crate::arguments::{ArgumentsFault, is_given};
 use crate::list_arguments::{read_paths, read_range, read_zone};
-use crate::options::{ANYWAY, AS_LOG, AT, DATABASE, DRY_RUN, LATER, LEAVE, LOG, MERGE, SHOW_ROWS, TABLE};
+use crate::options::{
+    ANYWAY, AS_LOG, AT, DATABASE, DRY_RUN, LATER, LEAVE, LOG, MERGE, SHOW_ROWS, TABLE,
+};
 use crate::sql_arguments::{SqlTask, read_sql};
 use crate::unit_choice::{UnitChoice, read_unit_choice};
 use crate::zones::Zone;

@@ -184,11 +184,13 @@ pub all-written : {A R : Type 0} (known : R → Option (List ℕ)) (givens : Lis
     → MergesAfter known givens t (Ok seen) → seen.merging ≡ None → bytes ≡ t.log → WritesIndex w name (Some (since_seen seen.since)) bytes all had has r → WritesMerged known givens w name t had has r
 all-written known givens w name t had has seen bytes r (logs, read, (clear, since, rest)) none same is =
     let every : are_all (marks_undone t logs) ≡ true = subst (HasMerging t logs) none rest in
-    let telling : Option Since → List ℕ → List ℕ = λ s b. report_told w name s b all in
-    (t.log, planned true known givens w (plan_merged w name t t.log) ⊤ (λ cause. ⊥) had has logs (telling (Some (since_seen seen.since)) bytes) bytes all r tt read
-    (record { merges = undoes-and-merges-by print_of (mixed t logs); written = inl (every, refl); known = clear })
-    same refl (λ long. (clear, inr long))
-    (λ told told_is. inl (every, told_is ∙ (λ i. telling (since i) (same i)))) is)
+    let telling : Option Since → List ℕ → List ℕ = λ s b. report_told w name s b all in (
+      t.log,
+      planned true known givens w (plan_merged w name t t.log) ⊤ (λ cause. ⊥) had has logs (telling (Some (since_seen seen.since)) bytes) bytes all r tt read
+          (record { merges = undoes-and-merges-by print_of (mixed t logs); written = inl (every, refl); known = clear })
+          same refl (λ long. (clear, inr long))
+          (λ told told_is. inl (every, told_is ∙ (λ i. telling (since i) (same i)))) is,
+    )
 
 -- rows are merged
 pub merged-written : {A R : Type 0} (known : R → Option (List ℕ)) (givens : List (GivenLog R)) (w : Writing) (name : Names) (t : Taken) (had has : Option (List ℕ)) (seen : SeenToMerge A) (merging : Merging A) (index : Index A) (r : Result (Vec ℕ A) (PartFault A))
@@ -197,11 +199,13 @@ pub merged-written : {A R : Type 0} (known : R → Option (List ℕ)) (givens : 
 merged-written known givens w name t had has seen merging index r (logs, read, (clear, since, left)) some same whole writes =
     let (out, written, (lines, told_is)) : HasMerging t logs (Some merging) = subst (HasMerging t logs) some left in
     let log : List ℕ = bytes_merged merging.log in
-    let telling : merging_told w name index (Some (since_seen seen.since)) log ≡ report_merged w name t logs log = told-alike w name index t logs (Some (since_seen seen.since)) log same whole since in
-    (log, planned true known givens w (plan_merged w name t log) ⊤ (λ cause. ⊥) had has logs (merging_told w name index (Some (since_seen seen.since)) log ++ merging.told.items) log all r tt read
-    (record { merges = undoes-and-merges-by print_of (mixed t logs); written = written; known = clear })
-    refl refl (λ long. (clear, inr long))
-    (λ told is. inr (out, (lines, is ∙ (λ i. telling i ++ told_is i)))) writes)
+    let telling : merging_told w name index (Some (since_seen seen.since)) log ≡ report_merged w name t logs log = told-alike w name index t logs (Some (since_seen seen.since)) log same whole since in (
+      log,
+      planned true known givens w (plan_merged w name t log) ⊤ (λ cause. ⊥) had has logs (merging_told w name index (Some (since_seen seen.since)) log ++ merging.told.items) log all r tt read
+          (record { merges = undoes-and-merges-by print_of (mixed t logs); written = written; known = clear })
+          refl refl (λ long. (clear, inr long))
+          (λ told is. inr (out, (lines, is ∙ (λ i. telling i ++ told_is i)))) writes,
+    )
   where
     told-alike : {A : Type 0} (w : Writing) (name : Names) (index : Index A) (t : Taken) (logs : List NamedLog) (since : Option Since) (log : List ℕ) → index_bytes index ≡ t.log → index_selection index ≡ all → since ≡ since_told true t logs
         → merging_told w name index since log ≡ report_merged w name t logs log

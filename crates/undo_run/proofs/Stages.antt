@@ -136,9 +136,11 @@ WritesSome merges leaves looks known givens w name t Sound Refuses had has r = (
 -- none are
 pub by-all : {A R : Type 0} (m b looks : Bool) (known : R → Option (List ℕ)) (givens : List (GivenLog R)) (w : Writing) (name : Names) (t : Taken) (Sound : Type 0) (Refuses : PartFault A → Type 0) (had has : Option (List ℕ)) (r : Result (Vec ℕ A) (PartFault A))
     → m ≡ false → b ≡ false → WritesBy looks known givens w (plan_taken looks w name t) Sound Refuses had has r → WritesSome m b looks known givens w name t Sound Refuses had has r
-by-all m b looks known givens w name t Sound Refuses had has r d e is =
-    ([], subst (λ (k : Bool). WritesBy looks known givens w (plan_by k b looks w name t []) Sound Refuses had has r) (sym d)
-    (subst (λ (c : Bool). WritesBy looks known givens w (plan_by false c looks w name t []) Sound Refuses had has r) (sym e) is))
+by-all m b looks known givens w name t Sound Refuses had has r d e is = (
+  [],
+  subst (λ (k : Bool). WritesBy looks known givens w (plan_by k b looks w name t []) Sound Refuses had has r) (sym d)
+      (subst (λ (c : Bool). WritesBy looks known givens w (plan_by false c looks w name t []) Sound Refuses had has r) (sym e) is),
+)
 
 -- what is written of units that are sound
 sound-written : {A R : Type 0} (looks : Bool) (known : R → Option (List ℕ)) (givens : List (GivenLog R)) (w : Writing) (p : Plan) (Sound : Type 0) (Refuses : PartFault A → Type 0) (had has : Option (List ℕ)) (r : Result (Vec ℕ A) (PartFault A))

@@ -100,7 +100,16 @@ pub(crate) fn look_and_merge<'n, A: Allocator + Copy, L: Read + Drop>(
         return Err(PartFault::UnknownSince(lines.text(alloc)?));
     }
     match merge_touched(
-        alloc, log, inside, chosen, index, &record, has_later, seed, &lines, since.touched,
+        alloc,
+        log,
+        inside,
+        chosen,
+        index,
+        &record,
+        has_later,
+        seed,
+        &lines,
+        since.touched,
     ) {
         Ok(merging) => Ok(SeenToMerge { since, merging }),
         Err(fault) => Err(fault),
@@ -196,11 +205,7 @@ fn is_sound<A: Allocator>(bytes: &[u8], index: &Index<'_, '_, A>)
 {}
 
 /// Why rows aren't merged of which there are no pairs.
-fn unpaired<A: Allocator + Copy>(
-    alloc: A,
-    lines: &Lines<'_, A>,
-    fault: PairFault,
-) -> PartFault<A>
+fn unpaired<A: Allocator + Copy>(alloc: A, lines: &Lines<'_, A>, fault: PairFault) -> PartFault<A>
     ensures { IsUnmerged result }
 {
     match fault {
@@ -214,11 +219,7 @@ fn unpaired<A: Allocator + Copy>(
 }
 
 /// Why rows aren't merged, by what is told of them and by a reason.
-fn unmerged<A: Allocator + Copy>(
-    alloc: A,
-    lines: &Lines<'_, A>,
-    why: &[u8],
-) -> PartFault<A>
+fn unmerged<A: Allocator + Copy>(alloc: A, lines: &Lines<'_, A>, why: &[u8]) -> PartFault<A>
     ensures { IsUnmerged result }
 {
     match unmerged_text(alloc, lines, why) {

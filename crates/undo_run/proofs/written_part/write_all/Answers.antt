@@ -16,9 +16,11 @@ returns-in-Err-clause-writes g c =
     let handed = log_of c.args.source.now in
     let end = end_of c.args.source.now in
     let fault = fault_of c.args.source.now in
-    let damage = damage_before c.args.looks part end fault in
-    ([], all-refused c.args.looks g.L.Read.remaining c.args.later.items c.args.writing.now (plan_taken c.args.looks c.args.writing.now (names_told c.args.logs.now) (part_taken (names_told c.args.logs.now) part handed end fault)) (IsSound part handed end damage) _ _ part handed end damage c.in-Err.fault
-    c.in-Err.ensures.refused (Keeps-refl (g.W.Write.contents (device_of c.args.writer.now))))
+    let damage = damage_before c.args.looks part end fault in (
+      [],
+      all-refused c.args.looks g.L.Read.remaining c.args.later.items c.args.writing.now (plan_taken c.args.looks c.args.writing.now (names_told c.args.logs.now) (part_taken (names_told c.args.logs.now) part handed end fault)) (IsSound part handed end damage) _ _ part handed end damage c.in-Err.fault
+          c.in-Err.ensures.refused (Keeps-refl (g.W.Write.contents (device_of c.args.writer.now))),
+    )
 
 pub returns-in-Err-look_if-clause-writes : goal.returns-in-Err-look_if-clause-writes
 returns-in-Err-look_if-clause-writes g c =
@@ -26,9 +28,11 @@ returns-in-Err-look_if-clause-writes g c =
     let handed = log_of c.args.source.now in
     let end = end_of c.args.source.now in
     let fault = fault_of c.args.source.now in
-    let damage = damage_before c.args.looks part end fault in
-    ([], not-free c.args.looks g.L.Read.remaining c.args.later.items c.args.writing.now (names_told c.args.logs.now) (part_taken (names_told c.args.logs.now) part handed end fault) (IsSound part handed end damage) (Refuses {A = g.row.A.Denot} part handed end damage) _ _
-    c.in-Err-look_if.fault c.in-Ok.ensures.sound c.in-Err-look_if.ensures (Keeps-refl (g.W.Write.contents (device_of c.args.writer.now))))
+    let damage = damage_before c.args.looks part end fault in (
+      [],
+      not-free c.args.looks g.L.Read.remaining c.args.later.items c.args.writing.now (names_told c.args.logs.now) (part_taken (names_told c.args.logs.now) part handed end fault) (IsSound part handed end damage) (Refuses {A = g.row.A.Denot} part handed end damage) _ _
+          c.in-Err-look_if.fault c.in-Ok.ensures.sound c.in-Err-look_if.ensures (Keeps-refl (g.W.Write.contents (device_of c.args.writer.now))),
+    )
 
 pub returns-clause-writes : goal.returns-clause-writes
 returns-clause-writes g c =
@@ -36,6 +40,8 @@ returns-clause-writes g c =
     let handed = log_of c.args.source.now in
     let end = end_of c.args.source.now in
     let fault = fault_of c.args.source.now in
-    let damage = damage_before c.args.looks part end fault in
-    ([], taken-written c.args.looks g.L.Read.remaining c.args.later.items c.args.writing.now (names_told c.args.logs.now) (part_taken (names_told c.args.logs.now) part handed end fault) (IsSound part handed end damage) (Refuses {A = g.row.A.Denot} part handed end damage) _ _
-    c.in-Ok-look_if.since (index_bytes c.in-Ok.index) (index_selection c.in-Ok.index) c.write_index.result c.in-Ok.ensures.sound c.in-Ok-look_if.ensures c.in-Ok.ensures.bytes c.in-Ok.ensures.selection c.write_index.ensures.writes)
+    let damage = damage_before c.args.looks part end fault in (
+      [],
+      taken-written c.args.looks g.L.Read.remaining c.args.later.items c.args.writing.now (names_told c.args.logs.now) (part_taken (names_told c.args.logs.now) part handed end fault) (IsSound part handed end damage) (Refuses {A = g.row.A.Denot} part handed end damage) _ _
+          c.in-Ok-look_if.since (index_bytes c.in-Ok.index) (index_selection c.in-Ok.index) c.write_index.result c.in-Ok.ensures.sound c.in-Ok-look_if.ensures c.in-Ok.ensures.bytes c.in-Ok.ensures.selection c.write_index.ensures.writes,
+    )

@@ -44,10 +44,12 @@ returns-in-Some-clause-writes g c =
     let chosen : sel ≡ selection_in part handed = c.inside_of-inside.ensures in
     let start : has_start part handed end ≡ true = sym c.has_start.ensures ∙ c.if-not-has_start.false in
     let cause = c.in-Some.fault in
-    let lacks = subst (λ (d : Option SumFault). LacksUnit {A = g.row.A.Denot} r sel handed end d cause) c.damage_before.ensures c.in-Some.ensures in
-    ([], not-selected c.args.looks g.L.Read.remaining c.args.later.items c.args.writing.now (plan_by (c.args.looks && r.merges) (c.args.looks && r.leaves) c.args.looks c.args.writing.now (names_told c.args.logs.now) (units_taken r (names_told c.args.logs.now) part handed end fault) []) (AreSoundUnits r part handed end (damage_among c.args.looks part end fault)) (RefusesUnits {A = g.row.A.Denot} r part handed end fault (damage_among c.args.looks part end fault)) _ _ cause
-    (unit-lacking r part handed end fault (damage_among c.args.looks part end fault) cause start (subst (λ (s : Selection). LacksUnit {A = g.row.A.Denot} r s handed end (damage_before true part end fault) cause) chosen lacks))
-    (Keeps-refl (g.W.Write.contents (device_of c.args.writer.now))))
+    let lacks = subst (λ (d : Option SumFault). LacksUnit {A = g.row.A.Denot} r sel handed end d cause) c.damage_before.ensures c.in-Some.ensures in (
+      [],
+      not-selected c.args.looks g.L.Read.remaining c.args.later.items c.args.writing.now (plan_by (c.args.looks && r.merges) (c.args.looks && r.leaves) c.args.looks c.args.writing.now (names_told c.args.logs.now) (units_taken r (names_told c.args.logs.now) part handed end fault) []) (AreSoundUnits r part handed end (damage_among c.args.looks part end fault)) (RefusesUnits {A = g.row.A.Denot} r part handed end fault (damage_among c.args.looks part end fault)) _ _ cause
+          (unit-lacking r part handed end fault (damage_among c.args.looks part end fault) cause start (subst (λ (s : Selection). LacksUnit {A = g.row.A.Denot} r s handed end (damage_before true part end fault) cause) chosen lacks))
+          (Keeps-refl (g.W.Write.contents (device_of c.args.writer.now))),
+    )
 
 pub returns-in-Err-choose-clause-writes : goal.returns-in-Err-choose-clause-writes
 returns-in-Err-choose-clause-writes g c =
@@ -67,10 +69,12 @@ returns-in-Err-choose-clause-writes g c =
     let here : log_bytes c.with_seed-log.result ≡ handed = c.with_seed-log.ensures.bytes ∙ c.in-Ok.ensures.bytes ∙ c.bytes.ensures in
     let damage = damage_among c.args.looks part end fault in
     let cause = c.in-Err-choose.fault in
-    let fails = subst (λ (d : Option SumFault). Chooses {A = g.row.A.Denot} c.args.looks p sel handed end d (Err cause)) c.damage_among-damage.ensures c.in-Err-choose.ensures in
-    ([], not-selected c.args.looks g.L.Read.remaining c.args.later.items c.args.writing.now (plan_by (c.args.looks && r.merges) (c.args.looks && r.leaves) c.args.looks c.args.writing.now (names_told c.args.logs.now) (units_taken r (names_told c.args.logs.now) part handed end fault) []) (AreSoundUnits r part handed end (damage_among c.args.looks part end fault)) (RefusesUnits {A = g.row.A.Denot} r part handed end fault (damage_among c.args.looks part end fault)) _ _ cause
-    (not-chosen c.args.looks r part handed end fault damage cause start (of-units (λ q s. Chooses {A = g.row.A.Denot} c.args.looks q s handed end damage (Err cause)) p (is_asked r part handed) sel (selection_in part handed) same chosen fails))
-    (Keeps-refl (g.W.Write.contents (device_of c.args.writer.now))))
+    let fails = subst (λ (d : Option SumFault). Chooses {A = g.row.A.Denot} c.args.looks p sel handed end d (Err cause)) c.damage_among-damage.ensures c.in-Err-choose.ensures in (
+      [],
+      not-selected c.args.looks g.L.Read.remaining c.args.later.items c.args.writing.now (plan_by (c.args.looks && r.merges) (c.args.looks && r.leaves) c.args.looks c.args.writing.now (names_told c.args.logs.now) (units_taken r (names_told c.args.logs.now) part handed end fault) []) (AreSoundUnits r part handed end (damage_among c.args.looks part end fault)) (RefusesUnits {A = g.row.A.Denot} r part handed end fault (damage_among c.args.looks part end fault)) _ _ cause
+          (not-chosen c.args.looks r part handed end fault damage cause start (of-units (λ q s. Chooses {A = g.row.A.Denot} c.args.looks q s handed end damage (Err cause)) p (is_asked r part handed) sel (selection_in part handed) same chosen fails))
+          (Keeps-refl (g.W.Write.contents (device_of c.args.writer.now))),
+    )
 
 pub returns-in-Err-index_of_chosen-clause-writes : goal.returns-in-Err-index_of_chosen-clause-writes
 returns-in-Err-index_of_chosen-clause-writes g c =
@@ -91,10 +95,12 @@ returns-in-Err-index_of_chosen-clause-writes g c =
     let none : damage_among c.args.looks part end fault ≡ None = sym c.damage_among-damage.ensures ∙ c.in-Ok-choose.ensures.0 in
     let damage = damage_among c.args.looks part end fault in
     let cause = c.in-Err-index_of_chosen.fault in
-    let fails = subst (λ (d : Option SumFault). RefusesChosen p sel handed end d cause) (sym none) c.in-Err-index_of_chosen.ensures in
-    ([], not-selected c.args.looks g.L.Read.remaining c.args.later.items c.args.writing.now (plan_by (c.args.looks && r.merges) (c.args.looks && r.leaves) c.args.looks c.args.writing.now (names_told c.args.logs.now) (units_taken r (names_told c.args.logs.now) part handed end fault) []) (AreSoundUnits r part handed end (damage_among c.args.looks part end fault)) (RefusesUnits {A = g.row.A.Denot} r part handed end fault (damage_among c.args.looks part end fault)) _ _ cause
-    (chosen-refused r part handed end fault damage cause start (of-units (λ q s. RefusesChosen q s handed end damage cause) p (is_asked r part handed) sel (selection_in part handed) same chosen fails))
-    (Keeps-refl (g.W.Write.contents (device_of c.args.writer.now))))
+    let fails = subst (λ (d : Option SumFault). RefusesChosen p sel handed end d cause) (sym none) c.in-Err-index_of_chosen.ensures in (
+      [],
+      not-selected c.args.looks g.L.Read.remaining c.args.later.items c.args.writing.now (plan_by (c.args.looks && r.merges) (c.args.looks && r.leaves) c.args.looks c.args.writing.now (names_told c.args.logs.now) (units_taken r (names_told c.args.logs.now) part handed end fault) []) (AreSoundUnits r part handed end (damage_among c.args.looks part end fault)) (RefusesUnits {A = g.row.A.Denot} r part handed end fault (damage_among c.args.looks part end fault)) _ _ cause
+          (chosen-refused r part handed end fault damage cause start (of-units (λ q s. RefusesChosen q s handed end damage cause) p (is_asked r part handed) sel (selection_in part handed) same chosen fails))
+          (Keeps-refl (g.W.Write.contents (device_of c.args.writer.now))),
+    )
 
 pub returns-in-Err-look_among_if-clause-writes : goal.returns-in-Err-look_among_if-clause-writes
 returns-in-Err-look_among_if-clause-writes g c =
