@@ -52,16 +52,14 @@ use Rattle.undo_run.proofs.Stages.{planned}
 -- where all is undone, no selected change is outside
 none-outside : (f : TableRow → ℕ) (ms : List Marked) → are_all (marks_in ms (part_by f ms)) ≡ true → none_selected (outside_of (part_by f ms) ms) ≡ true
 none-outside f [] every = refl
-none-outside f (m ∷ ms) every = by_case m.selected (is_left_alone_by f m.change part) refl every
+none-outside f (m ∷ ms) every = by_case m.selected (is_left_alone_by f m.change (part_by f ms)) refl (none-outside f ms) every
   where
-    part : List Marked
-    part = part_by f ms
-
-    by_case : (s b : Bool) → m.selected ≡ s → are_all (if s then (s && b) ∷ marks_in ms part else marks_in ms part) ≡ true
-        → none_selected (if s && b then outside_of part ms else m ∷ outside_of part ms) ≡ true
-    by_case true true is all_true = none-outside f ms all_true
-    by_case true false is none = absurd (false≢true none)
-    by_case false b is all_true = subst (λ (c : Bool). (not c && none_selected (outside_of part ms)) ≡ true) (sym is) (none-outside f ms all_true)
+    by_case : (s b : Bool) → m.selected ≡ s → (are_all (marks_in ms (part_by f ms)) ≡ true → none_selected (outside_of (part_by f ms) ms) ≡ true)
+        → are_all (if s then (s && b) ∷ marks_in ms (part_by f ms) else marks_in ms (part_by f ms)) ≡ true
+        → none_selected (if s && b then outside_of (part_by f ms) ms else m ∷ outside_of (part_by f ms) ms) ≡ true
+    by_case true true is later all_true = later all_true
+    by_case true false is later none = absurd (false≢true none)
+    by_case false b is later all_true = subst (λ (c : Bool). (not c && none_selected (outside_of (part_by f ms) ms)) ≡ true) (sym is) (later all_true)
 
 pub none-selected-left : (t : Taken) (logs : List NamedLog) → are_all (marks_undone t logs) ≡ true → none_selected (outside_of (part_undone t logs) (mixed t logs)) ≡ true
 none-selected-left t logs every = none-outside print_of (mixed t logs) every
@@ -72,15 +70,6 @@ pairs-by-marks t logs marks ms same are =
     (λ i. pairs_of (outside_by (same i) (sym are i))) ∙ ap pairs_of (outside_part (mixed t logs) (part_undone t logs) (part-undoable print_of (mixed t logs)).within)
 
 -- ---- what is merged
-
-pub none-undone : (a b : Bool) → a ≡ false → b ≡ false → (a || b) ≡ false
-none-undone false false none no = refl
-none-undone true b none no = absurd (false≢true (sym none))
-none-undone false true none no = absurd (false≢true (sym no))
-
-pub some-undone : (a b : Bool) → (a ≡ false → b ≡ true) → (a || b) ≡ true
-some-undone true b some = refl
-some-undone false b some = some refl
 
 -- rows aren't merged
 pub unmerged-out : {A : Type 0} (t : Taken) (logs : List NamedLog) (touched : ℕ) (cause : PartFault A) → are_all (marks_undone t logs) ≡ false → IsUnmerged cause → MergesOut {A = A} t logs touched (Err cause)

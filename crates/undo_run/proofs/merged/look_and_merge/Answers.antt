@@ -1,4 +1,5 @@
 use Rattle.std.proofs.Common.{◌≡◌, ◌++◌, ◌∙◌, List, [], Bool, false, length, map, ap, subst, sym, refl, arith, append-nil}
+use Rattle.std.specs.Prelude.{nat_lt}
 use Rattle.blog_event.specs.code.LogView.{log_bytes}
 use Rattle.blog_later.specs.Among.{Step, from_first, marked_in}
 use Rattle.blog_later.specs.Later.{later_units}
@@ -24,10 +25,11 @@ returns-in-Ok-merge_touched g c =
     let t = chosen_taken (names_told c.args.logs.now) p sel (log_of source) (end_of source) (fault_of source) in
     let known = c.if-since-gt0.false in
     let read = g.L.Read.remaining in
-    let none : c.has_later.result ≡ false → (logs : List NamedLog) → AreRead read c.args.later.items logs → logs ≡ [] = λ no logs are. none-read read c.args.later.items logs (omega (arith, no)) are in
+    let many = c.len-has_later.ensures ∙ c.args.later.ok.0 in
+    let none : nat_lt 0 c.len-has_later.result ≡ false → (logs : List NamedLog) → AreRead read c.args.later.items logs → logs ≡ [] = λ few logs are. none-read read c.args.later.items logs (omega (arith, few, many)) are in
     all-merged read c.args.later.items t c.in-Ok.recorded c.in-Ok-merge_touched.merging (omega (arith, known)) c.if-since.false c.in-Ok.ensures
     (λ logs is are. c.in-Ok-merge_touched.ensures t logs p c.requires.kept c.requires.selection (c.requires.chosen ∙ ap (λ (bytes : List _). map p (later_units bytes sel.start)) (sym c.requires.bytes))
-    (λ no. ap marked_in ((λ i. t.steps ++ map later_step (map whole_log (none no logs is i))) ∙ append-nil t.steps ∙ ap (λ (bytes : List _). map (unit_step p sel bytes) (from_first p (later_units bytes sel.start))) (sym c.requires.bytes))) are.changes)
+    (λ few. ap marked_in ((λ i. t.steps ++ map later_step (map whole_log (none few logs is i))) ∙ append-nil t.steps ∙ ap (λ (bytes : List _). map (unit_step p sel bytes) (from_first p (later_units bytes sel.start))) (sym c.requires.bytes))) are.changes)
 
 pub returns : goal.returns
 returns g c =
@@ -37,7 +39,8 @@ returns g c =
     let t = chosen_taken (names_told c.args.logs.now) p sel (log_of source) (end_of source) (fault_of source) in
     let known = c.if-since-gt0.false in
     let read = g.L.Read.remaining in
-    let none : c.has_later.result ≡ false → (logs : List NamedLog) → AreRead read c.args.later.items logs → logs ≡ [] = λ no logs are. none-read read c.args.later.items logs (omega (arith, no)) are in
+    let many = c.len-has_later.ensures ∙ c.args.later.ok.0 in
+    let none : nat_lt 0 c.len-has_later.result ≡ false → (logs : List NamedLog) → AreRead read c.args.later.items logs → logs ≡ [] = λ few logs are. none-read read c.args.later.items logs (omega (arith, few, many)) are in
     none-merged read c.args.later.items t c.in-Ok.recorded c.in-Err-merge_touched.fault (omega (arith, known)) c.if-since.false c.in-Ok.ensures
     (λ logs is are. c.in-Err-merge_touched.ensures t logs p c.requires.kept c.requires.selection (c.requires.chosen ∙ ap (λ (bytes : List _). map p (later_units bytes sel.start)) (sym c.requires.bytes))
-    (λ no. ap marked_in ((λ i. t.steps ++ map later_step (map whole_log (none no logs is i))) ∙ append-nil t.steps ∙ ap (λ (bytes : List _). map (unit_step p sel bytes) (from_first p (later_units bytes sel.start))) (sym c.requires.bytes))) are.changes)
+    (λ few. ap marked_in ((λ i. t.steps ++ map later_step (map whole_log (none few logs is i))) ∙ append-nil t.steps ∙ ap (λ (bytes : List _). map (unit_step p sel bytes) (from_first p (later_units bytes sel.start))) (sym c.requires.bytes))) are.changes)

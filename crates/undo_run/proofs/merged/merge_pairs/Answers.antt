@@ -1,6 +1,7 @@
 use Rattle.std.proofs.Common.{◌≡◌, ◌||◌, ◌++◌, Bool, false, true, List, length, inr, refl, ap, sym, subst, ◌∙◌}
 use Rattle.std.specs.Prelude.{nat_lt}
 use Rattle.blog_left_out.specs.LeftOut.{kept, left_out_text}
+use Rattle.blog_merge.specs.Merge.{staying}
 use Rattle.blog_merge.specs.Pairs.{Pair}
 use Rattle.blog_merged.specs.Nets.{nets_of}
 use Rattle.blog_trans.specs.Changes.{Change, changes}
@@ -25,13 +26,14 @@ returns-in-Ok-merged_log g c t logs bytes whole marks out pairs =
     let rows = c.rows_merged-rows.ensures ∙ ap (λ (ps : List Pair). length (nets_of ps)) pairs in
     let some : undoes_some t logs ≡ true = (λ i. are_some (sym marks i) || nat_lt 0 (sym rows i)) ∙ sym c.are_any.ensures ∙ c.if-not-are_any.false in
     let index = c.args.index.now in
+    let staying_rows = c.rows_staying.ensures ∙ ap (λ (ps : List Pair). length (staying ps)) pairs in
     let undone = c.in-Ok-index.ensures.changes c.args.marks.now (index_bytes index) (index_selection index) c.is_sound.ensures.bytes c.is_sound.ensures.accepted c.in-Ok.ensures in
     let text = c.in-Ok-merged_log.ensures.changes ∙ (λ i. nets_of (pairs i) ++ undone i) ∙ (λ i. nets_of (pairs_left t logs) ++ kept (marks i) (changes (bytes i) (whole i))) in
     let (lines, told) = c.in_ok-told.ensures in
-    (out, (inr (out, some, text), (lines, told)))
+    (out, inr (out, some, text), (lines, told ∙ (λ i. merged_text (rows i) (staying_rows i) ++ lines)))
 
-pub returns-in-Err-merged_log : goal.returns-in-Err-merged_log
-returns-in-Err-merged_log g c t logs bytes whole marks out pairs = out
+pub returns-in-Err-TooLong : goal.returns-in-Err-TooLong
+returns-in-Err-TooLong g c t logs bytes whole marks out pairs = out
 
 pub returns : goal.returns
 returns g c t logs bytes whole marks out pairs =

@@ -35,7 +35,7 @@ returns-in-Ok g c t logs p bytes whole chosen steps recorded =
     (subst (λ (rs : List SelectedRow). IsRecorded print_of (mixed t logs) rs c.args.record.now.taken.items) (sym c.deref.ensures.value) recorded)) in
     let count : c.rows_left-left.result ≡ rows_left t logs = c.rows_left-left.ensures ∙ ap (λ (ms : List Bool). length (filter not ms)) marks in
     let out = some-out (marks_undone t logs) (let left = c.if-left-eq0.false in omega (arith, left, count)) in
-    c.merge_pairs.ensures t logs bytes whole (c.deref-4.ensures.value ∙ marks) out
+    c.merge_pairs.ensures t logs bytes whole (c.deref-in-Ok.ensures.value ∙ marks) out
     (c.in-Ok.ensures p chosen ∙ pairs-by-marks t logs c.deref-3.result.now _ (c.deref-3.ensures.value ∙ marks) (steps c.if-has_later.false))
 
 pub returns : goal.returns
