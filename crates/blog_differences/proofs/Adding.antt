@@ -1,6 +1,7 @@
 -- Pairs when one more event or unit is added, and what is still to add.
-use Rattle.std.proofs.Common.{◌≡◌, ℕ, zero, suc, Bool, true, false, List, [], ◌∷◌, ◌++◌, drop, length, map, take, refl, sym, ap, ap₂, ◌∙◌}
+use Rattle.std.proofs.Common.{◌≡◌, ℕ, zero, suc, Bool, true, false, List, [], ◌∷◌, ◌++◌, drop, length, map, take, refl, sym, ap, ap₂, ◌∙◌, arith}
 use Rattle.std.specs.Prelude.{if◌then◌else◌}
+use Rattle.std.specs.List.{list_all}
 use Rattle.std.proofs.lemmas.Bool.{cond-false, cond-true, false≢true}
 use Rattle.blog_later.specs.Among.{Step, Selected, Other, from_first, marked_in}
 use Rattle.blog_later.specs.Later.{unit_changes}
@@ -26,6 +27,14 @@ unmarked_own (mark ∷ marks) [] = refl
 unmarked_own [] (x ∷ xs) = refl
 unmarked_own (true ∷ marks) (x ∷ xs) = unmarked_own marks xs
 unmarked_own {X} (false ∷ marks) (x ∷ xs) = ap (λ (ys : List X). x ∷ ys) (unmarked_own marks xs)
+
+-- none is left if all are marked
+pub all_marked : {X : Type 0} (marks : List Bool) (xs : List X) → list_all (λ is_marked. is_marked) marks ≡ true → length marks ≡ length xs → unmarked marks xs ≡ []
+all_marked [] [] all long = refl
+all_marked [] (x ∷ xs) all long = absurd (omega (arith, long))
+all_marked (mark ∷ marks) [] all long = refl
+all_marked (true ∷ marks) (x ∷ xs) all long = all_marked marks xs all (omega (arith, long))
+all_marked (false ∷ marks) (x ∷ xs) all long = absurd (false≢true all)
 
 unmarked_more : {X : Type 0} (marks : List Bool) (xs ys : List X) → unmarked marks (xs ++ ys) ≡ unmarked marks xs ++ unmarked (drop (length xs) marks) ys
 unmarked_more [] [] ys = refl

@@ -25,8 +25,8 @@ use std::alloc::Allocator;
 /// are selected. `marks` has one for each of them, in order; marked ones are undone by themselves, and make no difference. The changes of the other
 /// units behind the first chosen one, which can be undone by themselves, are those of others.
 ///
-/// Fails with `OtherLayout` if a table whose rows differ comes with other columns, and with `OutOfMemory` if out of memory or if a chosen unit isn't
-/// accepted.
+/// Fails with `OtherLayout` if a table whose rows differ comes with other columns, and with `OutOfMemory` if out of memory, if a chosen unit isn't
+/// accepted, or if there are fewer marks than selected changes.
 pub fn pairs_among<A: Allocator + Copy>(
     alloc: A,
     log: &Log<'_>,

@@ -1,6 +1,7 @@
 //! The selected changes of a chosen unit, of which marked ones make no difference.
 
 ghost use Rattle.std.specs.Prelude.{◌≡◌, IfOk, OnOk, drop, length, true};
+ghost use Rattle.std.specs.List.{list_all};
 ghost use Rattle.blog_event.specs.code.LogView.{log_bytes};
 ghost use Rattle.blog_later.specs.code.EventChanges.{event_changes};
 ghost use Rattle.blog_pairs.specs.Steps.{pairs_with, unmarked};
@@ -27,8 +28,15 @@ fn row_count(rows: &RowsEvent<'_>) -> usize
     rows.rows().count()
 }
 
-/// Adds the selected changes of those rows of an event that aren't marked. The first marks are those of its rows; returns the others. Fails if the
-/// table can't be held, and with `OutOfMemory` if there are fewer marks than rows.
+/// Returns whether all marks are true.
+fn are_all_marked(marks: &[bool]) -> bool
+    ensures { result ≡ list_all (λ is_marked. is_marked) marks.now }
+{
+    marks.iter().all(|is_marked| *is_marked)
+}
+
+/// Adds the selected changes of those rows of an event that aren't marked. The first marks are those of its rows; returns the others. If all its rows are
+/// marked, the event's table isn't looked at. Fails as `add_selected_rows` does, and with `OutOfMemory` if there are fewer marks than rows.
 fn add_rows<'m, A: Allocator + Copy>(
     table: &mut PairTable<A>,
     group: &GroupRows<'_>,
@@ -43,6 +51,9 @@ fn add_rows<'m, A: Allocator + Copy>(
         return Err(PairFault::OutOfMemory);
     }
     let (own, others) = marks.split_at(count);
+    if are_all_marked(own) {
+        return Ok(others);
+    }
     table.add_selected_rows(group, own)?;
     Ok(others)
 }
