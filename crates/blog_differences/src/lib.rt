@@ -2,5 +2,9 @@
 #![tactic(auto)]
 
 mod among;
+mod laws;
+mod others;
+mod selected;
 
 pub use among::pairs_among;
+pub use laws::changes_that_are_not_undone_are_those_outside_of_the_part;
