@@ -1,11 +1,11 @@
 -- The updates of pairs, undone.
-use Rattle.std.proofs.Common.{◌≡◌, List, [], ◌∷◌, ◌++◌, map, Option, Some, None, refl, ap}
+use Rattle.std.proofs.Common.{◌≡◌, List, [], ◌∷◌, map, Option, Some, None, refl, ap}
 use Rattle.std.specs.List.{filter_map}
 use Rattle.blog_flash.specs.States.{inverse}
 use Rattle.blog_merge.specs.Merge.{update_of}
 use Rattle.blog_merge.specs.Pairs.{Pair}
 use Rattle.blog_row.specs.Image.{Row}
-use Rattle.blog_trans.specs.Changes.{Change, Updated}
+use Rattle.blog_trans.specs.Changes.{Updated}
 use Rattle.blog_merged.specs.Nets.{nets_of}
 
 -- the update of a pair is undone by that to what its row would be

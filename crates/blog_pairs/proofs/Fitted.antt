@@ -1,16 +1,16 @@
 -- Pairs and a table that fit, before and after a change.
-use Rattle.std.proofs.Common.{◌≡◌, ◌<◌, ℕ, Bool, true, false, List, [], ◌∷◌, ◌++◌, length, Option, Some, None, Result, Ok, Err, option_map, refl, sym, ap, ◌∙◌, subst}
+use Rattle.std.proofs.Common.{◌≡◌, ◌<◌, ℕ, Bool, true, false, List, length, Option, Some, None, Result, Ok, Err, option_map, refl, sym, ap, ◌∙◌, subst}
 use Rattle.std.specs.Prelude.{OnErr, OnOk}
 use Rattle.std.proofs.lemmas.Bool.{cond-false, cond-true}
 use Rattle.std.proofs.lemmas.Option.{none-some, same_Some}
 use Rattle.blog_later.specs.Prints.{print_of, table_hasher}
-use Rattle.blog_merge.specs.Pairs.{in_table, real_row}
+use Rattle.blog_merge.specs.Pairs.{in_table}
 use Rattle.blog_row.specs.Column.{Layout}
 use Rattle.blog_row.specs.Image.{row_of}
 use Rattle.blog_row.specs.TableMap.{Table, layout_of}
 use Rattle.blog_trans.specs.Changes.{row_by}
 use Rattle.blog_pairs.specs.code.ColumnsView.{columns_told}
-use Rattle.blog_pairs.specs.code.PairsView.{Fits, HasPrint, IsKept, body_at, pair_told, table_at}
+use Rattle.blog_pairs.specs.code.PairsView.{Fits, HasPrint, IsKept, body_at, table_at}
 use Rattle.blog_pairs.specs.code.Placed.{are_equal, kept_pair}
 use Rattle.blog_pairs.specs.declared.changed.ChangedTable.{ChangedTable}
 use Rattle.blog_pairs.specs.declared.held.HeldPair.{HeldPair}

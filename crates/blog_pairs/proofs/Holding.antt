@@ -1,5 +1,5 @@
 -- Tables that are held.
-use Rattle.std.proofs.Common.{◌≡◌, ◌≢◌, ◌<◌, ◌≤◌, ◌+◌, ℕ, suc, List, [], ◌∷◌, ◌++◌, length, length-append, map, get_or, slice_get, Option, Some, None, Ok, Err, IsOk, IsSome, option_map, refl, sym, ap, ◌∙◌, subst, arith, nat_eq, Bool, true, false, eqb-true}
+use Rattle.std.proofs.Common.{◌≡◌, ◌≢◌, ◌<◌, ◌+◌, ℕ, zero, suc, List, [], ◌∷◌, ◌++◌, length, length-append, get_or, set, Option, Some, None, Ok, IsOk, IsSome, option_map, refl, sym, ap, ◌∙◌, subst, arith, nat_eq, Bool, true, false, eqb-true}
 use Rattle.std.specs.BTreeSet.{contains}
 use Rattle.std.specs.Ordering.{nat_cmp}
 use Rattle.std.proofs.Math.ListN.{get_or-append}
@@ -9,7 +9,7 @@ use Rattle.std.proofs.lemmas.List.{get_or-map}
 use Rattle.blog_row.specs.Checks.{◌>>=◌, or_bad}
 use Rattle.std.specs.Option.{option_map_or}
 use Rattle.std.proofs.lemmas.Slice.Eq.{bytes_eq-Decides}
-use Rattle.blog_row.specs.Column.{Layout, columns_of, metadata_of, types_of}
+use Rattle.blog_row.specs.Column.{columns_of, metadata_of, types_of}
 use Rattle.blog_row.specs.code.LayoutView.{layout_columns}
 use Rattle.blog_row.specs.declared.layout.Layout as told
 use Rattle.blog_row.proofs.Layouts.{metadata_of_columns, types_of_columns}
@@ -88,8 +88,17 @@ none_more bodies t n none here i below = by_case (nat_eq i n) refl
     by_case false is = let other : i ≢ n = eqb-false i n is in none i (omega (arith, below, other))
 
 -- the body of a table
+pub body_got : {A : Type 0} (tables : List (HeldTable A)) (i : ℕ) (held : HeldTable A) → i < length tables → body_at (bodies_of tables) i ≡ (get_or tables i held).body.items
+body_got tables i held within = get_or-map (λ t. t.body.items) tables i held [] within
+
 pub body_there : {A : Type 0} (tables : List (HeldTable A)) (i : ℕ) (held : HeldTable A) → i < length tables → held ≡ get_or tables i held → body_at (bodies_of tables) i ≡ held.body.items
-body_there tables i held within is = get_or-map (λ t. t.body.items) tables i held [] within ∙ ap (λ t. t.body.items) (sym is)
+body_there tables i held within is = body_got tables i held within ∙ ap (λ t. t.body.items) (sym is)
+
+-- a table is put in the place of one with the same body
+pub bodies_set : {A : Type 0} (tables : List (HeldTable A)) (n : ℕ) (new here : HeldTable A) → here ≡ get_or tables n here → new.body.items ≡ here.body.items → bodies_of (set tables n new) ≡ bodies_of tables
+bodies_set [] n new here is same = refl
+bodies_set {A} (t ∷ tables) zero new here is same = ap (λ body. body ∷ bodies_of tables) (same ∙ ap (λ (h : HeldTable A). h.body.items) is)
+bodies_set (t ∷ tables) (suc n) new here is same = ap (λ bodies. t.body.items ∷ bodies) (bodies_set tables n new here is same)
 
 -- ---- pairs, where there are more tables
 

@@ -1,16 +1,14 @@
 -- Slots are found by the fingerprints of their rows.
-use Rattle.std.proofs.Common.{◌≡◌, ◌≢◌, ◌<◌, ◌≤◌, ◌+◌, ◌*◌, ℕ, zero, suc, Bool, true, false, List, [], ◌∷◌, ◌++◌, length, map, set, slice_get, Option, Some, None, option_map, refl, sym, ap, ◌∙◌, subst, arith}
-use Rattle.std.specs.Prelude.{IfSome}
+use Rattle.std.proofs.Common.{◌≡◌, ◌≢◌, ◌<◌, ◌≤◌, ◌+◌, ℕ, zero, suc, Bool, true, false, List, [], ◌∷◌, length, slice_get, Option, Some, None, sym, ap, ◌∙◌, subst, arith}
 use Rattle.std.proofs.lemmas.Bool.{false≢true}
-use Rattle.std.proofs.lemmas.List.{map-append, map-set}
 use Rattle.std.proofs.lemmas.Option.{none-some, same_Some}
-use Rattle.blog_later.specs.Prints.{print_of, table_hasher}
+use Rattle.blog_later.specs.Prints.{print_of}
 use Rattle.blog_merge.specs.Pairs.{Pair, in_table, is_of, real_row}
 use Rattle.blog_row.specs.Image.{Row}
 use Rattle.blog_row.specs.TableMap.{Table}
 use Rattle.blog_undo.proofs.Rows.{is_row-Decides}
 use Rattle.blog_pairs.specs.Keys.{AreIndexed, IsNextSlot, slot_key}
-use Rattle.blog_pairs.specs.Places.{EachSlot, is_in, place_of}
+use Rattle.blog_pairs.specs.Places.{is_in, place_of}
 use Rattle.blog_pairs.proofs.RowPlaces.{first_from, none_from}
 
 -- ---- looking up

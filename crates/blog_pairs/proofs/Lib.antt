@@ -14,3 +14,4 @@ pub mod Keeping
 pub mod Fitted
 pub mod Stepping
 pub mod Tabled
+pub mod Unheld

@@ -1,8 +1,7 @@
 -- Held pairs as pairs of rows.
-use Rattle.std.proofs.Common.{◌≡◌, ◌<◌, ◌&&◌, ◌==◌, ℕ, zero, suc, Bool, true, false, cond, nat_eq, List, [], ◌∷◌, ◌++◌, length, map, get_or, set, slice_get, slice_index_or, Option, Some, None, Ok, option_map, option_and_then, refl, sym, ap, ◌∙◌, subst, arith, append-nil, eqb-true}
+use Rattle.std.proofs.Common.{◌≡◌, ◌<◌, ◌&&◌, ◌==◌, ℕ, zero, suc, Bool, true, false, nat_eq, List, [], ◌∷◌, ◌++◌, length, map, set, slice_get, Option, Some, None, Ok, option_map, option_and_then, refl, sym, ap, ◌∙◌, append-nil, eqb-true}
 use Rattle.std.specs.Cmp.Lexicographic.{pointwise}
-use Rattle.std.specs.Prelude.{IfSome}
-use Rattle.std.proofs.lemmas.Bool.{and_parts, cond-false, cond-true, eqb-false, false≢true}
+use Rattle.std.proofs.lemmas.Bool.{and_parts, cond-false, cond-true, eqb-false}
 use Rattle.std.proofs.lemmas.List.{map-append, map-set}
 use Rattle.std.proofs.lemmas.Option.{none-some, same_Some}
 use Rattle.blog_flash.specs.States.{is_same_value}
@@ -23,7 +22,7 @@ use Rattle.blog_pairs.specs.code.PairsView.{HasColumns, body_at, holds_row, pair
 use Rattle.blog_pairs.specs.code.Placed.{are_equal, kept_pair, placed, would_at, would_told}
 use Rattle.blog_pairs.specs.declared.held.HeldPair.{HeldPair}
 use Rattle.blog_pairs.proofs.EachSlot.{present-append}
-use Rattle.blog_pairs.proofs.RowPlaces.{HasNoPlace, HasPlace, has_place, is_dropped, is_kept, no_place}
+use Rattle.blog_pairs.proofs.RowPlaces.{has_place, is_dropped, is_kept, no_place}
 
 -- ---- the table of a pair
 

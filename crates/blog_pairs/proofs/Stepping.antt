@@ -1,5 +1,5 @@
 -- Pairs after the changes of rows, one after the other.
-use Rattle.std.proofs.Common.{◌≡◌, ℕ, suc, Bool, true, false, List, [], ◌∷◌, ◌++◌, length, Option, Some, None, refl, sym, ap, ◌∙◌, arith, append-nil}
+use Rattle.std.proofs.Common.{◌≡◌, ℕ, suc, Bool, true, false, List, [], ◌∷◌, ◌++◌, length, refl, sym, ap, ◌∙◌, arith, append-nil}
 use Rattle.std.specs.List.{AllByRecursion}
 use Rattle.blog_later.specs.code.EventChanges.{image_changes, images_changes}
 use Rattle.blog_merge.specs.Pairs.{Pair}
@@ -12,7 +12,7 @@ use Rattle.blog_row.specs.declared.kind.RowsAction.TheVariants.{Write, Update, D
 use Rattle.blog_trans.specs.Changes.{Change, Deleted, Inserted, Updated}
 use Rattle.blog_pairs.specs.Steps.{pairs_with, unmarked}
 
-with_more : (selected : Bool) (cs ds : List Change) (ps : List Pair) → pairs_with selected (cs ++ ds) ps ≡ pairs_with selected ds (pairs_with selected cs ps)
+pub with_more : (selected : Bool) (cs ds : List Change) (ps : List Pair) → pairs_with selected (cs ++ ds) ps ≡ pairs_with selected ds (pairs_with selected cs ps)
 with_more selected [] ds ps = refl
 with_more selected (c ∷ cs) ds ps = with_more selected cs ds (pairs_with selected (c ∷ []) ps)
 

@@ -1,5 +1,5 @@
 -- Tables that differ.
-use Rattle.std.specs.Prelude.{◌≡◌, ◌<◌, ℕ, List, [], ◌++◌, length, slice_index_or}
+use Rattle.std.specs.Prelude.{◌≡◌, ◌≢◌, ◌<◌, ℕ, List, [], ◌++◌, length, slice_index_or}
 use Rattle.blog_row.specs.TableMap.{layout_of}
 use Rattle.blog_trans.specs.Changes.{table_of}
 
@@ -16,3 +16,7 @@ pub record IsNumberOf (bodies : List (List ℕ)) (body : List ℕ) (n : ℕ) : T
   pub within : n < length bodies
   pub table : table_of (slice_index_or bodies n []) ≡ table_of body
   pub layout : layout_of (slice_index_or bodies n []) ≡ layout_of body
+
+-- no body names the table of this one
+abbrev pub IsNewTable : List (List ℕ) → List ℕ → Type 0
+IsNewTable bodies body = (i : ℕ) → i < length bodies → table_of (slice_index_or bodies i []) ≢ table_of body

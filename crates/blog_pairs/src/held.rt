@@ -3,14 +3,28 @@
 ghost use Rattle.std.specs.Prelude.{IsOk};
 ghost use Rattle.blog_row.specs.TableMap.{layout_of};
 
+use blog_event::Header;
 use std::alloc::Allocator;
 use std::collections::BTreeSet;
+
+/// The parts of an update event that aren't its rows.
+#[derive(Drop)]
+pub(crate) struct HeldUpdate<A: Allocator> {
+    /// The header of the table map.
+    pub(crate) map: Header,
+    /// The header of the rows event.
+    pub(crate) rows: Header,
+    /// The body of the rows event before its images, with the table id of the held table map.
+    pub(crate) front: Vec<u8, A>,
+}
 
 /// A table of which rows are held.
 #[derive(Drop)]
 pub(crate) struct HeldTable<A: Allocator> {
     /// The body of its table map.
     pub(crate) body: Vec<u8, A>,
+    /// The parts of its first selected update event, if one came.
+    pub(crate) update: Option<HeldUpdate<A>>,
     pub(crate) ghost known: { IsOk (layout_of body.items) },
 }
 

@@ -17,9 +17,10 @@ mod slots;
 mod spelling;
 mod steps;
 mod tables;
+mod updates;
 mod values;
 
 pub use columns::Columns;
 pub use fault::PairFault;
 pub use pairs::PairTable;
-pub use row_pair::RowPair;
+pub use row_pair::{RowPair, UpdateParts};

@@ -11,7 +11,8 @@ use crate::fault::PairFault;
 use crate::held::{HeldPairs, HeldTable};
 use crate::rows::{add_later_rows, add_selected_rows};
 use crate::steps::{add_later, add_selected};
-use crate::tables::changed_table;
+use crate::tables::{changed_table, held_table};
+use crate::updates::selected_table;
 use blog_row::{Layout, RowChange};
 use blog_trans::GroupRows;
 use std::alloc::Allocator;
@@ -69,7 +70,8 @@ impl<A: Allocator + Copy> PairTable<A> {
         Ok(())
     }
 
-    /// Adds a later change of others to a row. Takes the same, and fails in the same cases.
+    /// Adds a later change of others to a row. Takes the same, and fails in the same cases. A table of which no selected change came has no pairs:
+    /// nothing is done then, even if it comes with other columns each time.
     pub fn add_later(
         &mut self,
         body: &[u8],
@@ -81,24 +83,30 @@ impl<A: Allocator + Copy> PairTable<A> {
             ≡ pairs_with false (image_changes (table_of body.now) (layout_columns layout.now) (row_seen row.now).before (row_seen row.now).after) (pairs_told self.old)) }
         ensures failed { OnErr result (pairs_told self.new ≡ pairs_told self.old) }
     {
-        let table = changed_table(self.alloc, &mut self.tables, body, layout, 0)?;
+        let Some(table) = held_table(&self.tables, body, layout, 0)? else {
+            return Ok(());
+        };
         add_later(self.alloc, &mut self.held, &table, row)?;
         Ok(())
     }
-    /// Adds the changes of others to the rows of an event. Fails in the same cases, but after some of its rows.
+
+    /// Adds the changes of others to the rows of an event, as `add_later` does. Fails in the same cases, but after some of its rows.
     pub fn add_later_rows(&mut self, group: &GroupRows<'_>) -> Result<(), PairFault>
         requires { IsByMap group.now }
         ensures { OnOk result (pairs_told self.new ≡ pairs_with false (event_changes (event_seen (GroupEvent.Rows group.now))) (pairs_told self.old)) }
     {
         let layout = group.rows.layout();
         let len = group.rows.rows_len();
-        let table = changed_table(self.alloc, &mut self.tables, group.map.body, &layout, len)?;
+        let Some(table) = held_table(&self.tables, group.map.body, &layout, len)? else {
+            return Ok(());
+        };
         add_later_rows(self.alloc, &mut self.held, &table, &group.rows)?;
         Ok(())
     }
 
     /// Adds the selected changes of those rows of an event that aren't marked. `marks` has one for each row; marked ones are undone by themselves.
-    /// Fails in the same cases, but after some of its rows.
+    /// The parts of the first update event that comes of a table are held, so that updates of its rows can be written. Fails in the same cases, but
+    /// after some of its rows.
     pub fn add_selected_rows(
         &mut self,
         group: &GroupRows<'_>,
@@ -109,8 +117,7 @@ impl<A: Allocator + Copy> PairTable<A> {
         ensures { OnOk result (pairs_told self.new ≡ pairs_with true (unmarked marks.now (event_changes (event_seen (GroupEvent.Rows group.now)))) (pairs_told self.old)) }
     {
         let layout = group.rows.layout();
-        let len = group.rows.rows_len();
-        let table = changed_table(self.alloc, &mut self.tables, group.map.body, &layout, len)?;
+        let table = selected_table(self.alloc, &mut self.tables, group, &layout)?;
         add_selected_rows(self.alloc, &mut self.held, &table, &group.rows, marks)?;
         Ok(())
     }

@@ -7,7 +7,20 @@ ghost use Rattle.blog_pairs.specs.code.TableView.{pair_seen, places_told};
 use crate::held::{HeldPair, HeldTable};
 use crate::pairs::PairTable;
 use crate::putting::would_image;
+use blog_event::Header;
 use std::alloc::Allocator;
+
+/// The parts of an update event that aren't its rows, so that an update of another row of the table can be written.
+#[derive(Clone, Copy, Debug, PartialEq, Eq)]
+pub struct UpdateParts<'a> {
+    /// The header of the table map.
+    pub map: Header,
+    /// The header of the rows event.
+    pub rows: Header,
+    /// The body of the rows event before its images (MySQL Internals manual, "Rows_event"). It has the table id of the first table map of the table
+    /// that came.
+    pub front: &'a [u8],
+}
 
 /// A row of a table as it is, and as it would be had a mistake not been made.
 #[derive(Clone, Copy, Debug, PartialEq, Eq)]
@@ -18,6 +31,20 @@ pub struct RowPair<'a> {
     pub real: &'a [u8],
     /// The image of the row as it would be; None if it wouldn't be there.
     pub would: Option<&'a [u8]>,
+    /// The parts of the first selected update event of the table; None if none came.
+    pub update: Option<UpdateParts<'a>>,
+}
+
+/// Returns the parts of the update event of a held table, if there is one.
+fn update_parts<A: Allocator>(held: &HeldTable<A>) -> Option<UpdateParts<'_>> {
+    match &held.update {
+        Some(update) => Some(UpdateParts {
+            map: update.map,
+            rows: update.rows,
+            front: update.front.as_slice(),
+        }),
+        None => None,
+    }
 }
 
 /// Returns a pair as it is looked at.
@@ -29,6 +56,7 @@ fn shown<'b, A: Allocator>(tables: &'b [HeldTable<A>], pair: &'b HeldPair<A>) ->
         map: tables[pair.table].body.as_slice(),
         real: pair.real.as_slice(),
         would: would_image(pair),
+        update: update_parts(&tables[pair.table]),
     }
 }
 

@@ -1,14 +1,12 @@
-use Rattle.std.proofs.Common.{◌≡◌, ◌<◌, ◌≤◌, ℕ, List, length, Option, Some, option_map, sym, ap, ◌∙◌, arith}
+use Rattle.std.proofs.Common.{◌≡◌, ◌<◌, ◌≤◌, length, Some, option_map, sym, ap, ◌∙◌, arith}
 use Rattle.std.specs.BTreeSet.{contains}
 use Rattle.std.specs.List.{slice_get}
 use Rattle.std.specs.Ordering.{nat_cmp}
 use Rattle.std.proofs.lemmas.List.{length-map}
 use Rattle.std.proofs.lemmas.Option.{slice_get-get_or}
-use Rattle.blog_merge.specs.Pairs.{Pair}
 use Rattle.blog_row.specs.Image.{row_of}
-use Rattle.blog_pairs.specs.Places.{is_in}
 use Rattle.blog_pairs.specs.code.ColumnsView.{columns_told}
-use Rattle.blog_pairs.specs.code.PairsView.{holds_row, pair_told, slots_told, table_at}
+use Rattle.blog_pairs.specs.code.PairsView.{pair_told, slots_told, table_at}
 use Rattle.blog_pairs.proofs.Indexing.{behind_next, found_next, no_next, past_slots}
 use Rattle.blog_pairs.proofs.Keeping.{few_slots}
 use Rattle.blog_pairs.proofs.Pairing.{in_slot, told_at}

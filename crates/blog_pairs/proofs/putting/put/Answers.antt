@@ -1,4 +1,4 @@
-use Rattle.std.proofs.Common.{ℕ, sym, subst}
+use Rattle.std.proofs.Common.{sym, subst}
 use Rattle.blog_pairs.specs.code.ColumnsView.{columns_told}
 use Rattle.blog_pairs.specs.code.PairsView.{HasPrint}
 use Rattle.blog_pairs.proofs.Fitted.{kept_is, still_fits, table_print}

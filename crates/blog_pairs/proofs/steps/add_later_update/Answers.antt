@@ -1,4 +1,4 @@
-use Rattle.std.proofs.Common.{ℕ, List, Option, Some, option_map, refl, sym, ap, ◌∙◌}
+use Rattle.std.proofs.Common.{ℕ, List, Some, option_map, refl, sym, ap, ◌∙◌}
 use Rattle.blog_merge.specs.Merge.{merged}
 use Rattle.blog_merge.specs.Pairs.{Pair, put, would_be}
 use Rattle.blog_row.specs.Image.{row_of}

@@ -1,4 +1,4 @@
-use Rattle.std.proofs.Common.{ℕ, List, Option, option_map, refl, sym, ap, ◌∙◌}
+use Rattle.std.proofs.Common.{ℕ, List, option_map, refl, sym, ap, ◌∙◌}
 use Rattle.blog_merge.specs.Pairs.{Pair, put, would_be}
 use Rattle.blog_row.specs.Image.{row_of}
 use Rattle.blog_pairs.specs.code.ColumnsView.{columns_told}

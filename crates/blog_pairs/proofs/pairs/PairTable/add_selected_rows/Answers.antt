@@ -11,18 +11,18 @@ use Rattle.blog_pairs.proofs.pairs.PairTable.add_selected_rows.Goals as goal
 
 pub invariant_of-self : goal.invariant_of-self
 invariant_of-self g c = record {
-  apart = c.changed_table.ensures.apart;
-  kept = kept_more (bodies_of c.args.self.now.tables.items) (bodies_of c.changed_table.new.tables.items) c.args.self.now.held c.changed_table.ensures.more c.args.self.now.kept;
+  apart = c.selected_table.ensures.apart;
+  kept = kept_more (bodies_of c.args.self.now.tables.items) (bodies_of c.selected_table.new.tables.items) c.args.self.now.held c.selected_table.ensures.more c.args.self.now.kept;
 }
 
 pub invariant_of-self-2 : goal.invariant_of-self-2
 invariant_of-self-2 g c =
     let held = c.args.self.now.held in
-    let all = bodies_of c.changed_table.new.tables.items in
-    let kept = kept_more (bodies_of c.args.self.now.tables.items) all held c.changed_table.ensures.more c.args.self.now.kept in
-    let fits = table_fits all held c.args.group.now.map.body.now (layout_columns c.layout-layout.result) c.in_ok-table.table c.changed_table.ensures.apart kept c.in_ok-table.ensures.table in
+    let all = bodies_of c.selected_table.new.tables.items in
+    let kept = kept_more (bodies_of c.args.self.now.tables.items) all held c.selected_table.ensures.more c.args.self.now.kept in
+    let fits = table_fits all held c.args.group.now.map.body.now (layout_columns c.layout-layout.result) c.in_ok-table.table c.selected_table.ensures.apart kept c.in_ok-table.ensures.table in
     record {
-      apart = c.changed_table.ensures.apart;
+      apart = c.selected_table.ensures.apart;
       kept = (c.add_selected_rows.ensures.fits all fits).kept;
     }
 
@@ -33,16 +33,16 @@ pub returns : goal.returns
 returns g c =
     let held = c.args.self.now.held in
     let bodies = bodies_of c.args.self.now.tables.items in
-    let all = bodies_of c.changed_table.new.tables.items in
+    let all = bodies_of c.selected_table.new.tables.items in
     let group = c.args.group.now in
     let body = group.map.body.now in
     let columns = layout_columns c.layout-layout.result in
     let table = c.in_ok-table.table in
-    let more = c.changed_table.ensures.more in
+    let more = c.selected_table.ensures.more in
     let is = c.in_ok-table.ensures.table in
     let old = pairs_in bodies held.slots.items in
     let rows = unmarked c.args.marks.now (event_rows group.rows) in
-    let fits = table_fits all held body columns table c.changed_table.ensures.apart (kept_more bodies all held more c.args.self.now.kept) is in
+    let fits = table_fits all held body columns table c.selected_table.ensures.apart (kept_more bodies all held more c.args.self.now.kept) is in
     with_rows true all body columns table rows old (pairs_in all held.slots.items) _ is (told_same bodies all held more c.args.self.now.kept) (c.in_ok-add_selected_rows.ensures.done all fits)
     ∙ ap (λ l. pairs_with true (images_changes (table_of body) (layout_columns l) rows) old) c.layout-layout.ensures
     ∙ ap (λ cs. pairs_with true cs old) (sym (group_unmarked group c.args.marks.now c.requires.by_map))
