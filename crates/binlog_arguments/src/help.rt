@@ -14,7 +14,7 @@ binlog list [-d NAME] [-T NAME] [-j POS] [--stop-position POS]
                    [--utc | --time-zone NAME] [--all-columns] [--json | --csv] LOG..
        binlog report [-d NAME] [-T NAME] [-j POS] [--stop-position POS]
                    [--utc | --time-zone NAME] [--text] [-r FILE [--force]] LOG..
-       binlog undo [--later LOG].. [--leave | --anyway] [-j POS] [--stop-position POS]
+       binlog undo [--later LOG].. [--leave | --merge | --anyway] [-j POS] [--stop-position POS]
                    [-d NAME] [-T NAME]
                    [--dry-run] [--show] [-r FILE [--force]] LOG..
        binlog redo [-j POS] [--stop-position POS] [-d NAME] [-T NAME]
@@ -316,15 +316,18 @@ What came later is looked at, to the end of the last LOG and in the later logs t
 transaction between the chosen ones. If it changed rows that would be undone, or may have changed these
 tables in a way that can't be looked into, such as by ALTER TABLE, nothing is written, and lines say where.
 With --leave rows that were changed since are left as they are, and the others are undone.
+With --merge these rows are updated, too: a column that only the mistake changed gets its former value, and one
+that was changed since keeps its value. Rows that the mistake inserted and others changed since stay. If other
+logs have changes of these rows, give all of them as LOG, and none by --later.
 With --anyway nothing is looked at: later changes of these rows are overwritten.
 A report says what is undone: on standard output with -r and with --dry-run, else on standard error.
 It counts rows as the undo changes them: 120 rows that were deleted are 120 inserts.";
 
 /// How `undo` is called.
 pub const UNDO_USAGE: &str = "\
-binlog undo [--later LOG].. [--leave | --anyway] [-j POS] [--stop-position POS] [--at POS]..
-                   [--thread N].. [--gtid GTID].. [--start-datetime TIME] [--stop-datetime TIME]
-                   [-d NAME] [-T [NAME.]NAME]
+binlog undo [--later LOG].. [--leave | --merge | --anyway] [-j POS] [--stop-position POS]
+                   [--at POS].. [--thread N].. [--gtid GTID].. [--start-datetime TIME]
+                   [--stop-datetime TIME] [-d NAME] [-T [NAME.]NAME]
                    [--each-transaction] [--keep-times] [--rewrite-db FROM:TO].. [--size BYTES]
                    [--utc | --time-zone NAME] [--binlog] [--dry-run] [--show]
                    [-r FILE [--force]] LOG..";
@@ -352,6 +355,8 @@ Examples:
       see what would be undone, and whether it can be
   binlog undo -j 4021 --stop-position 9144 binlog.000042 --show
       see the rows, too
+  binlog undo --merge -j 4021 --stop-position 9144 binlog.000042 --dry-run
+      the same if rows were changed since: keep what was changed, and undo the rest
   binlog undo -j 4021 --stop-position 9144 binlog.000042 -r undo.sql
       write to a file that isn't there yet; -r is the same as --result-file, -j as --start-position
   binlog undo -j 4021 --stop-position 9144 binlog.000042 -r undo.sql --force

@@ -20,7 +20,7 @@ Usage: binlog list [-d NAME] [-T NAME] [-j POS] [--stop-position POS]
                    [--utc | --time-zone NAME] [--all-columns] [--json | --csv] LOG..
        binlog report [-d NAME] [-T NAME] [-j POS] [--stop-position POS]
                    [--utc | --time-zone NAME] [--text] [-r FILE [--force]] LOG..
-       binlog undo [--later LOG].. [--leave | --anyway] [-j POS] [--stop-position POS]
+       binlog undo [--later LOG].. [--leave | --merge | --anyway] [-j POS] [--stop-position POS]
                    [-d NAME] [-T NAME]
                    [--dry-run] [--show] [-r FILE [--force]] LOG..
        binlog redo [-j POS] [--stop-position POS] [-d NAME] [-T NAME]

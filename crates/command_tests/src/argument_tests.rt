@@ -10,7 +10,7 @@ static HELP_LINES: [&str; 19] = [
     "Usage: binlog list [-d NAME] [-T NAME] [-j POS] [--stop-position POS]",
     "       binlog show [-d NAME] [-T NAME] [-j POS] [--stop-position POS] [--at POS]",
     "       binlog report [-d NAME] [-T NAME] [-j POS] [--stop-position POS]",
-    "       binlog undo [--later LOG].. [--leave | --anyway] [-j POS] [--stop-position POS]",
+    "       binlog undo [--later LOG].. [--leave | --merge | --anyway] [-j POS] [--stop-position POS]",
     "       binlog redo [-j POS] [--stop-position POS] [-d NAME] [-T NAME]",
     "       binlog plain [-r FILE [--force]] LOG",
     "       binlog split [--size BYTES] [-r FILE [--force]] LOG",
