@@ -2,7 +2,7 @@
 
 use blog_device::{Watched, put};
 use sample_logs::builder::{
-    BEGIN, COMMIT, DROP_TABLE, Part, T, XID, build, delete, insert, map_of, update,
+    BEGIN, COMMIT, DROP_TABLE, Part, T, Table, XID, build, delete, insert, map_of, update,
 };
 use std::process::ExitCode;
 use std::test::Fail;
@@ -132,6 +132,9 @@ none sixth",
     )?)
 }
 
+/// The images of two rows of two columns, 5 and 1, 6 and 2.
+const PAIRS: [u8; 18] = [0, 5, 0, 0, 0, 1, 0, 0, 0, 0, 6, 0, 0, 0, 2, 0, 0, 0];
+
 #[test]
 fn logs_are_made_of_words(rt: HostRuntime) -> Result<(), Fail> {
     let mut gtid = [0; 25];
@@ -154,6 +157,11 @@ fn logs_are_made_of_words(rt: HostRuntime) -> Result<(), Fail> {
             delete(2, &[5, 6]),
             map_of(3, b"v"),
             update(3, &[5, 6]),
+            Part::Map(Table {
+                types: &[3, 3],
+                ..T
+            }),
+            update(1, &[]).over(2, &[0xFF, 0xFF], &PAIRS),
             COMMIT,
             Part::Other {
                 kind: 4,
@@ -177,7 +185,7 @@ fn logs_are_made_of_words(rt: HostRuntime) -> Result<(), Fail> {
         given.as_slice(),
         &[],
         "\
-log log gtid:9 begin map:1:t insert:1:5 xid 'query:DROP TABLE t' begin map:2:u delete:2:5,6 map:3:\\x76 update:3:5,6 commit rotate:a\\x2e000043 other:40:9
+log log gtid:9 begin map:1:t insert:1:5 xid 'query:DROP TABLE t' begin map:2:u delete:2:5,6 map:3:\\x76 update:3:5,6 map:1:t/2 update:1:5/1,6/2 commit rotate:a\\x2e000043 other:40:9
 same log built",
     )?)
 }
@@ -186,7 +194,7 @@ same log built",
 const BEGINNING: &str =
     "file abc abc\n$ a 3\n> echo\n> a\n> 3\n! the status isn't 0\n! but another\n= 3\n";
 
-static WRONG: [&'static str; 32] = [
+static WRONG: [&'static str; 34] = [
     "= 2",
     "= x",
     "> b",
@@ -209,6 +217,8 @@ static WRONG: [&'static str; 32] = [
     "log a start",
     "log a insert:1",
     "log a map:t",
+    "log a map:1:t/9",
+    "log a insert:1:5/",
     "log a gtid:x",
     "log a other:40",
     "log a map:1:\\x",

@@ -2,7 +2,7 @@
 
 use crate::wrong::Wrong;
 use sample_logs::builder::{
-    BEGIN, COMMIT, Part, XID, delete, front, insert, map_of, old_front, put, update,
+    BEGIN, COMMIT, Part, T, Table, XID, delete, front, insert, old_front, put, update,
 };
 
 /// A log of the events that these words mean.
@@ -61,31 +61,66 @@ fn put_query(rt: &HostRuntime, log: &mut Vec<u8>, text: &str) -> Result<(), Wron
     Ok(())
 }
 
-/// Appends a table map, of `ID:NAME`.
+/// The columns of the widest table, which are integers.
+const LONGS: [u8; 8] = [3; 8];
+
+/// Appends a table map, of `ID:NAME`, and behind these `/N` of a table of so many columns.
 fn put_map(rt: &HostRuntime, log: &mut Vec<u8>, rest: &str) -> Result<(), Wrong> {
-    let (id, name) = rest.split_once(':').ok_or(Wrong::Change)?;
+    let (id, rest) = rest.split_once(':').ok_or(Wrong::Change)?;
+    let id = id.parse::<u32>()?;
+    let (name, columns) = rest.split_once('/').unwrap_or((rest, "1"));
+    let types = LONGS.get(..columns.parse::<usize>()?).ok_or(Wrong::Change)?;
     let name = bytes_of(rt, name)?;
-    put(log, &map_of(id.parse::<u32>()?, &name))?;
+    let table = Table {
+        id,
+        name: &name,
+        types,
+        ..T
+    };
+    put(log, &Part::Map(table))?;
     Ok(())
 }
 
-/// Appends a rows event, of `ID:VALUE,VALUE..`, and behind these `+old` of version 1 and `+open` if more follow in its statement.
+/// Appends a rows event, of `ID:ROW,ROW..`, and behind these `+old` of version 1 and `+open` if more follow in its statement.
 fn put_rows(rt: &HostRuntime, log: &mut Vec<u8>, name: &str, rest: &str) -> Result<(), Wrong> {
     let (rest, is_open) = without(rest, "+open");
     let (rest, is_old) = without(rest, "+old");
-    let (id, texts) = rest.split_once(':').ok_or(Wrong::Change)?;
+    let (id, rows) = rest.split_once(':').ok_or(Wrong::Change)?;
     let id = id.parse::<u32>()?;
-    let mut values = Vec::new(rt.alloc());
-    for text in texts.split_terminator(',') {
-        values.push(text.parse::<u8>()?)?;
-    }
-    let rows = match name {
-        "insert" => insert(id, &values),
-        "delete" => delete(id, &values),
-        _ => update(id, &values),
+    let columns = columns_of(rows)?;
+    let images = images_of(rt, columns, rows)?;
+    let part = match name {
+        "insert" => insert(id, &[]).over(columns, &[0xFF], &images),
+        "delete" => delete(id, &[]).over(columns, &[0xFF], &images),
+        _ => update(id, &[]).over(columns, &[0xFF, 0xFF], &images),
     };
-    let rows = if is_old { rows.old() } else { rows };
-    put(log, &if is_open { rows.open() } else { rows })?;
+    let part = if is_old { part.old() } else { part };
+    put(log, &if is_open { part.open() } else { part })?;
+    Ok(())
+}
+
+/// How many columns the first of some rows has.
+fn columns_of(rows: &str) -> Result<u8, Wrong> {
+    let row = rows.split(',').next().unwrap_or("");
+    Ok(u8::try_from(row.split('/').count())?)
+}
+
+/// The images of rows, of which none has a NULL. In those of one column the bits that belong to no column are set.
+fn images_of(rt: &HostRuntime, columns: u8, rows: &str) -> Result<Vec<u8>, Wrong> {
+    let nulls = if columns == 1 { 0xFE } else { 0 };
+    let mut images = Vec::new(rt.alloc());
+    for row in rows.split_terminator(',') {
+        images.push(nulls)?;
+        put_values(&mut images, row)?;
+    }
+    Ok(images)
+}
+
+/// Appends the integers of a row, of `VALUE/VALUE..`.
+fn put_values(images: &mut Vec<u8>, row: &str) -> Result<(), Wrong> {
+    for text in row.split('/') {
+        images.extend_from_slice(&[text.parse::<u8>()?, 0, 0, 0])?;
+    }
     Ok(())
 }
 
