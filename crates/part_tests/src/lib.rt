@@ -4,6 +4,8 @@
 #[cfg(test)]
 mod later_tests;
 #[cfg(test)]
+mod merge_tests;
+#[cfg(test)]
 mod place_tests;
 #[cfg(test)]
 mod refusal_tests;

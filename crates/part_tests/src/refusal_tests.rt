@@ -15,7 +15,7 @@ use std::io;
 use std::process::Abort;
 use std::test::Fail;
 use testkit::devices::{ALL, Failure, SlowReader, SlowWriter};
-use undo_run::{FurtherFault, LogsFault, OpeningFault, PartFault, write_part};
+use undo_run::{FurtherFault, LogsFault, OpeningFault, PartFault, UnitRequest, write_part};
 
 /// `CLOSED` with another byte at a place.
 fn changed<R: AllocGlobal>(rt: &R, at: usize) -> Result<Vec<u8>, Fail> {
@@ -149,19 +149,20 @@ fn lacks_memory<A: Allocator>(fault: &LogsFault<A>) -> bool {
     }
 }
 
-/// Each request for memory of a run over a part of logs is refused in turn. There are at least so many.
-fn refuse_each<'l, R: AllocGlobal + Abort>(
+/// Each request for memory of a run over a part of logs, or over units of it, is refused in turn. There are at least so many.
+pub(crate) fn refuse_each<'l, R: AllocGlobal + Abort>(
     rt: &R,
     log: &'l [u8],
     more: &'l [(&'l str, &'l [u8])],
     part: &Selection<'_>,
+    asked: Option<UnitRequest<'_>>,
     looks: bool,
     later: &'l [(&'l str, &'l [u8])],
     least: usize,
 ) -> Result<(), Fail> {
-    let (_, _, wanted, _) = logs_with(rt, log, more, part, None, looks, later)?;
+    let (_, _, wanted, _) = logs_with(rt, log, more, part, asked, looks, later)?;
     let heap = LocalHeap::new(rt.alloc(), ROOM)?;
-    for number in 0..200 {
+    for number in 0..400 {
         let alloc = Refusing::new(&heap, number + 1);
         let mut reader = Watched::new(SlowReader::new(log, ALL, Failure::Never));
         let mut writer = Watched::new(SlowWriter::new(rt, ALL, Failure::Never));
@@ -179,7 +180,7 @@ fn refuse_each<'l, R: AllocGlobal + Abort>(
             b"",
             further,
             part,
-            None,
+            asked,
             looks,
             logs,
             0,
@@ -211,7 +212,7 @@ fn refuse_each<'l, R: AllocGlobal + Abort>(
 
 #[test]
 fn a_refused_request_writes_nothing(rt: HostRuntime) -> Result<(), Fail> {
-    refuse_each(&rt, &CLOSED, &[], &between(4, None), false, &[], 6)?;
+    refuse_each(&rt, &CLOSED, &[], &between(4, None), None, false, &[], 6)?;
     // with what came later
     let parts = [
         BEGIN,
@@ -226,13 +227,13 @@ fn a_refused_request_writes_nothing(rt: HostRuntime) -> Result<(), Fail> {
     ];
     let log = build(&rt, &parts)?;
     let part = between(4, Some(259));
-    refuse_each(&rt, &log, &[], &part, true, &[], 14)?;
+    refuse_each(&rt, &log, &[], &part, None, true, &[], 14)?;
     let later = build(
         &rt,
         &[OTHER_STATEMENT, BEGIN, Part::Map(T), delete(1, &[6]), XID],
     )?;
     let logs: [(&str, &[u8]); 2] = [("a", &later), ("b", &later)];
-    refuse_each(&rt, &log, &[], &part, true, &logs, 20)?;
+    refuse_each(&rt, &log, &[], &part, None, true, &logs, 20)?;
     // with further logs
     let unit = build(&rt, &[BEGIN, Part::Map(T), insert(1, &[5]), XID])?;
     let further: [(&str, &[u8]); 2] = [("a", &unit), ("b", &later)];
@@ -241,6 +242,7 @@ fn a_refused_request_writes_nothing(rt: HostRuntime) -> Result<(), Fail> {
         &unit,
         &further,
         &between(4, Some(120)),
+        None,
         true,
         &logs,
         24,

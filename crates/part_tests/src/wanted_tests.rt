@@ -9,7 +9,7 @@ use std::test::Fail;
 use undo_run::UnitRequest;
 
 /// Any unit.
-const ANY: Wanted<'static> = Wanted {
+pub(crate) const ANY: Wanted<'static> = Wanted {
     start: None,
     stop: None,
     from_time: None,
