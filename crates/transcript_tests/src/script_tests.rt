@@ -217,7 +217,7 @@ static WRONG: [&'static str; 34] = [
     "log a start",
     "log a insert:1",
     "log a map:t",
-    "log a map:1:t/9",
+    "log a map:1:t/4",
     "log a insert:1:5/",
     "log a gtid:x",
     "log a other:40",

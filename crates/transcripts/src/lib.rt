@@ -6,7 +6,7 @@
 //! | Line | Meaning |
 //! |---|---|
 //! | `file NAME BYTES` | there is a file of these bytes |
-//! | `log NAME PARTS` | there is a log of these events: `begin`, `commit`, `xid`, `query:TEXT`, `gtid:N`, `rotate:LOG`, `other:TYPE:LENGTH` with zeros, `event:TYPE:FLAGS:BODY`; `map:ID:TABLE`, of a table in `d` of one integer, and `map:ID:TABLE/N` of N of them; and `insert:ID:ROWS`, `delete:ID:ROWS`, `update:ID:ROWS` with rows between commas, of an update in turn before and after, and the values of a row between `/`, with `+old` of version 1, and with `+open` if another follows in the statement. In TEXT, LOG, BODY and TABLE `\xHH` is the byte of these two hexadecimal digits. `server:5.5` first: the log of such a server |
+//! | `log NAME PARTS` | there is a log of these events: `begin`, `commit`, `xid`, `query:TEXT`, `gtid:N`, `rotate:LOG`, `other:TYPE:LENGTH` with zeros, `event:TYPE:FLAGS:BODY`; `map:ID:TABLE`, of a table in `d` of one integer, and `map:ID:TABLE/N` of up to 3 of them; and `insert:ID:ROWS`, `delete:ID:ROWS`, `update:ID:ROWS` with rows between commas, of an update in turn before and after, and the values of a row between `/`, with `+old` of version 1, and with `+open` if another follows in the statement. In TEXT, LOG, BODY and TABLE `\xHH` is the byte of these two hexadecimal digits. `server:5.5` first: the log of such a server |
 //! | `text NAME TEXT` | there is a file of this text, without a line feed; `\xHH` in it is the byte of these two hexadecimal digits |
 //! | `link NAME OLD` | the file OLD has a second name |
 //! | `folder NAME` | there is a folder |

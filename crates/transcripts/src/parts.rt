@@ -61,24 +61,35 @@ fn put_query(rt: &HostRuntime, log: &mut Vec<u8>, text: &str) -> Result<(), Wron
     Ok(())
 }
 
-/// The columns of the widest table, which are integers.
-const LONGS: [u8; 8] = [3; 8];
-
 /// Appends a table map, of `ID:NAME`, and behind these `/N` of a table of so many columns.
 fn put_map(rt: &HostRuntime, log: &mut Vec<u8>, rest: &str) -> Result<(), Wrong> {
     let (id, rest) = rest.split_once(':').ok_or(Wrong::Change)?;
-    let id = id.parse::<u32>()?;
     let (name, columns) = rest.split_once('/').unwrap_or((rest, "1"));
-    let types = LONGS.get(..columns.parse::<usize>()?).ok_or(Wrong::Change)?;
+    let id = id.parse::<u32>()?;
+    let types = types_of(columns)?;
     let name = bytes_of(rt, name)?;
-    let table = Table {
+    put(log, &map_of(id, &name, types))?;
+    Ok(())
+}
+
+/// A map of a table with columns of these types.
+fn map_of<'p>(id: u32, name: &'p [u8], types: &'static [u8]) -> Part<'p> {
+    Part::Map(Table {
         id,
-        name: &name,
+        name,
         types,
         ..T
-    };
-    put(log, &Part::Map(table))?;
-    Ok(())
+    })
+}
+
+/// The types of so many columns of integers, up to 3.
+fn types_of(columns: &str) -> Result<&'static [u8], Wrong> {
+    match columns {
+        "1" => Ok(&[3]),
+        "2" => Ok(&[3, 3]),
+        "3" => Ok(&[3, 3, 3]),
+        _ => Err(Wrong::Change),
+    }
 }
 
 /// Appends a rows event, of `ID:ROW,ROW..`, and behind these `+old` of version 1 and `+open` if more follow in its statement.
