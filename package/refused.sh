@@ -88,6 +88,7 @@ of_binlog() {
     refuse_each 0 undo --dry-run -j 811 --stop-position 1215 crc32_closed.binlog
     refuse_each 1 undo -j 198 --stop-position 512 crc32_closed.binlog
     refuse_each 0 undo --leave --utc --keep-times -j 543 --stop-position 5991 -r result updated_since.binlog
+    refuse_each 0 undo --merge --utc --keep-times -j 543 --stop-position 5991 -r result updated_since.binlog
     refuse_each 0 redo --binlog -j 811 --stop-position 1215 crc32_closed.binlog
     refuse_each 1 undo --anyway -T none crc32_closed.binlog
     refuse_each 0 split --size 1024 multi_table.binlog
