@@ -262,7 +262,12 @@ def undo_sql(programs, made, *options):
 
 def hold_as_without(server, programs, made):
     apply_sql(server, undo_sql(programs, made))
-    server.query(joined([*setup(SPARED), *right_changes(SPARED)]))
+    hold_tables_as(server, right_changes)
+
+
+def hold_tables_as(server, statements):
+    """The tables are as those of another schema in which these statements were made."""
+    server.query(joined([*setup(SPARED), *statements(SPARED)]))
     found, wanted = (list(state(server, names_in(schema, *TABLES)).values()) for schema in (SHOP, SPARED))
     other = [table for table, has, should in zip(TABLES, found, wanted) if has != should]
     hold(not other, f"these tables differ: {', '.join(other)}")
@@ -285,10 +290,7 @@ def hold_left(server, programs, made, rows, wanted):
     told = programs.command("undo", made.log, *made.part, *made.later, "--leave", "--dry-run").decode().splitlines()
     hold(f"leaves {rows} rows as they are, which were changed since:" in told, f"the report is {told}")
     apply_sql(server, undo_sql(programs, made, "--leave"))
-    server.query(joined([*setup(SPARED), *wanted(SPARED)]))
-    found, wanted_rows = (list(state(server, names_in(schema, *TABLES)).values()) for schema in (SHOP, SPARED))
-    other = [table for table, has, should in zip(TABLES, found, wanted_rows) if has != should]
-    hold(not other, f"these tables differ: {', '.join(other)}")
+    hold_tables_as(server, wanted)
 
 
 def hold_left_of_many(server, programs):

@@ -15,6 +15,7 @@ sys.dont_write_bytecode = True
 
 from errors_trial import try_errors
 from later_trial import try_later
+from merge_trial import try_merge
 from privileges_trial import try_privileges
 from programs import Programs, Report, warn
 from server import KINDS, MARIADB, MYSQL, Server, ServerError, Tree
@@ -26,7 +27,7 @@ SETTINGS = {
             ("GTIDs off, row metadata FULL", ("--gtid-mode=OFF", "--enforce-gtid-consistency=OFF", "--binlog-row-metadata=FULL"))),
     MARIADB: (("defaults", ()), ("no checksums", ("--binlog-checksum=NONE",))),
 }
-TRIALS = {"types": try_types, "errors": try_errors, "privileges": try_privileges, "later": try_later,
+TRIALS = {"types": try_types, "errors": try_errors, "privileges": try_privileges, "later": try_later, "merge": try_merge,
           "shown": try_shown}
 
 
