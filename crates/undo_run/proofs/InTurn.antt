@@ -19,17 +19,15 @@ use Rattle.blog_source.specs.declared.reading.Reading.{Reading}
 use Rattle.blog_source.specs.declared.source.Source.{Source}
 use Rattle.blog_sum.specs.declared.fault.SumFault.{SumFault}
 use Rattle.list_run.specs.declared.given.GivenLog.{GivenLog}
-use Rattle.blog_untouched.proofs.PutRecorded.{taken-append}
-use Rattle.blog_untouched.specs.Steps.{taken_of}
-use Rattle.blog_untouched.specs.declared.record.ChangeRecord.{ChangeRecord}
-use Rattle.blog_untouched.specs.declared.rows.SelectedRow.{SelectedRow}
-use Rattle.blog_untouched.specs.declared.rows.TakenRow.{TakenRow}
 use Rattle.undo_run.specs.After.{Later, later_changes, touches}
 use Rattle.undo_run.specs.Several.{one_name}
 use Rattle.undo_run.specs.Taken.{FailsToOpen, whole_log}
 use Rattle.undo_run.proofs.Counted.{touches-more}
 use Rattle.undo_run.specs.code.Leaves.{Records}
 use Rattle.undo_run.specs.code.SinceView.{AreSeen, later_of}
+use Rattle.undo_run.specs.code.Tracks.{Tracks}
+use Rattle.undo_run.specs.declared.tracked.Tracked.{Tracked}
+use Rattle.undo_run.proofs.Tracking.{tracks-more, tracks-none}
 use Rattle.undo_run.specs.code.Steps.{IsSource, LooksInto, LooksOn, OpensLog}
 use Rattle.undo_run.specs.declared.fault.OpeningFault.{OpeningFault}
 use Rattle.undo_run.specs.declared.fault.OpeningFault.TheVariants as opening
@@ -39,38 +37,28 @@ use Rattle.undo_run.specs.declared.since.Since as told
 
 -- ---- what is recorded of them
 
-records-none : {B : Type 0} (asked : Bool) (kept : Left) (old : ChangeRecord B) → Records asked kept old old []
-records-none asked kept old is = (refl, sym (append-nil old.taken.items))
+records-none : {B : Type 0} (asked : Bool) (kept : Left) (old : Tracked B) → Records asked kept old old []
+records-none asked kept old is = tracks-none kept.rows old
 
-records-more : {B : Type 0} (asked : Bool) (kept : Left) (old now new : ChangeRecord B) (ls ks : List Later) → Records asked kept old now ls → Records asked kept now new ks → Records asked kept old new (ls ++ ks)
+records-more : {B : Type 0} (asked : Bool) (kept : Left) (old now new : Tracked B) (ls ks : List Later) → Records asked kept old now ls → Records asked kept now new ks → Records asked kept old new (ls ++ ks)
 records-more asked kept old now new ls ks before more is =
-    let (rows, taken) = before is in
-    let (next_rows, next_taken) = more is in
-    let n = length old.rows.items in (
-      next_rows ∙ rows,
-      next_taken
-          ∙ ap₂ (λ (ts : List TakenRow) (rs : List SelectedRow). ts ++ taken_of (length rs) kept.rows (later_changes ks)) taken rows
-          ∙ append_assoc old.taken.items (taken_of n kept.rows (later_changes ls)) (taken_of n kept.rows (later_changes ks))
-          ∙ ap (λ (ts : List TakenRow). old.taken.items ++ ts)
-          (sym (taken-append n kept.rows (later_changes ls) (later_changes ks)) ∙ ap (taken_of n kept.rows) (sym (flat_map-append (λ (l : Later). changes_in l.handed l.units) ls ks))),
-    )
+    subst (λ (cs : List Change). Tracks kept.rows cs old new) (sym (flat_map-append (λ (l : Later). changes_in l.handed l.units) ls ks))
+    (tracks-more kept.rows (later_changes ls) (later_changes ks) old now new (before is) (more is))
 
 -- of one
-pub records-one : {B : Type 0} (asked : Bool) (kept : Left) (old new : ChangeRecord B) (l : Later) → (asked ≡ true → new.rows.items ≡ old.rows.items)
-    → (asked ≡ true → new.taken.items ≡ old.taken.items ++ taken_of (length old.rows.items) kept.rows (changes_in l.handed l.units)) → Records asked kept old new (l ∷ [])
-records-one asked kept old new l rows taken is =
-    (rows is, taken is ∙ ap (λ (cs : List Change). old.taken.items ++ taken_of (length old.rows.items) kept.rows cs) (sym (append-nil (changes_in l.handed l.units))))
+pub records-one : {B : Type 0} (asked : Bool) (kept : Left) (old new : Tracked B) (l : Later) → (asked ≡ true → Tracks kept.rows (changes_in l.handed l.units) old new) → Records asked kept old new (l ∷ [])
+records-one asked kept old new l tracks is = subst (λ (cs : List Change). Tracks kept.rows cs old new) (sym (append-nil (changes_in l.handed l.units))) (tracks is)
 
 -- ---- those so far
 
 -- they were read, and this was seen of them, after others, and recorded
-pub record AreGoing {A B R : Type 0} (known : R → Option (List ℕ)) (givens : List (GivenLog R)) (kept : Left) (choice : Choice) (m : ℕ) (ls : List Later) (asked : Bool) (old new : ChangeRecord B) (since : told.Since A) : Type 0 where
+pub record AreGoing {A B R : Type 0} (known : R → Option (List ℕ)) (givens : List (GivenLog R)) (kept : Left) (choice : Choice) (m : ℕ) (ls : List Later) (asked : Bool) (old new : Tracked B) (since : told.Since A) : Type 0 where
   pub logs : List NamedLog
   pub read : AreRead known givens logs
   pub seen : AreSeen (m + touches kept (map whole_log logs)) choice (ls ++ map whole_log logs) since
   pub recorded : Records asked kept old new (map whole_log logs)
 
-pub none-gone : {A B R : Type 0} (known : R → Option (List ℕ)) (kept : Left) (choice : Choice) (m : ℕ) (ls : List Later) (asked : Bool) (old : ChangeRecord B) (since : told.Since A) → AreSeen m choice ls since
+pub none-gone : {A B R : Type 0} (known : R → Option (List ℕ)) (kept : Left) (choice : Choice) (m : ℕ) (ls : List Later) (asked : Bool) (old : Tracked B) (since : told.Since A) → AreSeen m choice ls since
     → AreGoing known [] kept choice m ls asked old old since
 none-gone known kept choice m ls asked old since are =
     let none : m ≡ m + 0 = omega arith in record {
@@ -80,7 +68,7 @@ none-gone known kept choice m ls asked old since are =
       recorded = records-none asked kept old;
     }
 
-pub goes-on : (A : Type 0) {B R : Type 0} (known : R → Option (List ℕ)) (givens : List (GivenLog R)) (given : GivenLog R) (n : ℕ) (kept : Left) (choice : Choice) (m : ℕ) (ls : List Later) (asked : Bool) (none had has : ChangeRecord B) (old new : told.Since A)
+pub goes-on : (A : Type 0) {B R : Type 0} (known : R → Option (List ℕ)) (givens : List (GivenLog R)) (given : GivenLog R) (n : ℕ) (kept : Left) (choice : Choice) (m : ℕ) (ls : List Later) (asked : Bool) (none had has : Tracked B) (old new : told.Since A)
     → (g : AreGoing known givens kept choice m ls asked none had old) → LooksInto {A = A} known n given kept choice (m + touches kept (map whole_log g.logs)) (ls ++ map whole_log g.logs) (Records asked kept had has) (Ok new)
     → AreGoing known (givens ++ given ∷ []) kept choice m ls asked none has new
 goes-on A known givens given n kept choice m ls asked none had has old new g (log, is, are, more_recorded) =
@@ -97,7 +85,7 @@ goes-on A known givens given n kept choice m ls asked none had has old new g (lo
       recorded = subst (λ (ks : List Later). Records asked kept none has ks) (sym all) (records-more asked kept none had has (map whole_log g.logs) (whole_log log ∷ []) g.recorded more_recorded);
     }
 
-pub all-gone : (A : Type 0) {B R : Type 0} (known : R → Option (List ℕ)) (givens all : List (GivenLog R)) (kept : Left) (choice : Choice) (m : ℕ) (ls : List Later) (asked : Bool) (old new : ChangeRecord B) (since : told.Since A) → givens ≡ all
+pub all-gone : (A : Type 0) {B R : Type 0} (known : R → Option (List ℕ)) (givens all : List (GivenLog R)) (kept : Left) (choice : Choice) (m : ℕ) (ls : List Later) (asked : Bool) (old new : Tracked B) (since : told.Since A) → givens ≡ all
     → AreGoing known givens kept choice m ls asked old new since → LooksOn {A = A} known all kept choice m ls (Records asked kept old new) (Ok since)
 all-gone A known givens all kept choice m ls asked old new since is g = (g.logs, subst (λ (gs : List (GivenLog _)). AreRead known gs g.logs) is g.read, g.seen, g.recorded)
 

@@ -13,3 +13,4 @@ mod Names
 mod PartLog
 mod Recorded
 mod Stages
+mod Tracking

@@ -24,7 +24,7 @@ use Rattle.blog_undo.specs.Mixed.{Marked, TableRow}
 use Rattle.blog_untouched.proofs.PartsBy.{part-undoable}
 use Rattle.blog_untouched.specs.ByPrints.{is_left_alone_by, part_by}
 use Rattle.blog_untouched.specs.Recorded.{marks_in}
-use Rattle.list_run.specs.Listed.{AreRead, NamedLog}
+use Rattle.list_run.specs.Listed.{NamedLog}
 use Rattle.list_run.specs.declared.given.GivenLog.{GivenLog}
 use Rattle.undo_run.specs.After.{is_damaged, unknown_units}
 use Rattle.undo_run.specs.Leaving.{AreUnknown, are_all, are_some, marks_undone, mixed, part_undone}
@@ -32,7 +32,7 @@ use Rattle.undo_run.specs.Merging.{IsKnown, IsMergedLog, pairs_left, plan_merged
 use Rattle.undo_run.specs.Reports.{Since, report}
 use Rattle.undo_run.specs.Several.{Names}
 use Rattle.undo_run.specs.Taken.{Taken, after, since_told, steps_after, tables_taken}
-use Rattle.undo_run.specs.code.Leaves.{AreRecorded, LeavesRows, RecordsAfter}
+use Rattle.undo_run.specs.code.Leaves.{AreRecorded, KeepsPairs, LeavesRows, RecordsAfter}
 use Rattle.undo_run.specs.code.Merges.{HasMerging, IsUnmerged, MergesAfter, MergesOut, WritesMerged, merging_told}
 use Rattle.undo_run.specs.code.SinceView.{AreSeen, since_seen}
 use Rattle.undo_run.specs.code.Steps.{WritesGroups, WritesIndex, report_told}
@@ -65,9 +65,9 @@ pub none-selected-left : (t : Taken) (logs : List NamedLog) → are_all (marks_u
 none-selected-left t logs every = none-outside print_of (mixed t logs) every
 
 -- pairs of what isn't undone, by its marks
-pub pairs-by-marks : (t : Taken) (logs : List NamedLog) (marks : List Bool) (ms : List Marked) → marks ≡ marks_undone t logs → mixed t logs ≡ ms → pairs_of (outside_by marks ms) ≡ pairs_left t logs
-pairs-by-marks t logs marks ms same are =
-    (λ i. pairs_of (outside_by (same i) (sym are i))) ∙ ap pairs_of (outside_part (mixed t logs) (part_undone t logs) (part-undoable print_of (mixed t logs)).within)
+pub pairs-by-marks : (t : Taken) (logs : List NamedLog) (marks : List Bool) → marks ≡ marks_undone t logs → pairs_of (outside_by marks (mixed t logs)) ≡ pairs_left t logs
+pairs-by-marks t logs marks same =
+    ap (λ (bs : List Bool). pairs_of (outside_by bs (mixed t logs))) same ∙ ap pairs_of (outside_part (mixed t logs) (part_undone t logs) (part-undoable print_of (mixed t logs)).within)
 
 -- ---- what is merged
 
@@ -115,35 +115,35 @@ is-known t logs recorded are known whole = record {
   whole = sym are.seen.damaged ∙ whole;
 }
 
-pub not-known : {A R : Type 0} (known : R → Option (List ℕ)) (givens : List (GivenLog R)) (t : Taken) (recorded : Recorded A) (lines : Vec ℕ A) → RecordsAfter known givens t (Ok recorded) → (0 < recorded.since.unknown) ⊎ (recorded.since.is_damaged ≡ true)
+pub not-known : {A R : Type 0} (known : R → Option (List ℕ)) (givens : List (GivenLog R)) (t : Taken) (recorded : Recorded A) (lines : Vec ℕ A) → RecordsAfter known givens t true (Ok recorded) → (0 < recorded.since.unknown) ⊎ (recorded.since.is_damaged ≡ true)
     → MergesAfter {A = A} known givens t (Err (UnknownSince lines))
-not-known known givens t recorded lines (logs, read, are) is = (logs, read, unknown-left t logs recorded are is)
+not-known known givens t recorded lines (on, (logs, read, are)) is = (logs, read, unknown-left t logs recorded are is)
 
 pub all-merged : {A R : Type 0} (known : R → Option (List ℕ)) (givens : List (GivenLog R)) (t : Taken) (recorded : Recorded A) (merging : Option (Merging A)) → recorded.since.unknown ≡ 0 → recorded.since.is_damaged ≡ false
-    → RecordsAfter known givens t (Ok recorded) → ((logs : List NamedLog) → AreRead known givens logs → AreRecorded t logs recorded → MergesOut t logs recorded.since.touched (Ok merging))
+    → RecordsAfter known givens t true (Ok recorded) → ((logs : List NamedLog) → AreRecorded t logs recorded → KeepsPairs t logs recorded.tracked.followed → MergesOut t logs recorded.since.touched (Ok merging))
     → MergesAfter known givens t (Ok (record { since = recorded.since; merging = merging }))
-all-merged known givens t recorded merging clear whole (logs, read, are) merges =
-    (logs, read, (is-known t logs recorded are clear whole, told-since t logs (touches_among (steps_after t logs)) (tables_taken t) recorded.since refl are.seen, merges logs read are))
+all-merged known givens t recorded merging clear whole (on, (logs, read, are)) merges =
+    (logs, read, (is-known t logs recorded are clear whole, told-since t logs (touches_among (steps_after t logs)) (tables_taken t) recorded.since refl are.seen, merges logs are (are.pairs on)))
 
 pub none-merged : {A R : Type 0} (known : R → Option (List ℕ)) (givens : List (GivenLog R)) (t : Taken) (recorded : Recorded A) (cause : PartFault A) → recorded.since.unknown ≡ 0 → recorded.since.is_damaged ≡ false
-    → RecordsAfter known givens t (Ok recorded) → ((logs : List NamedLog) → AreRead known givens logs → AreRecorded t logs recorded → MergesOut t logs recorded.since.touched (Err cause)) → MergesAfter {A = A} known givens t (Err cause)
-none-merged known givens t recorded (ChangedSince rows lines) clear whole (logs, read, are) merges = let (is, none) = merges logs read are in (logs, read, (is ∙ are.seen.touched, none))
-none-merged known givens t recorded (UnknownSince lines) clear whole (logs, read, are) merges = absurd (merges logs read are)
-none-merged known givens t recorded TooLong clear whole (logs, read, are) merges = (logs, read, (is-known t logs recorded are clear whole, merges logs read are))
-none-merged known givens t recorded (Run (run.Log f)) clear whole (logs, read, are) merges = merges logs read are
-none-merged known givens t recorded (Run run.Read) clear whole (logs, read, are) merges = absurd (merges logs read are)
-none-merged known givens t recorded (Run run.Write) clear whole (logs, read, are) merges = absurd (merges logs read are)
-none-merged known givens t recorded (Sums f) clear whole (logs, read, are) merges = absurd (merges logs read are)
-none-merged known givens t recorded (NoEventAt pos) clear whole (logs, read, are) merges = absurd (merges logs read are)
-none-merged known givens t recorded (NoUnitAt place) clear whole (logs, read, are) merges = absurd (merges logs read are)
-none-merged known givens t recorded (NoUnitWithGtid gtid) clear whole (logs, read, are) merges = absurd (merges logs read are)
-none-merged known givens t recorded (Log f) clear whole (logs, read, are) merges = absurd (merges logs read are)
-none-merged known givens t recorded (LaterLog n f) clear whole (logs, read, are) merges = absurd (merges logs read are)
-none-merged known givens t recorded (NoSchema text) clear whole (logs, read, are) merges = absurd (merges logs read are)
-none-merged known givens t recorded (Unmerged lines) clear whole (logs, read, are) merges = (logs, read, (is-known t logs recorded are clear whole, merges logs read are))
-none-merged known givens t recorded NothingSelected clear whole (logs, read, are) merges = absurd (merges logs read are)
+    → RecordsAfter known givens t true (Ok recorded) → ((logs : List NamedLog) → AreRecorded t logs recorded → KeepsPairs t logs recorded.tracked.followed → MergesOut t logs recorded.since.touched (Err cause)) → MergesAfter {A = A} known givens t (Err cause)
+none-merged known givens t recorded (ChangedSince rows lines) clear whole (on, (logs, read, are)) merges = let (is, none) = merges logs are (are.pairs on) in (logs, read, (is ∙ are.seen.touched, none))
+none-merged known givens t recorded (UnknownSince lines) clear whole (on, (logs, read, are)) merges = absurd (merges logs are (are.pairs on))
+none-merged known givens t recorded TooLong clear whole (on, (logs, read, are)) merges = (logs, read, (is-known t logs recorded are clear whole, merges logs are (are.pairs on)))
+none-merged known givens t recorded (Run (run.Log f)) clear whole (on, (logs, read, are)) merges = merges logs are (are.pairs on)
+none-merged known givens t recorded (Run run.Read) clear whole (on, (logs, read, are)) merges = absurd (merges logs are (are.pairs on))
+none-merged known givens t recorded (Run run.Write) clear whole (on, (logs, read, are)) merges = absurd (merges logs are (are.pairs on))
+none-merged known givens t recorded (Sums f) clear whole (on, (logs, read, are)) merges = absurd (merges logs are (are.pairs on))
+none-merged known givens t recorded (NoEventAt pos) clear whole (on, (logs, read, are)) merges = absurd (merges logs are (are.pairs on))
+none-merged known givens t recorded (NoUnitAt place) clear whole (on, (logs, read, are)) merges = absurd (merges logs are (are.pairs on))
+none-merged known givens t recorded (NoUnitWithGtid gtid) clear whole (on, (logs, read, are)) merges = absurd (merges logs are (are.pairs on))
+none-merged known givens t recorded (Log f) clear whole (on, (logs, read, are)) merges = absurd (merges logs are (are.pairs on))
+none-merged known givens t recorded (LaterLog n f) clear whole (on, (logs, read, are)) merges = absurd (merges logs are (are.pairs on))
+none-merged known givens t recorded (NoSchema text) clear whole (on, (logs, read, are)) merges = absurd (merges logs are (are.pairs on))
+none-merged known givens t recorded (Unmerged lines) clear whole (on, (logs, read, are)) merges = (logs, read, (is-known t logs recorded are clear whole, merges logs are (are.pairs on)))
+none-merged known givens t recorded NothingSelected clear whole (on, (logs, read, are)) merges = absurd (merges logs are (are.pairs on))
 
-pub not-recorded-merged : {A R : Type 0} (known : R → Option (List ℕ)) (givens : List (GivenLog R)) (t : Taken) (cause : PartFault A) → RecordsAfter {A = A} known givens t (Err cause) → MergesAfter {A = A} known givens t (Err cause)
+pub not-recorded-merged : {A R : Type 0} (known : R → Option (List ℕ)) (givens : List (GivenLog R)) (t : Taken) (cause : PartFault A) → RecordsAfter {A = A} known givens t true (Err cause) → MergesAfter {A = A} known givens t (Err cause)
 not-recorded-merged known givens t (LaterLog n f) fails = fails
 not-recorded-merged known givens t (Run (run.Log f)) is = is
 not-recorded-merged known givens t (Run run.Read) none = absurd none
@@ -159,12 +159,6 @@ not-recorded-merged known givens t TooLong none = absurd none
 not-recorded-merged known givens t (NoSchema text) none = absurd none
 not-recorded-merged known givens t (Unmerged lines) none = absurd none
 not-recorded-merged known givens t NothingSelected none = absurd none
-
--- without later logs, none was read
-pub none-read : {R : Type 0} (known : R → Option (List ℕ)) (givens : List (GivenLog R)) (logs : List NamedLog) → length givens ≡ 0 → AreRead known givens logs → logs ≡ []
-none-read known [] [] none read = refl
-none-read known [] (log ∷ logs) none read = absurd read
-none-read known (given ∷ givens) logs none read = absurd (omega (arith, none))
 
 -- ---- writing
 

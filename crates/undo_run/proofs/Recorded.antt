@@ -1,9 +1,10 @@
 -- What is recorded of chosen units and of what came after them.
-use Rattle.std.proofs.Common.{◌≡◌, ℕ, ◌+◌, ◌≤◌, List, [], ◌∷◌, ◌++◌, length, map, take, true, Ok, Err, Result, Option, refl, sym, ap, ap₂, subst, ◌∙◌, arith}
+use Rattle.std.proofs.Common.{◌≡◌, ℕ, ◌+◌, ◌≤◌, List, [], ◌∷◌, ◌++◌, length, map, take, Bool, true, Ok, Err, Result, Option, refl, sym, ap, ap₂, subst, ◌∙◌, arith}
 use Rattle.std.specs.Prelude.{nat_eq}
 use Rattle.std.specs.List.{flat_map, list_any}
 use Rattle.std.proofs.lemmas.List.{take_all}
 use Rattle.blog_choice.specs.Choice.{Choice}
+use Rattle.blog_followed.specs.Following.{others_in}
 use Rattle.blog_device.specs.declared.fault.RunFault.TheVariants as run
 use Rattle.blog_later.specs.Among.{Step, Other, marked_in, selected_in, touches_among}
 use Rattle.blog_later.specs.Later.{changes_in}
@@ -12,7 +13,6 @@ use Rattle.blog_trans.specs.Changes.{Change}
 use Rattle.blog_untouched.proofs.OfSteps.{others-rows, others-taken, same-rows, steps-recorded}
 use Rattle.blog_untouched.specs.Recorded.{IsRecorded}
 use Rattle.blog_untouched.specs.Steps.{rows_in, taken_in, taken_of}
-use Rattle.blog_untouched.specs.declared.record.ChangeRecord.{ChangeRecord}
 use Rattle.blog_untouched.specs.declared.rows.SelectedRow.{SelectedRow}
 use Rattle.blog_untouched.specs.declared.rows.TakenRow.{TakenRow}
 use Rattle.list_run.specs.Listed.{NamedLog}
@@ -25,7 +25,10 @@ use Rattle.undo_run.specs.code.Steps.{CountsOn, LooksOn}
 use Rattle.undo_run.specs.declared.fault.PartFault.{PartFault}
 use Rattle.undo_run.specs.declared.fault.PartFault.TheVariants.{Run, Sums, NoEventAt, NoUnitAt, NoUnitWithGtid, Log, NothingSelected, LaterLog, ChangedSince, UnknownSince, Unmerged, TooLong, NoSchema}
 use Rattle.undo_run.specs.declared.untouched.Recorded.{Recorded as RecordedAfter}
+use Rattle.undo_run.specs.code.Tracks.{HasFollowed}
+use Rattle.undo_run.specs.declared.tracked.Tracked.{Tracked}
 use Rattle.undo_run.proofs.Counted.{selected-later}
+use Rattle.undo_run.proofs.Tracking.{keeps-pairs, left-has}
 
 -- later logs are other steps
 abbrev changes_of : Later → List Change
@@ -68,39 +71,46 @@ is-recorded lefts lists ss ls rows taken same enough rows_are taken_are =
     (subst (λ (rs : List SelectedRow). IsRecorded print_of (marked_in steps) rs taken) (sym rows_of_steps)
     (subst (λ (ts : List TakenRow). IsRecorded print_of (marked_in steps) (rows_in steps) ts) (sym taken_of_steps) (steps-recorded prints steps kept)))
 
-pub all-recorded : {A R : Type 0} (known : R → Option (List ℕ)) (givens : List (GivenLog R)) (t : Taken) (lefts : ℕ → Left) (lists : ℕ) (choice : Choice) (m : ℕ) (first : ChangeRecord A) (recorded : RecordedAfter A)
+pub all-recorded : {A R : Type 0} (known : R → Option (List ℕ)) (givens : List (GivenLog R)) (t : Taken) (lefts : ℕ → Left) (lists : ℕ) (choice : Choice) (m : ℕ) (cs : List Change) (follows : Bool) (first : Tracked A) (recorded : RecordedAfter A)
     → choice ≡ tables_taken t → CountsOn (lefts lists) m t.steps → ((k : ℕ) → AreKept (left_by k (selected_in t.steps)) (lefts k)) → length (selected_in t.steps) ≤ lists
-    → first.rows.items ≡ rows_in t.steps → first.taken.items ≡ taken_in (λ k. (lefts k).rows) 0 0 t.steps
-    → LooksOn {A = A} known givens (lefts lists) choice m (t.rest ∷ []) (Records true (lefts lists) first recorded.record) (Ok recorded.since) → RecordsAfter known givens t (Ok recorded)
-all-recorded known givens t lefts lists choice m first recorded named counts same enough rows taken (logs, read, seen, also) =
+    → first.record.rows.items ≡ rows_in t.steps → first.record.taken.items ≡ taken_in (λ k. (lefts k).rows) 0 0 t.steps → cs ≡ others_in t.steps → first.follows ≡ follows → (follows ≡ true → HasFollowed (lefts lists).rows cs first.followed)
+    → LooksOn {A = A} known givens (lefts lists) choice m (t.rest ∷ []) (Records true (lefts lists) first recorded.tracked) (Ok recorded.since) → RecordsAfter known givens t follows (Ok recorded)
+all-recorded known givens t lefts lists choice m cs follows first recorded named counts same enough rows taken others asked followed (logs, read, seen, also) =
     let ls = map whole_log logs in
-    let (next_rows, next_taken) = also refl in
-    let rows_are = next_rows ∙ rows in
-    let taken_are : recorded.record.taken.items ≡ taken_in (λ k. (lefts k).rows) 0 0 t.steps ++ taken_of (length recorded.record.rows.items) (lefts lists).rows (later_changes ls) =
-    next_taken ∙ ap₂ (λ (ts : List TakenRow) (rs : List SelectedRow). ts ++ taken_of (length rs) (lefts lists).rows (later_changes ls)) taken (sym next_rows) in (
-      logs,
-      read,
-      record {
-        seen = subst (λ (n : ℕ). AreSeen n (tables_taken t) (after t logs) recorded.since) (counts ls)
-            (subst (λ (c : Choice). AreSeen (m + touches (lefts lists) ls) c (after t logs) recorded.since) named seen);
-        changes = is-recorded lefts lists t.steps ls recorded.record.rows.items recorded.record.taken.items same enough rows_are taken_are;
-      },
+    let tracks = also refl in
+    let rows_are = tracks.rows ∙ rows in
+    let taken_are : recorded.tracked.record.taken.items ≡ taken_in (λ k. (lefts k).rows) 0 0 t.steps ++ taken_of (length recorded.tracked.record.rows.items) (lefts lists).rows (later_changes ls) =
+    tracks.taken ∙ ap₂ (λ (ts : List TakenRow) (rs : List SelectedRow). ts ++ taken_of (length rs) (lefts lists).rows (later_changes ls)) taken (sym tracks.rows) in
+    let has = left-has (selected_in t.steps) lists (lefts lists).rows enough (same lists).0 in (
+      tracks.follows ∙ asked,
+      (
+        logs,
+        read,
+        record {
+          seen = subst (λ (n : ℕ). AreSeen n (tables_taken t) (after t logs) recorded.since) (counts ls)
+              (subst (λ (c : Choice). AreSeen (m + touches (lefts lists) ls) c (after t logs) recorded.since) named seen);
+          changes = is-recorded lefts lists t.steps ls recorded.tracked.record.rows.items recorded.tracked.record.taken.items same enough rows_are taken_are;
+          pairs = λ on marks.
+              let first_on = sym tracks.follows ∙ on in
+              keeps-pairs (lefts lists).rows cs t.steps ls first.followed recorded.tracked.followed marks has others (followed (sym asked ∙ first_on)) (tracks.followed first_on);
+        },
+      ),
     )
 
-pub not-recorded : {A R : Type 0} (known : R → Option (List ℕ)) (givens : List (GivenLog R)) (t : Taken) (kept : Left) (choice : Choice) (m : ℕ) (ls : List Later) (Also : List Later → Type 0) (cause : PartFault A)
-    → LooksOn known givens kept choice m ls Also (Err cause) → RecordsAfter known givens t (Err cause)
-not-recorded known givens t kept choice m ls Also (LaterLog n f) fails = fails
-not-recorded known givens t kept choice m ls Also (Run (run.Log f)) is = is
-not-recorded known givens t kept choice m ls Also (Run run.Read) none = absurd none
-not-recorded known givens t kept choice m ls Also (Run run.Write) none = absurd none
-not-recorded known givens t kept choice m ls Also (Sums f) none = absurd none
-not-recorded known givens t kept choice m ls Also (NoEventAt pos) none = absurd none
-not-recorded known givens t kept choice m ls Also (NoUnitAt place) none = absurd none
-not-recorded known givens t kept choice m ls Also (NoUnitWithGtid gtid) none = absurd none
-not-recorded known givens t kept choice m ls Also (Log f) none = absurd none
-not-recorded known givens t kept choice m ls Also NothingSelected none = absurd none
-not-recorded known givens t kept choice m ls Also (ChangedSince rows lines) none = absurd none
-not-recorded known givens t kept choice m ls Also (UnknownSince lines) none = absurd none
-not-recorded known givens t kept choice m ls Also TooLong none = absurd none
-not-recorded known givens t kept choice m ls Also (NoSchema text) none = absurd none
-not-recorded known givens t kept choice m ls Also (Unmerged lines) none = absurd none
+pub not-recorded : {A R : Type 0} (known : R → Option (List ℕ)) (givens : List (GivenLog R)) (t : Taken) (kept : Left) (choice : Choice) (m : ℕ) (ls : List Later) (Also : List Later → Type 0) (follows : Bool) (cause : PartFault A)
+    → LooksOn known givens kept choice m ls Also (Err cause) → RecordsAfter known givens t follows (Err cause)
+not-recorded known givens t kept choice m ls Also follows (LaterLog n f) fails = fails
+not-recorded known givens t kept choice m ls Also follows (Run (run.Log f)) is = is
+not-recorded known givens t kept choice m ls Also follows (Run run.Read) none = absurd none
+not-recorded known givens t kept choice m ls Also follows (Run run.Write) none = absurd none
+not-recorded known givens t kept choice m ls Also follows (Sums f) none = absurd none
+not-recorded known givens t kept choice m ls Also follows (NoEventAt pos) none = absurd none
+not-recorded known givens t kept choice m ls Also follows (NoUnitAt place) none = absurd none
+not-recorded known givens t kept choice m ls Also follows (NoUnitWithGtid gtid) none = absurd none
+not-recorded known givens t kept choice m ls Also follows (Log f) none = absurd none
+not-recorded known givens t kept choice m ls Also follows NothingSelected none = absurd none
+not-recorded known givens t kept choice m ls Also follows (ChangedSince rows lines) none = absurd none
+not-recorded known givens t kept choice m ls Also follows (UnknownSince lines) none = absurd none
+not-recorded known givens t kept choice m ls Also follows TooLong none = absurd none
+not-recorded known givens t kept choice m ls Also follows (NoSchema text) none = absurd none
+not-recorded known givens t kept choice m ls Also follows (Unmerged lines) none = absurd none

@@ -3,5 +3,6 @@ pub mod SinceView
 pub mod Steps
 pub mod Leaves
 pub mod Merges
+pub mod Tracks
 pub mod NamesView
 pub mod Reading

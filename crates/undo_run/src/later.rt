@@ -1,15 +1,13 @@
 //! Looking at what came after what is taken out of a log.
 
-ghost use Rattle.std.specs.Prelude.{◌≡◌, ◌∷◌, ◌++◌, ℕ, IfOk, List, OnOk, [], length, map, true};
+ghost use Rattle.std.specs.Prelude.{◌≡◌, ◌∷◌, ℕ, IfOk, List, [], map, true};
 ghost use Rattle.blog_choice.specs.code.ChosenView.{names_choice};
 ghost use Rattle.blog_event.specs.code.LogView.{log_bytes};
-ghost use Rattle.blog_later.specs.Later.{changes_in, later_units};
 ghost use Rattle.blog_later.specs.code.LeavingView.{HasLeft};
 ghost use Rattle.blog_later.specs.code.LookedView.{left_before};
 ghost use Rattle.blog_source.specs.code.SourceView.{end_of, fault_of, log_of};
 ghost use Rattle.blog_trans.specs.Selection.{all, selection_of};
 ghost use Rattle.blog_trans.specs.code.IndexView.{index_bytes, index_selection};
-ghost use Rattle.blog_untouched.specs.Steps.{taken_of};
 ghost use Rattle.undo_run.specs.After.{Later};
 ghost use Rattle.undo_run.specs.Parts.{part_taken, selection_in, stop_in};
 ghost use Rattle.undo_run.specs.Taken.{Taken, tables_taken};
@@ -27,16 +25,16 @@ use crate::request::Among;
 use crate::seen::{look_between, look_on};
 use crate::since::Since;
 use crate::tables::tables_named;
+use crate::tracked::{Tracked, track_if, untracked};
 use blog_choice::{ChosenNames, TableChoice};
 use blog_device::RunFault;
 use blog_event::Log;
 use blog_later::{Leaving, LeftRows};
 use blog_source::Source;
 use blog_trans::{Index, Selection};
-use blog_untouched::ChangeRecord;
 use jiff::tz::TimeZone;
 use list_run::GivenLog;
-use std::alloc::{AllocError, Allocator};
+use std::alloc::Allocator;
 use std::io::Read;
 
 /// Where the stop of a part is in what is handed out, or its end.
@@ -49,28 +47,8 @@ fn stop_in<A: Allocator>(source: &Source<A>, part: &Selection<'_>) -> u32
     }
 }
 
-/// Adds the rows that a later log takes to a record, if that is asked for.
-fn record_if<A: Allocator + Copy>(
-    alloc: A,
-    record: &mut ChangeRecord<A>,
-    asked: bool,
-    left: &LeftRows<A>,
-    lists: u32,
-    log: &Log<'_>,
-) -> Result<(), AllocError>
-    ensures rows { asked ≡ true → OnOk result (record.new.rows.items ≡ record.old.rows.items) }
-    ensures taken { asked ≡ true → OnOk result (record.new.taken.items ≡ record.old.taken.items
-        ++ taken_of (length record.old.rows.items) (left_before left.now lists).rows (changes_in (log_bytes log.now) (later_units (log_bytes log.now) 0))) }
-{
-    if asked {
-        record.add_later(alloc, left, lists, log, 0)
-    } else {
-        Ok(())
-    }
-}
-
-/// Reads a later log when its turn comes, looks at all of it, and returns what was seen so far. `records` says whether the rows that it takes are added
-/// to a record.
+/// Reads a later log when its turn comes, looks at all of it, and returns what was seen so far. `records` says whether the rows that it takes are
+/// recorded; those that were left are then of all lists.
 fn look_into<'n, A: Allocator + Copy, L: Read + Drop>(
     alloc: A,
     n: usize,
@@ -78,14 +56,15 @@ fn look_into<'n, A: Allocator + Copy, L: Read + Drop>(
     seed: u64,
     since: &Since<'n, A>,
     lines: &mut Lines<'_, A>,
-    record: &mut ChangeRecord<A>,
+    tracked: &mut Tracked<A>,
     records: bool,
     left: &LeftRows<A>,
     lists: u32,
     names: &ChosenNames<'_, A>,
 ) -> Result<Since<'n, A>, PartFault<A>>
+    requires { records ≡ true → lists ≡ 4294967295 }
     ensures { (m : ℕ) → (ls : List Later) → AreSeen m (names_choice names.now) ls since.now
-        → LooksInto L.remaining n given.entry (left_before left.now lists) (names_choice names.now) m ls (Records records (left_before left.now lists) record.old record.new) result }
+        → LooksInto L.remaining n given.entry (left_before left.now lists) (names_choice names.now) m ls (Records records (left_before left.now lists) tracked.old tracked.new) result }
 {
     let mut given = given;
     let source = match open_log(alloc, &mut given.reader, None) {
@@ -96,7 +75,7 @@ fn look_into<'n, A: Allocator + Copy, L: Read + Drop>(
         Ok(log) => log.with_seed(seed),
         Err(fault) => return Err(PartFault::Run(RunFault::Log(fault))),
     };
-    record_if(alloc, record, records, left, lists, &log)?;
+    track_if(alloc, tracked, records, left, &log)?;
     let logs = Names::one(alloc, given.name.as_bytes());
     Ok(look_on(
         alloc, since, lines, &logs, &source, &log, 0, left, lists, names,
@@ -104,27 +83,28 @@ fn look_into<'n, A: Allocator + Copy, L: Read + Drop>(
 }
 
 /// Looks at later logs, each of which is read when its turn comes, and returns what was seen of all. `records` says whether the rows that they take are
-/// added to a record.
+/// recorded; those that were left are then of all lists.
 pub(crate) fn look_into_all<'n, A: Allocator + Copy, L: Read + Drop>(
     alloc: A,
     later: Vec<GivenLog<'n, L>, A>,
     seed: u64,
     since: Since<'n, A>,
     lines: &mut Lines<'_, A>,
-    record: &mut ChangeRecord<A>,
+    tracked: &mut Tracked<A>,
     records: bool,
     left: &LeftRows<A>,
     lists: u32,
     names: &ChosenNames<'_, A>,
 ) -> Result<Since<'n, A>, PartFault<A>>
+    requires { records ≡ true → lists ≡ 4294967295 }
     ensures { (m : ℕ) → (ls : List Later) → AreSeen m (names_choice names.now) ls since.entry
-        → LooksOn L.remaining later.entry.items (left_before left.now lists) (names_choice names.now) m ls (Records records (left_before left.now lists) record.old record.new) result }
+        → LooksOn L.remaining later.entry.items (left_before left.now lists) (names_choice names.now) m ls (Records records (left_before left.now lists) tracked.old tracked.new) result }
 {
     let mut since = since;
     let mut n = 0usize;
     'logs: for given in later {
         match look_into(
-            alloc, n, given, seed, &since, lines, record, records, left, lists, names,
+            alloc, n, given, seed, &since, lines, tracked, records, left, lists, names,
         ) {
             Ok(with) => since = with,
             Err(fault) => return Err(fault),
@@ -167,14 +147,14 @@ fn look_further<'n, A: Allocator + Copy, L: Read + Drop>(
     ensures { (t : Taken) → (m : ℕ) → names_choice names.now ≡ tables_taken t → AreSeen m (names_choice names.now) (t.rest ∷ []) rest.entry → CountsOn (left_before left.now lists) m t.steps
         → LooksAt L.remaining later.entry.items t result }
 {
-    let mut record = ChangeRecord::none(alloc);
+    let mut tracked = untracked(alloc);
     match look_into_all(
         alloc,
         later,
         seed,
         rest,
         lines,
-        &mut record,
+        &mut tracked,
         false,
         left,
         lists,

@@ -18,6 +18,7 @@ mod seen;
 mod several;
 mod since;
 mod tables;
+mod tracked;
 mod untouched;
 mod written_part;
 

@@ -7,6 +7,10 @@ ghost use Rattle.blog_later.specs.Among.{from_first, marked_in};
 ghost use Rattle.blog_later.specs.Later.{later_units};
 ghost use Rattle.blog_later.specs.Prints.{print_of};
 ghost use Rattle.blog_later.specs.code.LeavingView.{HasLeft};
+ghost use Rattle.blog_differences.specs.Outside.{outside_by};
+ghost use Rattle.blog_followed.specs.code.FollowedView.{kept_told};
+ghost use Rattle.blog_merge.specs.Merge.{pairs_of};
+ghost use Rattle.blog_pairs.specs.Steps.{pairs_with};
 ghost use Rattle.blog_pairs.specs.code.TableView.{pairs_told};
 ghost use Rattle.blog_source.specs.code.SourceView.{end_of, fault_of, log_of};
 ghost use Rattle.blog_trans.specs.Acceptance.{IsAccepted};
@@ -21,6 +25,7 @@ ghost use Rattle.undo_run.specs.Merging.{pairs_left};
 ghost use Rattle.undo_run.specs.Reports.{merged_text, merged_words, staying_text, staying_words};
 ghost use Rattle.undo_run.specs.Taken.{Taken};
 ghost use Rattle.undo_run.specs.Units.{chosen_taken, chosen_units, kept_log, units_of_part};
+ghost use Rattle.undo_run.specs.code.Leaves.{KeepsPairs};
 ghost use Rattle.undo_run.specs.code.Merges.{IsUnmerged, MergesAfter, MergesOut};
 ghost use Rattle.undo_run.specs.code.NamesView.{names_told};
 ghost use Rattle.undo_run.specs.code.Steps.{chosen_by, chosen_changes};
@@ -30,17 +35,19 @@ use crate::lines::Lines;
 use crate::log_names::Names;
 use crate::request::Among;
 use crate::since::Since;
+use crate::tracked::Tracked;
 use crate::untouched::{Recorded, are_some, leave_rows, look_and_record, rows_left};
 use blog_device::RunFault;
 use blog_differences::pairs_among;
 use blog_event::{Fault, Log};
+use blog_followed::Followed;
 use blog_later::Leaving;
 use blog_merged::{MergeFault, MergedLog, merged_log, rows_merged, rows_staying};
 use blog_pairs::{PairFault, PairTable};
 use blog_source::Source;
 use blog_text::{put_number, put_text};
 use blog_trans::{Index, Selection};
-use blog_untouched::{ChangeRecord, kept_changes};
+use blog_untouched::kept_changes;
 use jiff::tz::TimeZone;
 use list_run::GivenLog;
 use std::alloc::{AllocError, Allocator};
@@ -65,7 +72,7 @@ pub(crate) struct SeenToMerge<'n, A: Allocator> {
 
 /// Looks at what came after the first chosen unit of the log of a source, as `look_after_units`. If it touches some changes of the chosen units, these
 /// are taken out of the rows as they are now. Fails if nothing is undone and no row updated, or if something may concern the changed tables, and can't
-/// be looked into. Rows that were changed since aren't merged if there are later logs.
+/// be looked into.
 pub(crate) fn look_and_merge<'n, A: Allocator + Copy, L: Read + Drop>(
     alloc: A,
     source: &Source<A>,
@@ -87,15 +94,15 @@ pub(crate) fn look_and_merge<'n, A: Allocator + Copy, L: Read + Drop>(
     requires left { HasLeft (chosen_changes (selection_of inside.now) (log_of source.now) (chosen_units (chosen_by among.now (selection_of inside.now) (log_of source.now)) (selection_of inside.now) (log_of source.now))) leaving }
     ensures { MergesAfter L.remaining later.entry.items (chosen_taken (names_told logs.now) (chosen_by among.now (selection_of inside.now) (log_of source.now)) (selection_of inside.now) (log_of source.now) (end_of source.now) (fault_of source.now)) result }
 {
-    let has_later = later.len() > 0;
     let mut lines = Lines::none(alloc, zone);
     let recorded = match look_and_record(
-        alloc, source, logs, log, inside, among, chosen, index, leaving, later, seed, &mut lines,
+        alloc, source, logs, log, inside, among, chosen, index, leaving, later, true, seed,
+        &mut lines,
     ) {
         Ok(recorded) => recorded,
         Err(fault) => return Err(fault),
     };
-    let Recorded { since, record } = recorded;
+    let Recorded { since, tracked } = recorded;
     if since.unknown > 0 || since.is_damaged {
         return Err(PartFault::UnknownSince(lines.text(alloc)?));
     }
@@ -105,8 +112,7 @@ pub(crate) fn look_and_merge<'n, A: Allocator + Copy, L: Read + Drop>(
         inside,
         chosen,
         index,
-        &record,
-        has_later,
+        &tracked,
         seed,
         &lines,
         since.touched,
@@ -123,31 +129,47 @@ fn merge_touched<A: Allocator + Copy>(
     inside: &Selection<'_>,
     chosen: &[bool],
     index: &Index<'_, '_, A>,
-    record: &ChangeRecord<A>,
-    has_later: bool,
+    tracked: &Tracked<A>,
     seed: u64,
     lines: &Lines<'_, A>,
     touched: u64,
 ) -> Result<Option<Merging<A>>, PartFault<A>>
     ensures { (t : Taken) → (logs : List NamedLog) → (p : Facts → Bool) → index_bytes index.now ≡ t.log → index_selection index.now ≡ all → chosen.now ≡ map p (later_units (log_bytes log.now) inside.now.start)
-        → (has_later ≡ false → mixed t logs ≡ marked_in (map (unit_step p (selection_of inside.now) (log_bytes log.now)) (from_first p (later_units (log_bytes log.now) inside.now.start))))
-        → IsRecorded print_of (mixed t logs) record.now.rows.items record.now.taken.items → MergesOut t logs touched result }
+        → t.steps ≡ map (unit_step p (selection_of inside.now) (log_bytes log.now)) (from_first p (later_units (log_bytes log.now) inside.now.start))
+        → IsRecorded print_of (mixed t logs) tracked.now.record.rows.items tracked.now.record.taken.items → KeepsPairs t logs tracked.now.followed → MergesOut t logs touched result }
 {
+    let record = &tracked.record;
     let kept = kept_changes(alloc, seed, &record.rows, &record.taken)?;
     let left = rows_left(&kept);
     if left == 0 {
         return Ok(None);
     }
-    if has_later {
-        return Err(unmerged(
-            alloc,
-            lines,
-            b"rows that were changed since can be merged if all logs are given as LOG, and none as --later\n",
-        ));
-    }
-    match pairs_among(alloc, log, inside.start, chosen, inside, &kept.marks) {
+    match pairs_with_later(alloc, log, inside, chosen, &kept.marks, &tracked.followed) {
         Ok(pairs) => merge_pairs(alloc, index, &kept.marks, &pairs, seed, lines, touched),
         Err(fault) => Err(unpaired(alloc, lines, fault)),
+    }
+}
+
+/// The pairs of rows as the units of a log and later logs left them, and as they would be. The changes of chosen units whose mark is true are undone by
+/// themselves, and `followed` has those changes of later logs that make a difference.
+fn pairs_with_later<A: Allocator + Copy>(
+    alloc: A,
+    log: &Log<'_>,
+    inside: &Selection<'_>,
+    chosen: &[bool],
+    marks: &[bool],
+    followed: &Followed<A>,
+) -> Result<PairTable<A>, PairFault>
+    ensures { (p : Facts → Bool) → chosen.now ≡ map p (later_units (log_bytes log.now) inside.now.start) → IfOk result (λ table. pairs_told table ≡ pairs_with false (kept_told followed.now)
+        (pairs_of (outside_by marks.now (marked_in (map (unit_step p (selection_of inside.now) (log_bytes log.now)) (from_first p (later_units (log_bytes log.now) inside.now.start))))))) }
+{
+    let mut pairs = match pairs_among(alloc, log, inside.start, chosen, inside, marks) {
+        Ok(pairs) => pairs,
+        Err(fault) => return Err(fault),
+    };
+    match followed.add_to(&mut pairs) {
+        Ok(()) => Ok(pairs),
+        Err(fault) => Err(fault),
     }
 }
 

@@ -27,6 +27,7 @@ use crate::request::Among;
 use crate::seen::look_between;
 use crate::since::Since;
 use crate::tables::tables_named;
+use crate::tracked::{Tracked, track_among};
 use blog_choice::{ChosenNames, TableChoice};
 use blog_device::RunFault;
 use blog_event::{Fault, Log};
@@ -41,11 +42,11 @@ use list_run::GivenLog;
 use std::alloc::{AllocError, Allocator};
 use std::io::Read;
 
-/// What was seen of what came after chosen units, and the rows of these and of what came after, by their fingerprints.
+/// What was seen of what came after chosen units, and the rows of these and of what came after.
 #[derive(Drop)]
 pub(crate) struct Recorded<'n, A: Allocator> {
     pub(crate) since: Since<'n, A>,
-    pub(crate) record: ChangeRecord<A>,
+    pub(crate) tracked: Tracked<A>,
 }
 
 /// What is left of chosen units, without the changes that were touched since.
@@ -66,7 +67,7 @@ pub(crate) struct Seen<'n, A: Allocator> {
 }
 
 /// Looks at what came after the first chosen unit of the log of a source, and records the changes of the chosen units, and the rows that others
-/// take. `lines` say where.
+/// take. `follows` says whether these rows are followed through the changes of others. `lines` say where.
 pub(crate) fn look_and_record<'n, A: Allocator + Copy, L: Read + Drop>(
     alloc: A,
     source: &Source<A>,
@@ -78,6 +79,7 @@ pub(crate) fn look_and_record<'n, A: Allocator + Copy, L: Read + Drop>(
     index: &Index<'_, '_, A>,
     leaving: Leaving<A>,
     later: Vec<GivenLog<'n, L>, A>,
+    follows: bool,
     seed: u64,
     lines: &mut Lines<'_, A>,
 ) -> Result<Recorded<'n, A>, PartFault<A>>
@@ -86,7 +88,7 @@ pub(crate) fn look_and_record<'n, A: Allocator + Copy, L: Read + Drop>(
     requires selection { index_selection index.now ≡ all }
     requires chosen { chosen.now ≡ map (chosen_by among.now (selection_of inside.now) (log_of source.now)) (units_of_part (selection_of inside.now) (log_of source.now)) }
     requires left { HasLeft (chosen_changes (selection_of inside.now) (log_of source.now) (chosen_units (chosen_by among.now (selection_of inside.now) (log_of source.now)) (selection_of inside.now) (log_of source.now))) leaving }
-    ensures { RecordsAfter L.remaining later.entry.items (chosen_taken (names_told logs.now) (chosen_by among.now (selection_of inside.now) (log_of source.now)) (selection_of inside.now) (log_of source.now) (end_of source.now) (fault_of source.now)) result }
+    ensures { RecordsAfter L.remaining later.entry.items (chosen_taken (names_told logs.now) (chosen_by among.now (selection_of inside.now) (log_of source.now)) (selection_of inside.now) (log_of source.now) (end_of source.now) (fault_of source.now)) follows result }
 {
     let tables = tables_named(alloc, index)?;
     let choice = TableChoice {
@@ -107,21 +109,20 @@ pub(crate) fn look_and_record<'n, A: Allocator + Copy, L: Read + Drop>(
         &left,
         &names,
     )?;
-    let mut record = ChangeRecord::none(alloc);
-    record.add_among(alloc, &left, chosen, inside, log, inside.start)?;
+    let mut tracked = track_among(alloc, follows, &left, chosen, inside, log)?;
     match look_into_all(
         alloc,
         later,
         seed,
         rest,
         lines,
-        &mut record,
+        &mut tracked,
         true,
         &left,
         u32::MAX,
         &names,
     ) {
-        Ok(since) => Ok(Recorded { since, record }),
+        Ok(since) => Ok(Recorded { since, tracked }),
         Err(fault) => Err(fault),
     }
 }
@@ -151,16 +152,17 @@ pub(crate) fn look_and_leave<'n, A: Allocator + Copy, L: Read + Drop>(
 {
     let mut lines = Lines::none(alloc, zone);
     let recorded = match look_and_record(
-        alloc, source, logs, log, inside, among, chosen, index, leaving, later, seed, &mut lines,
+        alloc, source, logs, log, inside, among, chosen, index, leaving, later, false, seed,
+        &mut lines,
     ) {
         Ok(recorded) => recorded,
         Err(fault) => return Err(fault),
     };
-    let Recorded { since, record } = recorded;
+    let Recorded { since, tracked } = recorded;
     if since.unknown > 0 || since.is_damaged {
         return Err(PartFault::UnknownSince(lines.text(alloc)?));
     }
-    match rest_of(alloc, index, &record, seed, &lines, since.touched) {
+    match rest_of(alloc, index, &tracked.record, seed, &lines, since.touched) {
         Ok(rest) => Ok(Seen { since, rest }),
         Err(fault) => Err(fault),
     }

@@ -72,8 +72,8 @@ use std::io::{Read, Write};
 ///
 /// If `asked` merges these rows, the same changes aren't written, and then each of these rows is updated to what it would be without the changes of the
 /// units: a column that only these changed gets its value from before them, and one that others changed keeps theirs. Rows that the units inserted stay.
-/// The report says how many rows are updated and how many stay. It fails with `ChangedSince` only if nothing is written, and with `Unmerged` if some
-/// rows were changed since and there are later logs, or their table had other columns then.
+/// The report says how many rows are updated and how many stay. It fails with `ChangedSince` only if nothing is written, and with `Unmerged` if a
+/// table of these rows had other columns when they were changed.
 ///
 /// Fails at the first of these that holds: with `Opening` if the reader fails, the first log is too long or can't be opened, or if memory is
 /// refused; with `Further` of the first further log that can't be opened, or read behind those before it; and else with `Part`: with `NoEventAt` if no

@@ -2,16 +2,19 @@
 use Rattle.std.specs.Prelude.{◌≡◌, ◌<◌, ⊤, ℕ, Bool, true, false, List, ◌++◌, length, Option, Some, None, Vec, Result, Ok, Err}
 use Rattle.blog_device.specs.declared.fault.RunFault.TheVariants as run
 use Rattle.blog_event.specs.declared.fault.Fault.TheVariants.{OutOfMemory}
-use Rattle.blog_later.specs.Among.{touches_among}
+use Rattle.blog_differences.specs.Outside.{outside_by}
+use Rattle.blog_followed.specs.code.FollowedView.{kept_told}
+use Rattle.blog_followed.specs.declared.followed.Followed.{Followed}
+use Rattle.blog_later.specs.Among.{marked_in, touches_among}
 use Rattle.blog_later.specs.Prints.{Left, print_of}
 use Rattle.blog_left_out.specs.LeftOut.{left_out_text}
 use Rattle.blog_left_out.specs.code.LeftOutView.{bytes_left}
 use Rattle.blog_left_out.specs.declared.left_out.LeftOut.{LeftOut}
+use Rattle.blog_merge.specs.Merge.{pairs_of}
+use Rattle.blog_pairs.specs.Steps.{pairs_with}
 use Rattle.blog_run.specs.declared.writing.Writing.{Writing}
 use Rattle.blog_trans.specs.Selection.{all}
 use Rattle.blog_untouched.specs.Recorded.{IsRecorded}
-use Rattle.blog_untouched.specs.Steps.{taken_of}
-use Rattle.blog_untouched.specs.declared.record.ChangeRecord.{ChangeRecord}
 use Rattle.list_run.specs.Listed.{NamedLog}
 use Rattle.list_run.specs.declared.given.GivenLog.{GivenLog}
 use Rattle.undo_run.specs.After.{Later, later_changes}
@@ -22,7 +25,9 @@ use Rattle.undo_run.specs.Taken.{FailsLater, OfLater, Taken, WritesBy, after, si
 use Rattle.undo_run.specs.code.SinceView.{AreSeen, since_seen}
 use Rattle.undo_run.specs.declared.fault.PartFault.{PartFault}
 use Rattle.undo_run.specs.declared.fault.PartFault.TheVariants.{Run, LaterLog, ChangedSince, UnknownSince, Unmerged, TooLong}
+use Rattle.undo_run.specs.code.Tracks.{Tracks}
 use Rattle.undo_run.specs.declared.since.Since as told
+use Rattle.undo_run.specs.declared.tracked.Tracked.{Tracked}
 use Rattle.undo_run.specs.declared.untouched.Recorded.{Recorded}
 use Rattle.undo_run.specs.declared.untouched.Rest.{Rest}
 use Rattle.undo_run.specs.declared.untouched.Seen.{Seen}
@@ -30,19 +35,24 @@ use Rattle.undo_run.specs.declared.untouched.Seen.{Seen}
 -- ---- recording
 
 -- the rows that later logs take of those with these fingerprints are recorded, where that is asked
-abbrev pub Records : {A : Type 0} → Bool → Left → ChangeRecord A → ChangeRecord A → List Later → Type 0
-Records asked kept old new ls = asked ≡ true → (new.rows.items ≡ old.rows.items) × (new.taken.items ≡ old.taken.items ++ taken_of (length old.rows.items) kept.rows (later_changes ls))
+abbrev pub Records : {A : Type 0} → Bool → Left → Tracked A → Tracked A → List Later → Type 0
+Records asked kept old new ls = asked ≡ true → Tracks kept.rows (later_changes ls) old new
 
--- all changes from the first selected one on are recorded, and this was seen
+-- the changes of later logs that are kept make the same pairs as all of them, after those of the log without what some marks say is undone
+abbrev pub KeepsPairs : {A : Type 0} → Taken → List NamedLog → Followed A → Type 0
+KeepsPairs t logs followed = (marks : List Bool) → pairs_with false (kept_told followed) (pairs_of (outside_by marks (marked_in t.steps))) ≡ pairs_of (outside_by marks (mixed t logs))
+
+-- all changes from the first selected one on are recorded, and rows followed through them, where they are; and this was seen
 pub record AreRecorded {A : Type 0} (t : Taken) (logs : List NamedLog) (recorded : Recorded A) : Type 0 where
   pub seen : AreSeen (touches_among (steps_after t logs)) (tables_taken t) (after t logs) recorded.since
-  pub changes : IsRecorded print_of (mixed t logs) recorded.record.rows.items recorded.record.taken.items
+  pub changes : IsRecorded print_of (mixed t logs) recorded.tracked.record.rows.items recorded.tracked.record.taken.items
+  pub pairs : recorded.tracked.follows ≡ true → KeepsPairs t logs recorded.tracked.followed
 
-abbrev pub RecordsAfter : {A R : Type 0} → (R → Option (List ℕ)) → List (GivenLog R) → Taken → Result (Recorded A) (PartFault A) → Type 0
-RecordsAfter known givens t (Ok recorded) = OfLater true known givens (λ logs. AreRecorded t logs recorded)
-RecordsAfter known givens t (Err (LaterLog n f)) = FailsLater known givens n f
-RecordsAfter known givens t (Err (Run (run.Log f))) = f ≡ OutOfMemory
-RecordsAfter known givens t (Err cause) = ⊥
+abbrev pub RecordsAfter : {A R : Type 0} → (R → Option (List ℕ)) → List (GivenLog R) → Taken → Bool → Result (Recorded A) (PartFault A) → Type 0
+RecordsAfter known givens t follows (Ok recorded) = (recorded.tracked.follows ≡ follows) × OfLater true known givens (λ logs. AreRecorded t logs recorded)
+RecordsAfter known givens t follows (Err (LaterLog n f)) = FailsLater known givens n f
+RecordsAfter known givens t follows (Err (Run (run.Log f))) = f ≡ OutOfMemory
+RecordsAfter known givens t follows (Err cause) = ⊥
 
 -- ---- leaving out
 

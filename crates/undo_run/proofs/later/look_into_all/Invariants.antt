@@ -13,5 +13,5 @@ invariant-logs g l = record {
   number : l.n ≡ length l.yielded;
   rest : l.yielded ++ into_iter_items l.given-iterator ≡ l.fn.later.items;
   left : length (into_iter_items l.given-iterator) ≡ into_iter_len l.given-iterator;
-  going : (m : ℕ) (ls : List Later) → AreSeen m (names_choice l.names) ls l.fn.since → AreGoing g.L.Read.remaining l.yielded (left_before l.left l.lists) (names_choice l.names) m ls l.records l.fn.record l.record l.since;
+  going : (m : ℕ) (ls : List Later) → AreSeen m (names_choice l.names) ls l.fn.since → AreGoing g.L.Read.remaining l.yielded (left_before l.left l.lists) (names_choice l.names) m ls l.records l.fn.tracked l.tracked l.since;
 }

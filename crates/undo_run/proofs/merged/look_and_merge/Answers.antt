@@ -1,20 +1,13 @@
-use Rattle.std.proofs.Common.{◌≡◌, ◌++◌, ◌∙◌, List, [], Bool, false, length, map, ap, subst, sym, refl, arith, append-nil}
-use Rattle.std.specs.Prelude.{nat_lt}
-use Rattle.blog_event.specs.code.LogView.{log_bytes}
-use Rattle.blog_later.specs.Among.{Step, from_first, marked_in}
+use Rattle.std.proofs.Common.{◌∙◌, List, map, ap, sym, arith}
+use Rattle.blog_later.specs.Among.{from_first}
 use Rattle.blog_later.specs.Later.{later_units}
 use Rattle.blog_source.specs.code.SourceView.{end_of, fault_of, log_of}
 use Rattle.blog_trans.specs.Selection.{selection_of}
-use Rattle.blog_units.specs.Units.{Facts}
 use Rattle.blog_untouched.specs.Steps.{unit_step}
-use Rattle.list_run.specs.Listed.{AreRead, NamedLog}
-use Rattle.undo_run.specs.After.{later_step}
-use Rattle.undo_run.specs.Leaving.{mixed}
-use Rattle.undo_run.specs.Taken.{whole_log}
 use Rattle.undo_run.specs.Units.{chosen_taken}
 use Rattle.undo_run.specs.code.NamesView.{names_told}
 use Rattle.undo_run.specs.code.Steps.{chosen_by}
-use Rattle.undo_run.proofs.Merging.{all-merged, none-merged, none-read}
+use Rattle.undo_run.proofs.Merging.{all-merged, none-merged}
 use Rattle.undo_run.proofs.merged.look_and_merge.Goals as goal
 
 pub returns-in-Ok-merge_touched : goal.returns-in-Ok-merge_touched
@@ -24,12 +17,9 @@ returns-in-Ok-merge_touched g c =
     let p = chosen_by c.args.among.now sel (log_of source) in
     let t = chosen_taken (names_told c.args.logs.now) p sel (log_of source) (end_of source) (fault_of source) in
     let known = c.if-since-gt0.false in
-    let read = g.L.Read.remaining in
-    let many = c.len-has_later.ensures ∙ c.args.later.ok.0 in
-    let none : nat_lt 0 c.len-has_later.result ≡ false → (logs : List NamedLog) → AreRead read c.args.later.items logs → logs ≡ [] = λ few logs are. none-read read c.args.later.items logs (omega (arith, few, many)) are in
-    all-merged read c.args.later.items t c.in-Ok.recorded c.in-Ok-merge_touched.merging (omega (arith, known)) c.if-since.false c.in-Ok.ensures
-    (λ logs is are. c.in-Ok-merge_touched.ensures t logs p c.requires.kept c.requires.selection (c.requires.chosen ∙ ap (λ (bytes : List _). map p (later_units bytes sel.start)) (sym c.requires.bytes))
-    (λ few. ap marked_in ((λ i. t.steps ++ map later_step (map whole_log (none few logs is i))) ∙ append-nil t.steps ∙ ap (λ (bytes : List _). map (unit_step p sel bytes) (from_first p (later_units bytes sel.start))) (sym c.requires.bytes))) are.changes)
+    all-merged g.L.Read.remaining c.args.later.items t c.in-Ok.recorded c.in-Ok-merge_touched.merging (omega (arith, known)) c.if-since.false c.in-Ok.ensures
+    (λ logs are. c.in-Ok-merge_touched.ensures t logs p c.requires.kept c.requires.selection (c.requires.chosen ∙ ap (λ (bytes : List _). map p (later_units bytes sel.start)) (sym c.requires.bytes))
+    (ap (λ (bytes : List _). map (unit_step p sel bytes) (from_first p (later_units bytes sel.start))) (sym c.requires.bytes)) are.changes)
 
 pub returns : goal.returns
 returns g c =
@@ -38,9 +28,6 @@ returns g c =
     let p = chosen_by c.args.among.now sel (log_of source) in
     let t = chosen_taken (names_told c.args.logs.now) p sel (log_of source) (end_of source) (fault_of source) in
     let known = c.if-since-gt0.false in
-    let read = g.L.Read.remaining in
-    let many = c.len-has_later.ensures ∙ c.args.later.ok.0 in
-    let none : nat_lt 0 c.len-has_later.result ≡ false → (logs : List NamedLog) → AreRead read c.args.later.items logs → logs ≡ [] = λ few logs are. none-read read c.args.later.items logs (omega (arith, few, many)) are in
-    none-merged read c.args.later.items t c.in-Ok.recorded c.in-Err-merge_touched.fault (omega (arith, known)) c.if-since.false c.in-Ok.ensures
-    (λ logs is are. c.in-Err-merge_touched.ensures t logs p c.requires.kept c.requires.selection (c.requires.chosen ∙ ap (λ (bytes : List _). map p (later_units bytes sel.start)) (sym c.requires.bytes))
-    (λ few. ap marked_in ((λ i. t.steps ++ map later_step (map whole_log (none few logs is i))) ∙ append-nil t.steps ∙ ap (λ (bytes : List _). map (unit_step p sel bytes) (from_first p (later_units bytes sel.start))) (sym c.requires.bytes))) are.changes)
+    none-merged g.L.Read.remaining c.args.later.items t c.in-Ok.recorded c.in-Err-merge_touched.fault (omega (arith, known)) c.if-since.false c.in-Ok.ensures
+    (λ logs are. c.in-Err-merge_touched.ensures t logs p c.requires.kept c.requires.selection (c.requires.chosen ∙ ap (λ (bytes : List _). map p (later_units bytes sel.start)) (sym c.requires.bytes))
+    (ap (λ (bytes : List _). map (unit_step p sel bytes) (from_first p (later_units bytes sel.start))) (sym c.requires.bytes)) are.changes)
