@@ -317,8 +317,7 @@ transaction between the chosen ones. If it changed rows that would be undone, or
 tables in a way that can't be looked into, such as by ALTER TABLE, nothing is written, and lines say where.
 With --leave rows that were changed since are left as they are, and the others are undone.
 With --merge these rows are updated, too: a column that only the mistake changed gets its former value, and one
-that was changed since keeps its value. Rows that the mistake inserted and others changed since stay. If other
-logs have changes of these rows, give all of them as LOG, and none by --later.
+that was changed since keeps its value. Rows that the mistake inserted and others changed since stay.
 With --anyway nothing is looked at: later changes of these rows are overwritten.
 A report says what is undone: on standard output with -r and with --dry-run, else on standard error.
 It counts rows as the undo changes them: 120 rows that were deleted are 120 inserts.";
