@@ -7,6 +7,7 @@ pub enum MergeFault {
     OutOfMemory,
     /// The log would have more than 4,294,967,295 bytes.
     TooLong,
-    /// The log would not be accepted, or its rows would not be those of the pairs.
+    /// The log would not be accepted, or its rows would not be those of the pairs; or there is no update event or no transaction whose parts the
+    /// updates could have.
     Unfit,
 }

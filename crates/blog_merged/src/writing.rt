@@ -39,7 +39,8 @@ fn check<A: Allocator + Copy>(alloc: A, gathered: &Gathered<A>, seed: u64) -> Re
 /// (`Log::with_seed`).
 ///
 /// Fails with `OutOfMemory` if out of memory, with `TooLong` if the log would have more than 4,294,967,295 bytes, and with `Unfit` if it would not be
-/// accepted, or its rows would not be those of the pairs.
+/// accepted, or its rows would not be those of the pairs. So it does if a table of an update has no update event in the pairs, or if there are updates
+/// and `chosen` has no transaction.
 pub fn merged_log<A: Allocator + Copy>(
     alloc: A,
     pairs: &PairTable<A>,
