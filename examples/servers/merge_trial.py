@@ -86,8 +86,8 @@ def try_merge(server, programs, report, _):
         hold_staying(server, programs)
     with report.trial("5: --merge: 2,000 of 20,000 rows were changed since, in a further log"):
         hold_merged_of_many(server, programs)
-    with report.trial("5: --merge: rows were changed in a later log: nothing is written"):
-        hold_unmerged(server, programs, Mistake(server, programs, forgotten_where(SHOP), changes[:3], of_these))
+    with report.trial("5: --merge: the same with changes in a later log"):
+        hold_merged(server, programs, Mistake(server, programs, forgotten_where(SHOP), changes[:3], of_these), 3, of_schema(changes[:3] + of_these))
 
 
 def hold_merged(server, programs, made, rows, wanted):
@@ -129,11 +129,3 @@ def hold_merged_of_many(server, programs):
                          f"UPDATE {spared} SET name = 'renamed' WHERE id % 10 = 3"]))
     found, wanted = (list(state(server, [name]).values()) for name in (table, spared))
     hold(found == wanted, "the tables differ")
-
-
-def hold_unmerged(server, programs, made):
-    result = server.folder / "unmerged.sql"
-    told = programs.refusal("undo", made.log, *made.part, *made.later, "--merge", "-r", result).splitlines()
-    hold(told[-1].startswith("binlog: Unmerged: "), f"the last line is {told[-1]}")
-    hold(all(f"{name_of(SHOP, 'customers')}: update" in line for line in told[:-2]), f"the lines above are {told[:-1]}")
-    hold(not result.exists(), "a file was written")

@@ -30,6 +30,9 @@ const MISTAKE: [u8; 36] = [
 /// The row 5, 9 becomes 7, 9.
 const SINCE: [u8; 18] = [0, 5, 0, 0, 0, 9, 0, 0, 0, 0, 7, 0, 0, 0, 9, 0, 0, 0];
 
+/// The row 7, 9 becomes 8, 9.
+const FURTHER: [u8; 18] = [0, 7, 0, 0, 0, 9, 0, 0, 0, 0, 8, 0, 0, 0, 9, 0, 0, 0];
+
 /// The row 7, 1 becomes 7, 9.
 const MERGED: [u8; 18] = [0, 7, 0, 0, 0, 1, 0, 0, 0, 0, 7, 0, 0, 0, 9, 0, 0, 0];
 
@@ -56,6 +59,24 @@ fn touched<R: AllocGlobal>(rt: &R) -> Result<Vec<u8>, Fail> {
     Ok(build(rt, &parts)?)
 }
 
+/// What undoes the mistake, where the row that was changed since is merged.
+fn merged<R: AllocGlobal + Abort>(rt: &R) -> Result<Vec<u8>, Fail> {
+    let parts = [
+        BEGIN,
+        PAIRS,
+        updated(&MERGED),
+        XID,
+        BEGIN,
+        PAIRS,
+        updated(&MISTAKE[18..]),
+        XID,
+    ];
+    let wanted = build(rt, &parts)?;
+    let (done, undone) = changes_of(rt, &wanted, &Selection::all(), &UNDO)?;
+    assert!(rt; done.is_ok());
+    Ok(undone)
+}
+
 /// What is reported of that.
 const REPORT: &str = "\
 undoes 1 transaction of binlog.000042: `d`.`t` updates 2
@@ -68,23 +89,10 @@ binlog.000042 369 1970-01-01 00:00:00 `d`.`t`: update
 #[test]
 fn a_row_that_was_changed_since_is_merged(rt: HostRuntime) -> Result<(), Fail> {
     let log = touched(&rt)?;
-    let parts = [
-        BEGIN,
-        PAIRS,
-        updated(&MERGED),
-        XID,
-        BEGIN,
-        PAIRS,
-        updated(&MISTAKE[18..]),
-        XID,
-    ];
-    let wanted = build(&rt, &parts)?;
-    let (done, undone) = changes_of(&rt, &wanted, &Selection::all(), &UNDO)?;
-    assert!(rt; done.is_ok());
     let part = between(4, None);
     let (_, came, text, told) = logs_with(&rt, &log, &[], &part, Some(FIRST), true, &[])?;
     assert!(rt; came == Came::Done);
-    assert!(rt; text == undone);
+    assert!(rt; text == merged(&rt)?);
     assert!(rt; told.as_slice() == REPORT.as_bytes());
     Ok(())
 }
@@ -103,35 +111,30 @@ fn without_a_look_nothing_is_merged(rt: HostRuntime) -> Result<(), Fail> {
     Ok(())
 }
 
-/// The lines of a refusal because of that.
-const UNMERGED: &str = "\
-binlog.000043 197 1970-01-01 00:00:00 `d`.`t`: update
-rows that were changed since can be merged if all logs are given as LOG, and none as --later
-";
-
 #[test]
-fn a_row_that_was_changed_in_a_later_log_is_not_merged(rt: HostRuntime) -> Result<(), Fail> {
+fn a_row_that_was_changed_in_a_later_log_is_merged(rt: HostRuntime) -> Result<(), Fail> {
     let log = build(&rt, &[BEGIN, PAIRS, updated(&MISTAKE), XID])?;
     let next = build(&rt, &[BEGIN, PAIRS, updated(&SINCE), XID])?;
     let later: [(&str, &[u8]); 1] = [("binlog.000043", &next)];
     let part = between(4, None);
-    let (_, came, _, lines) = logs_with(&rt, &log, &[], &part, Some(FIRST), true, &later)?;
-    assert!(rt; came == Came::Unmerged);
-    assert!(rt; lines.as_slice() == UNMERGED.as_bytes());
+    let (_, came, text, told) = logs_with(&rt, &log, &[], &part, Some(FIRST), true, &later)?;
+    assert!(rt; came == Came::Done);
+    assert!(rt; text == merged(&rt)?);
+    assert!(rt; told.ends_with(LATER.as_bytes()));
     Ok(())
 }
+
+/// The end of its report.
+const LATER: &str = "\
+merges 1 row that was changed since, and keeps these changes:
+binlog.000043 197 1970-01-01 00:00:00 `d`.`t`: update
+";
 
 #[test]
 fn a_refused_request_merges_nothing(rt: HostRuntime) -> Result<(), Fail> {
     let log = touched(&rt)?;
-    refuse_each(
-        &rt,
-        &log,
-        &[],
-        &between(4, None),
-        Some(FIRST),
-        true,
-        &[],
-        30,
-    )
+    let next = build(&rt, &[BEGIN, PAIRS, updated(&FURTHER), XID])?;
+    let later: [(&str, &[u8]); 1] = [("binlog.000043", &next)];
+    let part = between(4, None);
+    refuse_each(&rt, &log, &[], &part, Some(FIRST), true, &later, 40)
 }

@@ -1,0 +1,9 @@
+pub mod Fingerprints
+pub mod Found
+pub mod TouchedPairs
+pub mod OfSteps
+pub mod Remaining
+pub mod Waiting
+pub mod Numbered
+pub mod Sets
+pub mod OneRow
