@@ -22,19 +22,19 @@ fn updated(images: &[u8]) -> Part<'_> {
 
 /// The rows 5, 1 and 6, 1 become 5, 9 and 6, 9.
 #[rattlefmt::skip]
-const MISTAKE: [u8; 36] = [
+static MISTAKE: [u8; 36] = [
     0, 5, 0, 0, 0, 1, 0, 0, 0, 0, 5, 0, 0, 0, 9, 0, 0, 0,
     0, 6, 0, 0, 0, 1, 0, 0, 0, 0, 6, 0, 0, 0, 9, 0, 0, 0,
 ];
 
 /// The row 5, 9 becomes 7, 9.
-const SINCE: [u8; 18] = [0, 5, 0, 0, 0, 9, 0, 0, 0, 0, 7, 0, 0, 0, 9, 0, 0, 0];
+static SINCE: [u8; 18] = [0, 5, 0, 0, 0, 9, 0, 0, 0, 0, 7, 0, 0, 0, 9, 0, 0, 0];
 
 /// The row 7, 9 becomes 8, 9.
 const FURTHER: [u8; 18] = [0, 7, 0, 0, 0, 9, 0, 0, 0, 0, 8, 0, 0, 0, 9, 0, 0, 0];
 
 /// The row 7, 1 becomes 7, 9.
-const MERGED: [u8; 18] = [0, 7, 0, 0, 0, 1, 0, 0, 0, 0, 7, 0, 0, 0, 9, 0, 0, 0];
+static MERGED: [u8; 18] = [0, 7, 0, 0, 0, 1, 0, 0, 0, 0, 7, 0, 0, 0, 9, 0, 0, 0];
 
 /// The unit at 120, whose rows are merged.
 const FIRST: UnitRequest<'static> = UnitRequest {
