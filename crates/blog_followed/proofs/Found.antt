@@ -1,6 +1,6 @@
 -- Pairs whose real rows have some fingerprints, after changes.
-use Rattle.std.proofs.Common.{◌≡◌, ℕ, ◌&&◌, Bool, true, false, List, [], ◌∷◌, ◌++◌, Option, Some, None, refl, sym, ap, ◌∙◌, subst, append-nil}
-use Rattle.std.specs.Prelude.{if◌then◌else◌, nat_eq, option_map}
+use Rattle.std.proofs.Common.{◌≡◌, ℕ, ◌&&◌, Bool, true, false, List, [], ◌∷◌, ◌++◌, Option, Some, refl, sym, ap, ◌∙◌, subst, append-nil}
+use Rattle.std.specs.Prelude.{nat_eq, option_map}
 use Rattle.std.specs.List.{AllByRecursion, list_any}
 use Rattle.std.proofs.lemmas.Bool.{and_from, and_parts, cond-false, cond-true, false≢true, or_left}
 use Rattle.blog_later.specs.Prints.{HavePrints, prints_left}
@@ -8,7 +8,6 @@ use Rattle.blog_merge.specs.Merge.{merged, pairs_by_later, pairs_by_selected}
 use Rattle.blog_merge.specs.Pairs.{Pair, in_table, is_of, put, real_row, unless_equal, without, would_be, would_row}
 use Rattle.blog_merge.specs.Touching.{with_left}
 use Rattle.blog_merge.proofs.Columns.{merged-own}
-use Rattle.blog_pairs.specs.Steps.{pairs_with}
 use Rattle.blog_row.specs.Image.{Row}
 use Rattle.blog_row.specs.TableMap.{Table}
 use Rattle.blog_trans.specs.Changes.{Change, Inserted, Deleted, Updated}

@@ -7,3 +7,4 @@ pub mod Waiting
 pub mod Numbered
 pub mod Sets
 pub mod OneRow
+pub mod Refused

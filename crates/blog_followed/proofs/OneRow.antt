@@ -5,7 +5,6 @@ use Rattle.std.specs.List.{cons_option, list_any}
 use Rattle.blog_later.specs.Prints.{HavePrints, print_of}
 use Rattle.blog_later.specs.code.EventChanges.{event_changes, image_changes, images_changes}
 use Rattle.blog_later.specs.declared.left.LeftRows.{LeftRows}
-use Rattle.blog_merge.specs.Pairs.{in_table}
 use Rattle.blog_merge.specs.Touching.{with_left}
 use Rattle.blog_pairs.specs.code.EventRows.{event_rows}
 use Rattle.blog_pairs.proofs.Tabled.{group_changes}
@@ -16,13 +15,14 @@ use Rattle.blog_row.specs.code.LayoutView.{layout_columns}
 use Rattle.blog_row.specs.code.StoredLayoutView.{stored_columns}
 use Rattle.blog_trans.specs.Changes.{Change, Deleted, Updated, row_by, table_of}
 use Rattle.blog_trans.specs.code.GroupEventsView.{IsByMap, event_seen}
+use Rattle.blog_trans.specs.declared.group_events.GroupEvent as seen
 use Rattle.blog_trans.specs.declared.group_events.GroupEvent.TheVariants as given
 use Rattle.blog_trans.specs.declared.group_events.GroupRows.{GroupRows}
 use Rattle.blog_undo.specs.ByRows.{has_print_among}
 use Rattle.blog_undo.specs.Mixed.{takes}
 use Rattle.blog_followed.specs.Following.{touching}
 use Rattle.blog_followed.specs.code.FollowedView.{Follows, kept_told, prints_told}
-use Rattle.blog_followed.specs.code.KeptView.{change_by}
+use Rattle.blog_followed.specs.code.KeptView.{change_by, image_print}
 use Rattle.blog_followed.specs.declared.followed.Followed.{Followed}
 use Rattle.blog_followed.specs.declared.seen.SeenTable.{SeenTable}
 use Rattle.blog_followed.proofs.Fingerprints.{after-other, after-touching, touching-first, touching-later}
@@ -33,10 +33,6 @@ on-ok (Ok x) P Q so is = so is
 on-ok (Err e) P Q so is = tt
 
 -- ---- the change of a row
-
--- the fingerprint of a row by its image
-abbrev pub image_print : List ℕ → List ℕ → ℕ
-image_print body image = print_of (in_table (table_of body) (row_by (layout_of body) image))
 
 one-change : (body : List ℕ) (l : Layout) (before : List ℕ) (after : Option (List ℕ)) → layout_of body ≡ Ok l → image_changes (table_of body) l (Some before) after ≡ change_by body before after ∷ []
 one-change body l before None known = ap (λ r. Deleted (table_of body) (row_by r before) ∷ []) (sym known)
@@ -109,3 +105,10 @@ seen-rows group table rows h body are =
     ap₂ (λ (b : List ℕ) (rs : List RowImages). images_changes (table_of b) (stored_columns table.layout) rs) body are
     ∙ ap (λ l. images_changes (table_of group.map.body.now) l (event_rows group.rows)) same
     ∙ sym (group_changes group h)
+
+-- an event without rows
+pub none-changed : (e : seen.GroupEvent) → ((group : GroupRows) → e ≡ given.Rows group → ⊥) → event_changes (event_seen e) ≡ []
+none-changed (given.Begin event) other = refl
+none-changed (given.Map event) other = refl
+none-changed (given.Rows group) other = absurd (other group refl)
+none-changed (given.End event) other = refl

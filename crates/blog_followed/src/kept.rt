@@ -1,6 +1,6 @@
 //! Changes that are kept, and added to pairs.
 
-ghost use Rattle.std.specs.Prelude.{◌≡◌, IfOk, IsOk, option_map, true};
+ghost use Rattle.std.specs.Prelude.{◌≡◌, IsOk, option_map, true};
 ghost use Rattle.blog_row.specs.TableMap.{layout_of};
 ghost use Rattle.blog_followed.specs.code.KeptView.{are_numbered, bodies_of};
 

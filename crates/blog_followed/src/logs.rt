@@ -9,7 +9,7 @@ ghost use Rattle.blog_pairs.specs.Steps.{pairs_with};
 ghost use Rattle.blog_pairs.specs.code.TableView.{pairs_told};
 ghost use Rattle.blog_units.specs.Units.{Facts};
 ghost use Rattle.blog_followed.specs.Following.{prints_touched, touching};
-ghost use Rattle.blog_followed.specs.code.FollowedView.{kept_told, prints_told};
+ghost use Rattle.blog_followed.specs.code.FollowedView.{kept_told, prints_in, prints_told};
 
 use crate::followed::Followed;
 use crate::kept::KeptChanges;
@@ -24,7 +24,7 @@ use std::collections::BTreeSet;
 impl<A: Allocator + Copy> Followed<A> {
     /// Follows no rows but those that selected changes left, and keeps no changes.
     pub fn new(alloc: A) -> Followed<A>
-        ensures prints { result.prints.keys ≡ [] }
+        ensures prints { prints_in result ≡ [] }
         ensures kept { kept_told result ≡ [] }
     {
         Followed {

@@ -1,18 +1,16 @@
 //! Rows that are followed through the rows of an event.
 
-ghost use Rattle.std.specs.Prelude.{◌≡◌, ◌++◌, ◌∷◌, [], ℕ, Bool, IsOk, List, OnOk, if◌then◌else◌, option_map};
+ghost use Rattle.std.specs.Prelude.{◌≡◌, ◌++◌, ◌∷◌, [], ℕ, List, OnOk, if◌then◌else◌, option_map};
 ghost use Rattle.std.specs.List.{cons_option};
-ghost use Rattle.blog_later.specs.Prints.{HavePrints, print_of};
+ghost use Rattle.blog_later.specs.Prints.{HavePrints};
 ghost use Rattle.blog_later.specs.code.EventChanges.{event_changes, image_changes};
-ghost use Rattle.blog_merge.specs.Pairs.{in_table};
-ghost use Rattle.blog_row.specs.TableMap.{layout_of};
 ghost use Rattle.blog_row.specs.code.RowsView.{row_seen};
 ghost use Rattle.blog_row.specs.code.StoredLayoutView.{stored_columns};
-ghost use Rattle.blog_trans.specs.Changes.{row_by, table_of};
+ghost use Rattle.blog_trans.specs.Changes.{table_of};
 ghost use Rattle.blog_trans.specs.code.GroupEventsView.{IsByMap, event_seen};
 ghost use Rattle.blog_trans.specs.declared.group_events.GroupEvent.TheVariants as GroupEvent;
 ghost use Rattle.blog_followed.specs.code.FollowedView.{Follows, kept_in};
-ghost use Rattle.blog_followed.specs.code.KeptView.{change_by};
+ghost use Rattle.blog_followed.specs.code.KeptView.{change_by, image_print};
 
 use crate::followed::Followed;
 use crate::kept::KeptChanges;
@@ -31,7 +29,7 @@ fn add_left<A: Allocator + Copy>(
     after: Option<&[u8]>,
 ) -> Result<(), AllocError>
     ensures { (these : List ℕ) → OnOk result (HavePrints
-        (cons_option (option_map (λ image. print_of (in_table (table_of table.now.body.now) (row_by (layout_of table.now.body.now) image.now))) after.entry) (these ++ prints.old.keys))
+        (cons_option (option_map (image_print table.now.body.now) (option_map (λ image. image.now) after.entry)) (these ++ prints.old.keys))
         (these ++ prints.new.keys)) }
 {
     match after {

@@ -1,11 +1,10 @@
 //! Tables whose rows are looked at.
 
 ghost use Rattle.std.specs.Prelude.{◌≡◌, Ok};
-ghost use Rattle.blog_later.specs.Prints.{print_of, table_hasher};
-ghost use Rattle.blog_merge.specs.Pairs.{in_table};
+ghost use Rattle.blog_later.specs.Prints.{table_hasher};
 ghost use Rattle.blog_row.specs.TableMap.{layout_of};
 ghost use Rattle.blog_row.specs.code.StoredLayoutView.{stored_columns};
-ghost use Rattle.blog_trans.specs.Changes.{row_by, table_of};
+ghost use Rattle.blog_trans.specs.Changes.{table_of};
 ghost use Rattle.blog_trans.specs.code.GroupEventsView.{IsByMap};
 
 use blog_later::{print_of, table_hasher};
@@ -41,9 +40,11 @@ impl<'a> SeenTable<'a> {
 }
 
 impl SeenTable<'_> {
+    ghost use Rattle.blog_followed.specs.code.KeptView.{image_print};
+
     /// Returns the fingerprint of a row.
     pub(crate) fn print(&self, image: &[u8]) -> u64
-        ensures { result ≡ print_of (in_table (table_of self.now.body.now) (row_by (layout_of self.now.body.now) image.now)) }
+        ensures { result ≡ image_print self.now.body.now image.now }
     {
         print_of(self.hasher, &self.layout, image)
     }

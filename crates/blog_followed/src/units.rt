@@ -1,6 +1,6 @@
 //! Rows that are followed through the changes of units.
 
-ghost use Rattle.std.specs.Prelude.{Bool, OnOk};
+ghost use Rattle.std.specs.Prelude.{◌≢◌, OnOk};
 ghost use Rattle.blog_event.specs.code.LogView.{log_bytes};
 ghost use Rattle.blog_later.specs.Later.{unit_changes};
 ghost use Rattle.blog_later.specs.code.EventChanges.{event_changes};
@@ -30,10 +30,10 @@ fn follow_event<A: Allocator + Copy>(
     requires { IsWhole event.now }
     ensures { OnOk result (Follows keeps left.now (event_changes (event_seen event.now)) followed.old followed.new) }
 {
-    match event {
-        GroupEvent::Rows(group) => follow_rows(followed, alloc, left, keeps, group),
-        GroupEvent::Begin(_) | GroupEvent::Map(_) | GroupEvent::End(_) => Ok(()),
-    }
+    let GroupEvent::Rows(group) = event else {
+        return Ok(());
+    };
+    follow_rows(followed, alloc, left, keeps, group)
 }
 
 /// Follows the changes of an index.
@@ -52,6 +52,16 @@ fn follow_index<A: Allocator + Copy, B: Allocator>(
     Ok(())
 }
 
+/// Passes a unit over that can't be undone by itself. Fails if out of memory.
+fn passed_over(fault: &Fault) -> Result<(), AllocError>
+    ensures { OnOk result (fault.now ≢ Fault.OutOfMemory) }
+{
+    match fault {
+        Fault::OutOfMemory => Err(AllocError),
+        _ => Ok(()),
+    }
+}
+
 /// Follows the changes of a unit, if it can be undone by itself. `keeps` says whether those are kept that take followed rows. Fails if out of memory,
 /// after some of the changes.
 pub(crate) fn follow_unit<A: Allocator + Copy>(
@@ -66,7 +76,6 @@ pub(crate) fn follow_unit<A: Allocator + Copy>(
     let judged = unit.with_groups(alloc);
     match &judged.groups {
         Ok(index) => follow_index(followed, alloc, left, keeps, index),
-        Err(Fault::OutOfMemory) => Err(AllocError),
-        Err(_) => Ok(()),
+        Err(fault) => passed_over(fault),
     }
 }

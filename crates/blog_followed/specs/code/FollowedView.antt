@@ -13,9 +13,13 @@ use Rattle.blog_followed.specs.declared.kept.KeptChanges.{KeptChanges}
 abbrev pub all_left : {A : Type 0} → LeftRows A → List ℕ
 all_left left = (left_before left 4294967295).rows
 
--- with those of the rows that followed changes left
+-- those of the rows that followed changes left
+abbrev pub prints_in : {A : Type 0} → Followed A → List ℕ
+prints_in followed = followed.prints.keys
+
+-- of all rows that are followed
 abbrev pub prints_told : {A : Type 0} → LeftRows A → Followed A → List ℕ
-prints_told left followed = all_left left ++ followed.prints.keys
+prints_told left followed = all_left left ++ prints_in followed
 
 -- the changes that are kept
 abbrev pub kept_in : {A : Type 0} → KeptChanges A → List Change

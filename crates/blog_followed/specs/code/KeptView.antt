@@ -1,6 +1,8 @@
 -- What a contract sees of kept changes.
 use Rattle.std.specs.Prelude.{ℕ, Bool, List, [], length, map, Option, Some, None, nat_lt, option_map, slice_index_or}
 use Rattle.std.specs.List.{list_all}
+use Rattle.blog_later.specs.Prints.{print_of}
+use Rattle.blog_merge.specs.Pairs.{in_table}
 use Rattle.blog_row.specs.TableMap.{layout_of}
 use Rattle.blog_trans.specs.Changes.{Change, Deleted, Updated, row_by, table_of}
 use Rattle.blog_followed.specs.declared.held.KeptChange.{KeptChange}
@@ -12,6 +14,10 @@ bodies_of maps = map (λ m. m.body.items) maps
 
 abbrev pub body_at : List (List ℕ) → ℕ → List ℕ
 body_at bodies n = slice_index_or bodies n []
+
+-- the fingerprint of a row, by its image and the body of its table map
+abbrev pub image_print : List ℕ → List ℕ → ℕ
+image_print body image = print_of (in_table (table_of body) (row_by (layout_of body) image))
 
 -- a change that takes a row, by its images and the body of its table map
 abbrev pub change_by : List ℕ → List ℕ → Option (List ℕ) → Change

@@ -1,4 +1,4 @@
-use Rattle.std.proofs.Common.{IsOk, refl, ◌≡◌, ◌++◌, ◌∷◌, [], List, sym, ap, ◌∙◌, subst}
+use Rattle.std.proofs.Common.{IsOk, refl, ◌++◌, [], List, sym, ap, ◌∙◌, subst}
 use Rattle.std.proofs.lemmas.Bool.{cond-true}
 use Rattle.blog_trans.specs.Changes.{Change}
 use Rattle.blog_followed.specs.code.FollowedView.{kept_in}

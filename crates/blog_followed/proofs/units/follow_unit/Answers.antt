@@ -7,6 +7,8 @@ use Rattle.blog_units.specs.Units.{between}
 use Rattle.blog_units.specs.code.UnitsView.{facts_told}
 use Rattle.blog_units.specs.declared.unit_facts.UnitFacts.{UnitFacts}
 use Rattle.blog_untouched.proofs.PutRecorded.{unit-accepted}
+use Rattle.blog_followed.proofs.OneRow.{on-ok}
+use Rattle.blog_followed.proofs.Refused.{refused-follows}
 use Rattle.blog_followed.proofs.units.follow_unit.Goals as goal
 
 pub returns-in-Ok : goal.returns-in-Ok
@@ -20,4 +22,6 @@ returns-in-Ok g c =
     rw (own) at (rw (same, sel) at c.follow_index.ensures)
 
 pub returns : goal.returns
-returns g c = ?
+returns g c =
+    on-ok c.passed_over.result _ _ (λ other. refused-follows c.args.keeps c.args.left.now (log_bytes c.args.unit.log) c.with_groups-judged.result c.args.unit _ c.args.followed.now
+    c.with_groups-judged.ensures.judged c.in-Err.is c.with_groups-judged.ensures.facts other) c.passed_over.ensures
