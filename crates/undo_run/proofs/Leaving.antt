@@ -61,11 +61,11 @@ some-out (false ∷ marks) some = refl
 
 -- ---- by what was recorded
 
-pub unknown-left : {A : Type 0} (t : Taken) (logs : List NamedLog) (recorded : Recorded A) → AreRecorded t logs recorded → (0 < recorded.since.unknown) ⊎ (recorded.since.is_damaged ≡ true) → AreUnknown t logs
-unknown-left t logs recorded are (inl some) = inl (some-more recorded.since.unknown _ are.seen.unknown some)
-unknown-left t logs recorded are (inr damaged) = inr (sym are.seen.damaged ∙ damaged)
+pub unknown-left : {A : Type 0} (t : Taken) (logs : List NamedLog) (follows : Bool) (recorded : Recorded A) → AreRecorded t logs follows recorded → (0 < recorded.since.unknown) ⊎ (recorded.since.is_damaged ≡ true) → AreUnknown t logs
+unknown-left t logs follows recorded are (inl some) = inl (some-more recorded.since.unknown _ are.seen.unknown some)
+unknown-left t logs follows recorded are (inr damaged) = inr (sym are.seen.damaged ∙ damaged)
 
-pub part-safe : {A : Type 0} (t : Taken) (logs : List NamedLog) (recorded : Recorded A) → AreRecorded t logs recorded → recorded.since.unknown ≡ 0 → recorded.since.is_damaged ≡ false → are_some (marks_undone t logs) ≡ true
+pub part-safe : {A : Type 0} (t : Taken) (logs : List NamedLog) (recorded : Recorded A) → AreRecorded t logs false recorded → recorded.since.unknown ≡ 0 → recorded.since.is_damaged ≡ false → are_some (marks_undone t logs) ≡ true
     → IsPartSafe t logs
 part-safe t logs recorded are known whole some = record {
   undoable = part-undoable print_of (mixed t logs);
@@ -78,29 +78,29 @@ left-log : (t : Taken) (logs : List NamedLog) → are_all (marks_undone t logs) 
 left-log t logs some = sym (cond-false (are_all (marks_undone t logs)) t.log (left_out_text (marks_undone t logs) t.log all) some)
 
 pub all-left : {A R : Type 0} (known : R → Option (List ℕ)) (givens : List (GivenLog R)) (t : Taken) (recorded : Recorded A) (rest : Option (Rest A)) → recorded.since.unknown ≡ 0 → recorded.since.is_damaged ≡ false
-    → RecordsAfter known givens t false (Ok recorded) → ((logs : List NamedLog) → AreRecorded t logs recorded → LeavesOut t logs recorded.since.touched (Ok rest)) → Leaves known givens t (Ok (record { since = recorded.since; rest = rest }))
-all-left known givens t recorded rest clear whole (on, (logs, read, are)) leaves =
+    → RecordsAfter known givens t false (Ok recorded) → ((logs : List NamedLog) → AreRecorded t logs false recorded → LeavesOut t logs recorded.since.touched (Ok rest)) → Leaves known givens t (Ok (record { since = recorded.since; rest = rest }))
+all-left known givens t recorded rest clear whole (logs, read, are) leaves =
     let (some, has) = leaves logs are in
     (logs, read, (part-safe t logs recorded are clear whole some, told-since t logs (touches_among (steps_after t logs)) (tables_taken t) recorded.since refl are.seen, has))
 
 pub none-kept : {A R : Type 0} (known : R → Option (List ℕ)) (givens : List (GivenLog R)) (t : Taken) (recorded : Recorded A) (cause : PartFault A) → recorded.since.unknown ≡ 0 → recorded.since.is_damaged ≡ false
-    → RecordsAfter known givens t false (Ok recorded) → ((logs : List NamedLog) → AreRecorded t logs recorded → LeavesOut t logs recorded.since.touched (Err cause)) → Leaves {A = A} known givens t (Err cause)
-none-kept known givens t recorded (ChangedSince rows lines) clear whole (on, (logs, read, are)) leaves = let (is, none) = leaves logs are in (logs, read, (is ∙ are.seen.touched, none))
-none-kept known givens t recorded TooLong clear whole (on, (logs, read, are)) leaves =
+    → RecordsAfter known givens t false (Ok recorded) → ((logs : List NamedLog) → AreRecorded t logs false recorded → LeavesOut t logs recorded.since.touched (Err cause)) → Leaves {A = A} known givens t (Err cause)
+none-kept known givens t recorded (ChangedSince rows lines) clear whole (logs, read, are) leaves = let (is, none) = leaves logs are in (logs, read, (is ∙ are.seen.touched, none))
+none-kept known givens t recorded TooLong clear whole (logs, read, are) leaves =
     let (some, out, long) = leaves logs are in (logs, read, (part-safe t logs recorded are clear whole some, subst (λ (log : List ℕ). 4294967295 < length log) (left-log t logs out) long))
-none-kept known givens t recorded (Run (run.Log f)) clear whole (on, (logs, read, are)) leaves = leaves logs are
-none-kept known givens t recorded (Run run.Read) clear whole (on, (logs, read, are)) leaves = absurd (leaves logs are)
-none-kept known givens t recorded (Run run.Write) clear whole (on, (logs, read, are)) leaves = absurd (leaves logs are)
-none-kept known givens t recorded (Sums f) clear whole (on, (logs, read, are)) leaves = absurd (leaves logs are)
-none-kept known givens t recorded (NoEventAt pos) clear whole (on, (logs, read, are)) leaves = absurd (leaves logs are)
-none-kept known givens t recorded (NoUnitAt place) clear whole (on, (logs, read, are)) leaves = absurd (leaves logs are)
-none-kept known givens t recorded (NoUnitWithGtid gtid) clear whole (on, (logs, read, are)) leaves = absurd (leaves logs are)
-none-kept known givens t recorded (Log f) clear whole (on, (logs, read, are)) leaves = absurd (leaves logs are)
-none-kept known givens t recorded (LaterLog n f) clear whole (on, (logs, read, are)) leaves = absurd (leaves logs are)
-none-kept known givens t recorded (UnknownSince lines) clear whole (on, (logs, read, are)) leaves = absurd (leaves logs are)
-none-kept known givens t recorded (NoSchema text) clear whole (on, (logs, read, are)) leaves = absurd (leaves logs are)
-none-kept known givens t recorded (Unmerged lines) clear whole (on, (logs, read, are)) leaves = absurd (leaves logs are)
-none-kept known givens t recorded NothingSelected clear whole (on, (logs, read, are)) leaves = absurd (leaves logs are)
+none-kept known givens t recorded (Run (run.Log f)) clear whole (logs, read, are) leaves = leaves logs are
+none-kept known givens t recorded (Run run.Read) clear whole (logs, read, are) leaves = absurd (leaves logs are)
+none-kept known givens t recorded (Run run.Write) clear whole (logs, read, are) leaves = absurd (leaves logs are)
+none-kept known givens t recorded (Sums f) clear whole (logs, read, are) leaves = absurd (leaves logs are)
+none-kept known givens t recorded (NoEventAt pos) clear whole (logs, read, are) leaves = absurd (leaves logs are)
+none-kept known givens t recorded (NoUnitAt place) clear whole (logs, read, are) leaves = absurd (leaves logs are)
+none-kept known givens t recorded (NoUnitWithGtid gtid) clear whole (logs, read, are) leaves = absurd (leaves logs are)
+none-kept known givens t recorded (Log f) clear whole (logs, read, are) leaves = absurd (leaves logs are)
+none-kept known givens t recorded (LaterLog n f) clear whole (logs, read, are) leaves = absurd (leaves logs are)
+none-kept known givens t recorded (UnknownSince lines) clear whole (logs, read, are) leaves = absurd (leaves logs are)
+none-kept known givens t recorded (NoSchema text) clear whole (logs, read, are) leaves = absurd (leaves logs are)
+none-kept known givens t recorded (Unmerged lines) clear whole (logs, read, are) leaves = absurd (leaves logs are)
+none-kept known givens t recorded NothingSelected clear whole (logs, read, are) leaves = absurd (leaves logs are)
 
 pub not-recorded-left : {A R : Type 0} (known : R → Option (List ℕ)) (givens : List (GivenLog R)) (t : Taken) (cause : PartFault A) → RecordsAfter {A = A} known givens t false (Err cause) → Leaves {A = A} known givens t (Err cause)
 not-recorded-left known givens t (LaterLog n f) fails = fails

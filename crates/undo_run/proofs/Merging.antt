@@ -109,7 +109,7 @@ rest-unwritten t logs touched text NothingSelected out none = absurd none
 
 -- ---- by what was recorded
 
-is-known : {A : Type 0} (t : Taken) (logs : List NamedLog) (recorded : Recorded A) → AreRecorded t logs recorded → recorded.since.unknown ≡ 0 → recorded.since.is_damaged ≡ false → IsKnown t logs
+is-known : {A : Type 0} (t : Taken) (logs : List NamedLog) (recorded : Recorded A) → AreRecorded t logs true recorded → recorded.since.unknown ≡ 0 → recorded.since.is_damaged ≡ false → IsKnown t logs
 is-known t logs recorded are known whole = record {
   known = none-left (unknown_units (tables_taken t) (after t logs)) (none-more recorded.since.unknown _ are.seen.unknown known);
   whole = sym are.seen.damaged ∙ whole;
@@ -117,31 +117,31 @@ is-known t logs recorded are known whole = record {
 
 pub not-known : {A R : Type 0} (known : R → Option (List ℕ)) (givens : List (GivenLog R)) (t : Taken) (recorded : Recorded A) (lines : Vec ℕ A) → RecordsAfter known givens t true (Ok recorded) → (0 < recorded.since.unknown) ⊎ (recorded.since.is_damaged ≡ true)
     → MergesAfter {A = A} known givens t (Err (UnknownSince lines))
-not-known known givens t recorded lines (on, (logs, read, are)) is = (logs, read, unknown-left t logs recorded are is)
+not-known known givens t recorded lines (logs, read, are) is = (logs, read, unknown-left t logs true recorded are is)
 
 pub all-merged : {A R : Type 0} (known : R → Option (List ℕ)) (givens : List (GivenLog R)) (t : Taken) (recorded : Recorded A) (merging : Option (Merging A)) → recorded.since.unknown ≡ 0 → recorded.since.is_damaged ≡ false
-    → RecordsAfter known givens t true (Ok recorded) → ((logs : List NamedLog) → AreRecorded t logs recorded → KeepsPairs t logs recorded.tracked.followed → MergesOut t logs recorded.since.touched (Ok merging))
+    → RecordsAfter known givens t true (Ok recorded) → ((logs : List NamedLog) → AreRecorded t logs true recorded → KeepsPairs t logs recorded.tracked.followed → MergesOut t logs recorded.since.touched (Ok merging))
     → MergesAfter known givens t (Ok (record { since = recorded.since; merging = merging }))
-all-merged known givens t recorded merging clear whole (on, (logs, read, are)) merges =
-    (logs, read, (is-known t logs recorded are clear whole, told-since t logs (touches_among (steps_after t logs)) (tables_taken t) recorded.since refl are.seen, merges logs are (are.pairs on)))
+all-merged known givens t recorded merging clear whole (logs, read, are) merges =
+    (logs, read, (is-known t logs recorded are clear whole, told-since t logs (touches_among (steps_after t logs)) (tables_taken t) recorded.since refl are.seen, merges logs are (are.pairs refl)))
 
 pub none-merged : {A R : Type 0} (known : R → Option (List ℕ)) (givens : List (GivenLog R)) (t : Taken) (recorded : Recorded A) (cause : PartFault A) → recorded.since.unknown ≡ 0 → recorded.since.is_damaged ≡ false
-    → RecordsAfter known givens t true (Ok recorded) → ((logs : List NamedLog) → AreRecorded t logs recorded → KeepsPairs t logs recorded.tracked.followed → MergesOut t logs recorded.since.touched (Err cause)) → MergesAfter {A = A} known givens t (Err cause)
-none-merged known givens t recorded (ChangedSince rows lines) clear whole (on, (logs, read, are)) merges = let (is, none) = merges logs are (are.pairs on) in (logs, read, (is ∙ are.seen.touched, none))
-none-merged known givens t recorded (UnknownSince lines) clear whole (on, (logs, read, are)) merges = absurd (merges logs are (are.pairs on))
-none-merged known givens t recorded TooLong clear whole (on, (logs, read, are)) merges = (logs, read, (is-known t logs recorded are clear whole, merges logs are (are.pairs on)))
-none-merged known givens t recorded (Run (run.Log f)) clear whole (on, (logs, read, are)) merges = merges logs are (are.pairs on)
-none-merged known givens t recorded (Run run.Read) clear whole (on, (logs, read, are)) merges = absurd (merges logs are (are.pairs on))
-none-merged known givens t recorded (Run run.Write) clear whole (on, (logs, read, are)) merges = absurd (merges logs are (are.pairs on))
-none-merged known givens t recorded (Sums f) clear whole (on, (logs, read, are)) merges = absurd (merges logs are (are.pairs on))
-none-merged known givens t recorded (NoEventAt pos) clear whole (on, (logs, read, are)) merges = absurd (merges logs are (are.pairs on))
-none-merged known givens t recorded (NoUnitAt place) clear whole (on, (logs, read, are)) merges = absurd (merges logs are (are.pairs on))
-none-merged known givens t recorded (NoUnitWithGtid gtid) clear whole (on, (logs, read, are)) merges = absurd (merges logs are (are.pairs on))
-none-merged known givens t recorded (Log f) clear whole (on, (logs, read, are)) merges = absurd (merges logs are (are.pairs on))
-none-merged known givens t recorded (LaterLog n f) clear whole (on, (logs, read, are)) merges = absurd (merges logs are (are.pairs on))
-none-merged known givens t recorded (NoSchema text) clear whole (on, (logs, read, are)) merges = absurd (merges logs are (are.pairs on))
-none-merged known givens t recorded (Unmerged lines) clear whole (on, (logs, read, are)) merges = (logs, read, (is-known t logs recorded are clear whole, merges logs are (are.pairs on)))
-none-merged known givens t recorded NothingSelected clear whole (on, (logs, read, are)) merges = absurd (merges logs are (are.pairs on))
+    → RecordsAfter known givens t true (Ok recorded) → ((logs : List NamedLog) → AreRecorded t logs true recorded → KeepsPairs t logs recorded.tracked.followed → MergesOut t logs recorded.since.touched (Err cause)) → MergesAfter {A = A} known givens t (Err cause)
+none-merged known givens t recorded (ChangedSince rows lines) clear whole (logs, read, are) merges = let (is, none) = merges logs are (are.pairs refl) in (logs, read, (is ∙ are.seen.touched, none))
+none-merged known givens t recorded (UnknownSince lines) clear whole (logs, read, are) merges = absurd (merges logs are (are.pairs refl))
+none-merged known givens t recorded TooLong clear whole (logs, read, are) merges = (logs, read, (is-known t logs recorded are clear whole, merges logs are (are.pairs refl)))
+none-merged known givens t recorded (Run (run.Log f)) clear whole (logs, read, are) merges = merges logs are (are.pairs refl)
+none-merged known givens t recorded (Run run.Read) clear whole (logs, read, are) merges = absurd (merges logs are (are.pairs refl))
+none-merged known givens t recorded (Run run.Write) clear whole (logs, read, are) merges = absurd (merges logs are (are.pairs refl))
+none-merged known givens t recorded (Sums f) clear whole (logs, read, are) merges = absurd (merges logs are (are.pairs refl))
+none-merged known givens t recorded (NoEventAt pos) clear whole (logs, read, are) merges = absurd (merges logs are (are.pairs refl))
+none-merged known givens t recorded (NoUnitAt place) clear whole (logs, read, are) merges = absurd (merges logs are (are.pairs refl))
+none-merged known givens t recorded (NoUnitWithGtid gtid) clear whole (logs, read, are) merges = absurd (merges logs are (are.pairs refl))
+none-merged known givens t recorded (Log f) clear whole (logs, read, are) merges = absurd (merges logs are (are.pairs refl))
+none-merged known givens t recorded (LaterLog n f) clear whole (logs, read, are) merges = absurd (merges logs are (are.pairs refl))
+none-merged known givens t recorded (NoSchema text) clear whole (logs, read, are) merges = absurd (merges logs are (are.pairs refl))
+none-merged known givens t recorded (Unmerged lines) clear whole (logs, read, are) merges = (logs, read, (is-known t logs recorded are clear whole, merges logs are (are.pairs refl)))
+none-merged known givens t recorded NothingSelected clear whole (logs, read, are) merges = absurd (merges logs are (are.pairs refl))
 
 pub not-recorded-merged : {A R : Type 0} (known : R → Option (List ℕ)) (givens : List (GivenLog R)) (t : Taken) (cause : PartFault A) → RecordsAfter {A = A} known givens t true (Err cause) → MergesAfter {A = A} known givens t (Err cause)
 not-recorded-merged known givens t (LaterLog n f) fails = fails

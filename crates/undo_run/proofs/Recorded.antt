@@ -82,19 +82,14 @@ all-recorded known givens t lefts lists choice m cs follows first recorded named
     let taken_are : recorded.tracked.record.taken.items ≡ taken_in (λ k. (lefts k).rows) 0 0 t.steps ++ taken_of (length recorded.tracked.record.rows.items) (lefts lists).rows (later_changes ls) =
     tracks.taken ∙ ap₂ (λ (ts : List TakenRow) (rs : List SelectedRow). ts ++ taken_of (length rs) (lefts lists).rows (later_changes ls)) taken (sym tracks.rows) in
     let has = left-has (selected_in t.steps) lists (lefts lists).rows enough (same lists).0 in (
-      tracks.follows ∙ asked,
-      (
-        logs,
-        read,
-        record {
-          seen = subst (λ (n : ℕ). AreSeen n (tables_taken t) (after t logs) recorded.since) (counts ls)
-              (subst (λ (c : Choice). AreSeen (m + touches (lefts lists) ls) c (after t logs) recorded.since) named seen);
-          changes = is-recorded lefts lists t.steps ls recorded.tracked.record.rows.items recorded.tracked.record.taken.items same enough rows_are taken_are;
-          pairs = λ on marks.
-              let first_on = sym tracks.follows ∙ on in
-              keeps-pairs (lefts lists).rows cs t.steps ls first.followed recorded.tracked.followed marks has others (followed (sym asked ∙ first_on)) (tracks.followed first_on);
-        },
-      ),
+      logs,
+      read,
+      record {
+        seen = subst (λ (n : ℕ). AreSeen n (tables_taken t) (after t logs) recorded.since) (counts ls)
+            (subst (λ (c : Choice). AreSeen (m + touches (lefts lists) ls) c (after t logs) recorded.since) named seen);
+        changes = is-recorded lefts lists t.steps ls recorded.tracked.record.rows.items recorded.tracked.record.taken.items same enough rows_are taken_are;
+        pairs = λ on marks. keeps-pairs (lefts lists).rows cs t.steps ls first.followed recorded.tracked.followed marks has others (followed on) (tracks.followed (asked ∙ on));
+      },
     )
 
 pub not-recorded : {A R : Type 0} (known : R → Option (List ℕ)) (givens : List (GivenLog R)) (t : Taken) (kept : Left) (choice : Choice) (m : ℕ) (ls : List Later) (Also : List Later → Type 0) (follows : Bool) (cause : PartFault A)

@@ -43,13 +43,13 @@ abbrev pub KeepsPairs : {A : Type 0} → Taken → List NamedLog → Followed A 
 KeepsPairs t logs followed = (marks : List Bool) → pairs_with false (kept_told followed) (pairs_of (outside_by marks (marked_in t.steps))) ≡ pairs_of (outside_by marks (mixed t logs))
 
 -- all changes from the first selected one on are recorded, and rows followed through them, where they are; and this was seen
-pub record AreRecorded {A : Type 0} (t : Taken) (logs : List NamedLog) (recorded : Recorded A) : Type 0 where
+pub record AreRecorded {A : Type 0} (t : Taken) (logs : List NamedLog) (follows : Bool) (recorded : Recorded A) : Type 0 where
   pub seen : AreSeen (touches_among (steps_after t logs)) (tables_taken t) (after t logs) recorded.since
   pub changes : IsRecorded print_of (mixed t logs) recorded.tracked.record.rows.items recorded.tracked.record.taken.items
-  pub pairs : recorded.tracked.follows ≡ true → KeepsPairs t logs recorded.tracked.followed
+  pub pairs : follows ≡ true → KeepsPairs t logs recorded.tracked.followed
 
 abbrev pub RecordsAfter : {A R : Type 0} → (R → Option (List ℕ)) → List (GivenLog R) → Taken → Bool → Result (Recorded A) (PartFault A) → Type 0
-RecordsAfter known givens t follows (Ok recorded) = (recorded.tracked.follows ≡ follows) × OfLater true known givens (λ logs. AreRecorded t logs recorded)
+RecordsAfter known givens t follows (Ok recorded) = OfLater true known givens (λ logs. AreRecorded t logs follows recorded)
 RecordsAfter known givens t follows (Err (LaterLog n f)) = FailsLater known givens n f
 RecordsAfter known givens t follows (Err (Run (run.Log f))) = f ≡ OutOfMemory
 RecordsAfter known givens t follows (Err cause) = ⊥

@@ -28,7 +28,7 @@ pub record HasFollowed {A : Type 0} (left : List ℕ) (cs : List Change) (follow
 pub record TracksAmong {A : Type 0} (p : Facts → Bool) (sel : Selection) (bytes : List ℕ) (us : List Facts) (left : LeftRows A) (follows : Bool) (tracked : Tracked A) : Type 0 where
   pub rows : tracked.record.rows.items ≡ rows_in (map (unit_step p sel bytes) us)
   pub taken : tracked.record.taken.items ≡ taken_in (λ k. (left_before left k).rows) 0 0 (map (unit_step p sel bytes) us)
-  pub follows : tracked.follows ≡ follows
+  pub same : tracked.follows ≡ follows
   pub followed : follows ≡ true → HasFollowed (left_before left 4294967295).rows (changes_in bytes (others_of p (from_first p us))) tracked.followed
 
 -- The rows that changes of others take are recorded, of those with the fingerprints of rows that were left; and where rows are followed, they are

@@ -15,6 +15,6 @@ returns g c p chosen =
     let adds = c.in_ok-add_among.ensures p chosen in record {
       rows = adds.0 ∙ ap (λ (rs : List SelectedRow). rs ++ rows_in steps) c.none-record.ensures.rows;
       taken = adds.1 ∙ (λ i. c.none-record.ensures.taken i ++ taken_in prints 0 (length (c.none-record.ensures.rows i)) steps);
-      follows = refl;
+      same = refl;
       followed = λ asked. c.in_ok-followed.ensures p chosen asked;
     }

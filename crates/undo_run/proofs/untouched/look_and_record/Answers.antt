@@ -52,7 +52,7 @@ returns-in-Ok g c =
     let taken = tracks.taken ∙ first-taken prints (none-before left.rows.items) p sel handed 0 (units_of_part sel handed) in
     all-recorded g.L.Read.remaining c.args.later.items t (left_before left) 4294967295 choice (0 + touches_by (left_before left) p handed 0 (units_on p sel handed)) (changes_in handed (others_of p (units_on p sel handed))) c.args.follows first _ named
     (units-count (left_before left) 4294967295 p sel handed (c.sorted-left.ensures css c.requires.left) (omega (arith, few))) same (omega (arith, few, many)) rows taken
-    (sym (are-of-others p sel handed (units_on p sel handed))) tracks.follows tracks.followed
+    (sym (are-of-others p sel handed (units_on p sel handed))) tracks.same tracks.followed
     (c.in-Ok.ensures (0 + touches_by (left_before left) p handed 0 (units_on p sel handed)) (t.rest ∷ []) (c.in_ok-rest.ensures p c.requires.chosen))
 
 pub returns : goal.returns
