@@ -46,9 +46,10 @@ pub struct Report<A: Allocator> {
 impl<A: Allocator + Copy> Report<A> {
     ghost use Rattle.std.specs.Prelude.{◌≡◌, ◌+◌, OnOk};
     ghost use Rattle.blog_report.specs.Ranking.{kept};
+    ghost use Rattle.blog_report.specs.Said.{nothing_said, with_refusal, with_rows, with_unit};
     ghost use Rattle.blog_report.specs.Sums.{at_most, none, plus, rows_in};
     ghost use Rattle.blog_report.specs.code.RankingView.{measured, ranked_units};
-    ghost use Rattle.blog_report.specs.code.ReportView.{HasTotals, IsWhole, told_of, with_refused};
+    ghost use Rattle.blog_report.specs.code.ReportView.{HasTotals, IsWhole, said_of, told_of, with_refused};
     ghost use Rattle.blog_report.specs.code.TablesView.{AddsRows, table_key};
 
     /// Of no log. `seed` is the seed of the hashes of tables. The picture's bars stand for intervals of so many seconds, or of
@@ -56,6 +57,7 @@ impl<A: Allocator + Copy> Report<A> {
     pub fn new(alloc: A, seed: u64, interval: Option<u32>) -> Report<A>
         ensures totals { HasTotals 0 0 none result }
         ensures whole { IsWhole result }
+        ensures said { said_of result ≡ nothing_said }
     {
         Report {
             alloc,
@@ -85,6 +87,7 @@ impl<A: Allocator + Copy> Report<A> {
         ensures totals { OnOk result (HasTotals self.old.totals.units self.old.totals.refused (plus self.old.totals.rows rows.now.rows) self.new) }
         ensures whole { IsWhole self.old → OnOk result (IsWhole self.new) }
         ensures tables { OnOk result (AddsRows (table_key rows.now.schema.now rows.now.table.now) rows.now.rows self.old.tables self.new.tables) }
+        ensures said { OnOk result (said_of self.new ≡ with_rows (table_key rows.now.schema.now rows.now.table.now) rows.now.rows (said_of self.old)) }
     {
         let table = self.tables.add(self.alloc, rows)?;
         self.timeline.add(time, table, rows.rows)?;
@@ -98,6 +101,7 @@ impl<A: Allocator + Copy> Report<A> {
         ensures whole { IsWhole self.old → IsWhole self.new }
         ensures largest { OnOk result (ranked_units self.new.largest ≡ kept (measured (rows_in unit.now.rows) unit.now) (ranked_units self.old.largest)) }
         ensures longest { OnOk result (ranked_units self.new.longest ≡ kept (measured unit.now.seconds unit.now) (ranked_units self.old.longest)) }
+        ensures said { OnOk result (said_of self.new ≡ with_unit unit.now (said_of self.old)) }
     {
         self.timeline.note(unit.time)?;
         self.largest.add(unit.rows.rows(), unit)?;
@@ -111,6 +115,7 @@ impl<A: Allocator + Copy> Report<A> {
         ensures totals { OnOk result (HasTotals self.old.totals.units (at_most (self.old.totals.refused + 1)) self.old.totals.rows self.new) }
         ensures whole { IsWhole self.old → IsWhole self.new }
         ensures first { OnOk result (told_of self.new.refused.items ≡ with_refused unit.now why.now (told_of self.old.refused.items)) }
+        ensures said { OnOk result (said_of self.new ≡ with_refusal unit.now (said_of self.old)) }
     {
         self.timeline.note(unit.time)?;
         if self.refused.len() < MOST_REFUSED {
