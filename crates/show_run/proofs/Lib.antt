@@ -1,2 +1,5 @@
+mod Ending
 mod Framing
+mod Reporting
 mod Showing
+mod Turning

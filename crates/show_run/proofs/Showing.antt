@@ -110,7 +110,7 @@ shown-first w positions form choice place log u left us had mid has old held new
 memory-refused : (A : Type 0) {R : Type 0} (why : Fault) → why ≡ OutOfMemory → has_no_memory {X = Index A} (Err why) ≡ false → R
 memory-refused A why is memory = let refused : has_no_memory {X = Index A} (Err why) ≡ true = ap (λ (f : Fault). has_no_memory {X = Index A} (Err f)) is in cc
 
-groups-are : {A : Type 0} (log : List ℕ) (start stop : ℕ) (told : Result (Index A) Fault) → AreGroups log (between start stop) told → has_no_memory told ≡ false
+pub groups-are : {A : Type 0} (log : List ℕ) (start stop : ℕ) (told : Result (Index A) Fault) → AreGroups log (between start stop) told → has_no_memory told ≡ false
     → changes_told told ≡ changes_in log (between start stop)
 unfolding changes_in
 groups-are {A = A} log start stop (Ok index) (accepted, of, sel) memory =

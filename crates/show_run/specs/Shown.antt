@@ -1,5 +1,5 @@
 -- Which units of logs are shown, and what is shown of them.
-use Rattle.std.specs.Prelude.{◌≡◌, ◌&&◌, ◌||◌, ◌+◌, ℕ, Bool, true, false, nat_le, nat_lt, if◌then◌else◌, List, [], ◌∷◌, ◌++◌, filter, map, ⊤, Option, Some, None, Result, Ok, Err}
+use Rattle.std.specs.Prelude.{◌≡◌, ◌&&◌, ◌||◌, ◌+◌, ℕ, Bool, true, false, nat_le, nat_lt, List, [], ◌∷◌, ◌++◌, filter, map, ⊤, Option, Some, None, Result, Ok, Err}
 use Rattle.std.specs.Io.KnownBytes.{Appends, Keeps}
 use Rattle.std.specs.List.{list_any}
 use Rattle.blog_choice.specs.Choice.{Choice, is_nil}
@@ -25,8 +25,10 @@ use Rattle.blog_trans.specs.Groups.{placed_groups}
 use Rattle.blog_trans.specs.Selection.{Selection}
 use Rattle.blog_trans.specs.code.InTurn.{in_turn}
 use Rattle.blog_units.specs.Units.{Facts, between, facts_of, units}
-use Rattle.list_run.specs.Listed.{IsRead, Listing, NamedLog, name_shown, wanted_of}
+use Rattle.blog_sum.specs.declared.fault.SumFault.{SumFault}
+use Rattle.list_run.specs.Listed.{AreRead, IsUnread, Listing, NamedLog, first_end_from, name_shown, wanted_of}
 use Rattle.list_run.specs.declared.fault.ListFault.{ListFault}
+use Rattle.list_run.specs.declared.fault.ListFault.TheVariants.{Run, Unread, EndsEarly}
 use Rattle.list_run.specs.declared.given.GivenLog.{GivenLog}
 
 -- ---- which units
@@ -78,9 +80,13 @@ pub record Showing : Type 0 where
   pub places : List ℕ
   pub count : ℕ
 
+-- the same logs, as they are listed
+abbrev pub listing_in : Showing → Listing
+listing_in s = record { how = s.how; wanted = s.wanted; sorting = Place; count = s.count }
+
 -- what is wanted of the n-th, from 0 on
 abbrev pub wanted_in : Showing → ℕ → Wanted
-wanted_in s n = wanted_of (record { how = s.how; wanted = s.wanted; sorting = Place; count = s.count }) n
+wanted_in s n = wanted_of (listing_in s) n
 
 -- in JSON each row has the name of its own log
 abbrev pub IsFormOf : RowForm → List ℕ → RowForm → Type 0
@@ -93,16 +99,25 @@ abbrev pub ShowsNamed : RowForm → Showing → ℕ → NamedLog → Option (Lis
 ShowsNamed form s n log had has = (own : RowForm) × IsFormOf form log.name own
     × ShowsLog own (name_shown s.count log.name) (wanted_in s n) s.places (handed_log s.how log.bytes) (found_of s.how log.bytes).end had has
 
--- given logs, from the n-th on: each is read and shown
-abbrev pub ShowsGiven : {R : Type 0} → (R → Option (List ℕ)) → RowForm → Showing → ℕ → List (GivenLog R) → Option (List ℕ) → Option (List ℕ) → Type 0
-ShowsGiven known form s n [] had has = Keeps had has
-ShowsGiven known form s n (given ∷ givens) had has = (log : NamedLog) × IsRead known given log
-    × ((mid : Option (List ℕ)) × ShowsNamed form s n log had mid × ShowsGiven known form s (1 + n) givens mid has)
+-- several, from the n-th on
+abbrev pub ShowsEach : RowForm → Showing → ℕ → List NamedLog → Option (List ℕ) → Option (List ℕ) → Type 0
+ShowsEach form s n [] had has = Keeps had has
+ShowsEach form s n (log ∷ logs) had has = (mid : Option (List ℕ)) × ShowsNamed form s n log had mid × ShowsEach form s (1 + n) logs mid has
 
--- where a run ends without a fault
-abbrev pub OfShown : Type 0 → Result ℕ (ℕ × ListFault) → Type 0
-OfShown P (Ok units) = P
-OfShown P (Err e) = ⊤
+-- All given logs, from the n-th on, were read and are shown. Of those that end early this is the first, as in a list.
+abbrev pub ShowsGiven : {R : Type 0} → (R → Option (List ℕ)) → RowForm → Showing → ℕ → List (GivenLog R) → Option (ℕ × SumFault)
+    → Option (List ℕ) → Option (List ℕ) → Type 0
+ShowsGiven known form s n givens end had has =
+    (logs : List NamedLog) × AreRead known givens logs × (first_end_from (listing_in s) n logs ≡ end) × ShowsEach form s n logs had has
+
+-- What comes of showing given logs: all are shown, and none ends early; or all are shown, and this one is the first that ends early. Or one
+-- can't be read; or a device failed, or memory was refused, and nothing is said of what is shown then.
+abbrev pub ShowsLogs : {R : Type 0} → (R → Option (List ℕ)) → RowForm → Showing → List (GivenLog R) → Option (List ℕ) → Option (List ℕ)
+    → Result ℕ (ℕ × ListFault) → Type 0
+ShowsLogs known form s givens had has (Ok units) = ShowsGiven known form s 0 givens None had has
+ShowsLogs known form s givens had has (Err (n, EndsEarly fault)) = ShowsGiven known form s 0 givens (Some (n, fault)) had has
+ShowsLogs known form s givens had has (Err (n, Unread fault)) = IsUnread known givens n fault
+ShowsLogs known form s givens had has (Err (n, Run fault)) = ⊤
 
 -- ---- on the way
 

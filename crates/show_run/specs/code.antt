@@ -1,1 +1,2 @@
+pub mod Becomes
 pub mod Turns

@@ -1,6 +1,16 @@
 //! A report of logs in turn.
 
-ghost use Rattle.std.specs.Prelude.{◌<◌};
+ghost use Rattle.std.specs.Prelude.{◌≡◌, ◌<◌, ◌+◌, IfOk, length};
+ghost use Rattle.blog_list.specs.declared.listing.Sorting.TheVariants.{Place};
+ghost use Rattle.blog_report.specs.Sums.{at_most};
+ghost use Rattle.blog_report.specs.code.ReportView.{IsWhole, said_of};
+ghost use Rattle.blog_source.specs.Found.{found_of};
+ghost use Rattle.blog_source.specs.Handed.{handed_log};
+ghost use Rattle.list_run.specs.Listed.{IsRead, NamedLog, end_of};
+ghost use Rattle.show_run.specs.Reported.{IsReportOf, wanted_units, with_log};
+ghost use Rattle.show_run.specs.Shown.{listing_in, wanted_in};
+ghost use Rattle.show_run.specs.code.Becomes.{Becomes};
+ghost use Rattle.show_run.specs.code.Turns.{showing_of};
 
 use crate::source_report::report_source;
 use crate::source_rows::Shown;
@@ -41,7 +51,14 @@ pub fn report_logs<A: Allocator + Copy, R: Read + Drop>(
     interval: Option<u32>,
     seed: u64,
     reasons: &mut Option<Reasons<'_, A>>,
-) -> Result<Reported<A>, (usize, ListFault)> {
+) -> Result<Reported<A>, (usize, ListFault)>
+    ensures reported { IfOk result (λ reported. IsReportOf R.remaining
+        (record { how = how; wanted = wanted.now; sorting = Place; count = length logs.entry.items }) logs.entry.items
+        reported.end reported.units (said_of reported.report)) }
+
+    // The rows of all intervals, and those of all tables, are the totals.
+    ensures whole { IfOk result (λ reported. IsWhole reported.report) }
+{
     let mut turn = Turn {
         how,
         all: Asked {
@@ -52,22 +69,27 @@ pub fn report_logs<A: Allocator + Copy, R: Read + Drop>(
         count: logs.len(),
         n: 0,
     };
-    let mut reported = Reported {
-        report: Report::new(alloc, seed, interval),
-        units: 0,
-        end: None,
-    };
+    let mut report = Report::new(alloc, seed, interval);
+    let mut units = 0u64;
+    let mut end = None;
     'logs: for given in logs {
-        match report_one(alloc, &mut reported.report, given, &turn, reasons) {
+        match report_one(alloc, &mut report, given, &turn, reasons) {
             Ok(shown) => {
-                reported.units = reported.units.saturating_add(shown.units);
-                reported.end = earlier(reported.end, turn.n, shown.end);
+                units = units_with(units, shown.units);
+                end = earlier(end, turn.n, shown.end);
             }
             Err(fault) => return Err((turn.n, fault)),
         }
         turn.n += 1;
     }
-    Ok(reported)
+    Ok(Reported { report, units, end })
+}
+
+/// So many units and more, or the greatest number of 64 bits.
+fn units_with(units: u64, more: u64) -> u64
+    ensures { result ≡ at_most (units + more) }
+{
+    units.saturating_add(more)
 }
 
 /// Reads a log when its turn comes, and reports it.
@@ -79,6 +101,11 @@ fn report_one<A: Allocator + Copy, R: Read + Drop>(
     reasons: &mut Option<Reasons<'_, A>>,
 ) -> Result<Shown, ListFault>
     requires { turn.now.n < turn.now.count }
+    ensures { IfOk result (λ shown. (log : NamedLog) × IsRead R.remaining given.entry log
+        × (shown.end ≡ end_of (listing_in (showing_of turn.now)) turn.now.n log)
+        × (shown.units ≡ at_most (length (wanted_units (wanted_in (showing_of turn.now) turn.now.n) (handed_log turn.now.how log.bytes))))
+        × Becomes report.old report.new (with_log turn.now.n (wanted_in (showing_of turn.now) turn.now.n)
+        (handed_log turn.now.how log.bytes) (found_of turn.now.how log.bytes).end (said_of report.old))) }
 {
     let source = read_source(alloc, given.reader, turn.how)?;
     let asked = turn.asked();

@@ -1,12 +1,12 @@
 //! Showing the rows of logs in turn.
 
-ghost use Rattle.std.specs.Prelude.{◌≡◌, ◌⊎◌, ◌<◌, IfErr, OnOk, length};
+ghost use Rattle.std.specs.Prelude.{◌≡◌, ◌⊎◌, ◌<◌, IfErr, IfOk, length};
 ghost use Rattle.blog_device.specs.Watched.{device_of};
-ghost use Rattle.list_run.specs.Listed.{IsRead, MayFollow, NamedLog};
-ghost use Rattle.show_run.specs.Shown.{IsFormOf, OfShown, ShowsGiven, ShowsNamed};
-ghost use Rattle.show_run.specs.code.Turns.{showing_of};
+ghost use Rattle.list_run.specs.Listed.{IsRead, MayFollow, NamedLog, end_of};
+ghost use Rattle.show_run.specs.Shown.{IsFormOf, ShowsLogs, ShowsNamed, listing_in};
+ghost use Rattle.show_run.specs.code.Turns.{EndsWith, FailsOne, showing_of};
 
-use crate::source_rows::{Shown, show_source};
+use crate::source_rows::{Page, Shown, show_source};
 use crate::turns::{Asked, Turn};
 use blog_device::Watched;
 use blog_reasons::Reasons;
@@ -41,8 +41,9 @@ pub fn show_logs<A: Allocator + Copy, R: Read + Drop, W: Write>(
     reasons: &mut Option<Reasons<'_, A>>,
     writer: &mut Watched<W>,
 ) -> Result<u64, (usize, ListFault)>
-    ensures shown { OfShown (ShowsGiven R.remaining style.now.form (record { how = how; wanted = wanted.now; places = at.now; count = length logs.entry.items }) 0 logs.entry.items
-        (W.contents (device_of writer.old)) (W.contents (device_of writer.new))) result }
+    ensures shown { ShowsLogs R.remaining style.now.form
+        (record { how = how; wanted = wanted.now; places = at.now; count = length logs.entry.items }) logs.entry.items
+        (W.contents (device_of writer.old)) (W.contents (device_of writer.new)) result }
 
     // Where nothing can be read of the first log, nothing is written.
     ensures unwritten { IfErr result (λ e. (0 < e.0) ⊎ (writer.new ≡ writer.old) ⊎ MayFollow e.1) }
@@ -57,10 +58,11 @@ pub fn show_logs<A: Allocator + Copy, R: Read + Drop, W: Write>(
         count: logs.len(),
         n: 0,
     };
+    let mut page = Page::new(alloc);
     let mut units = 0u64;
     let mut end = None;
     'logs: for given in logs {
-        match show_one(alloc, given, &turn, style, reasons, writer) {
+        match show_one(alloc, &mut page, given, &turn, style, reasons, writer) {
             Ok(shown) => {
                 units = units.saturating_add(shown.units);
                 end = earlier(end, turn.n, shown.end);
@@ -74,7 +76,8 @@ pub fn show_logs<A: Allocator + Copy, R: Read + Drop, W: Write>(
 
 /// What comes of showing all logs: how many units were shown, or the first early end.
 fn ended(units: u64, end: Option<(usize, SumFault)>) -> Result<u64, (usize, ListFault)>
-    ensures { IfErr result (λ e. MayFollow e.1) }
+    ensures end { EndsWith end result }
+    ensures follows { IfErr result (λ e. MayFollow e.1) }
 {
     match end {
         Some((n, fault)) => Err((n, ListFault::EndsEarly(fault))),
@@ -85,6 +88,7 @@ fn ended(units: u64, end: Option<(usize, SumFault)>) -> Result<u64, (usize, List
 /// Reads a log when its turn comes, and shows it.
 fn show_one<A: Allocator + Copy, R: Read + Drop, W: Write>(
     alloc: A,
+    page: &mut Page<A>,
     given: GivenLog<'_, R>,
     turn: &Turn<'_>,
     style: &RowStyle<'_>,
@@ -92,8 +96,10 @@ fn show_one<A: Allocator + Copy, R: Read + Drop, W: Write>(
     writer: &mut Watched<W>,
 ) -> Result<Shown, ListFault>
     requires { turn.now.n < turn.now.count }
-    ensures shown { OnOk result ((log : NamedLog) × IsRead R.remaining given.entry log × ShowsNamed style.now.form (showing_of turn.now) turn.now.n log
-        (W.contents (device_of writer.old)) (W.contents (device_of writer.new))) }
+    ensures shown { IfOk result (λ shown. (log : NamedLog) × IsRead R.remaining given.entry log
+        × (shown.end ≡ end_of (listing_in (showing_of turn.now)) turn.now.n log)
+        × ShowsNamed style.now.form (showing_of turn.now) turn.now.n log (W.contents (device_of writer.old)) (W.contents (device_of writer.new))) }
+    ensures fault { IfErr result (FailsOne R.remaining given.entry) }
     ensures unwritten { IfErr result (λ e. (writer.new ≡ writer.old) ⊎ MayFollow e) }
 {
     let name = turn.name(given.name);
@@ -103,7 +109,7 @@ fn show_one<A: Allocator + Copy, R: Read + Drop, W: Write>(
     };
     let source = read_source(alloc, given.reader, turn.how)?;
     let asked = turn.asked();
-    match show_source(alloc, &source, name, &asked, &style, writer) {
+    match show_source(alloc, page, &source, name, &asked, &style, writer) {
         Ok(shown) => {
             if shown.units > 0 || look(reasons, &source, asked.seed, &asked.wanted).is_none() {
                 *reasons = None;

@@ -6,7 +6,8 @@ ghost use Rattle.blog_choice.specs.code.Views.{choice_value};
 ghost use Rattle.blog_device.specs.Watched.{device_of};
 ghost use Rattle.blog_event.specs.code.LogView.{log_bytes};
 ghost use Rattle.blog_list.specs.code.Held.{has_no_memory};
-ghost use Rattle.blog_list.specs.code.Told.{source_place};
+ghost use Rattle.blog_list.specs.Shown.{last_whole};
+ghost use Rattle.blog_list.specs.code.Told.{end_listed, source_place};
 ghost use Rattle.blog_request.specs.Wanted.{is_wanted};
 ghost use Rattle.blog_source.specs.Places.{position_of};
 ghost use Rattle.blog_source.specs.code.SourceView.{end_of, log_of};
@@ -18,11 +19,12 @@ ghost use Rattle.blog_event.specs.declared.fault.Fault.TheVariants.{OutOfMemory}
 ghost use Rattle.list_run.specs.Listed.{MayFollow};
 ghost use Rattle.list_run.specs.declared.fault.ListFault.TheVariants.{Run};
 
+use crate::ends::log_end;
 use crate::turns::{Asked, is_at};
 use blog_choice::ChosenNames;
 use blog_device::{RunFault, Watched, put};
 use blog_event::{Fault, Log};
-use blog_list::{early_end, open_log, put_name, put_refusal, time_text, wanted_inside, write_full};
+use blog_list::{open_log, put_name, put_refusal, time_text, wanted_inside, write_full};
 use blog_request::{Concern, Wanted, is_before};
 use blog_show::{LastMap, LineRoom, RowForm, RowStyle, put_csv_field, put_unit};
 use blog_source::Source;
@@ -41,15 +43,16 @@ pub(crate) struct Shown {
     pub(crate) end: Option<SumFault>,
 }
 
-/// What units of a log are shown by.
+/// What units of logs are shown by, kept from one log to the next.
 #[derive(Drop)]
-struct Page<'a, A: Allocator> {
+pub(crate) struct Page<A: Allocator> {
+    /// What is shown of a log and isn't written yet.
     text: Vec<u8, A>,
     /// What is said of a unit that isn't shown, and why it isn't.
     said: Vec<u8, A>,
     why: Vec<u8, A>,
+    /// The room of a line. It has the head of columns that CSV had last, of whichever log.
     room: LineRoom<A>,
-    map: LastMap<'a, A>,
 }
 
 /// In how many columns of a terminal it is said why a unit isn't shown.
@@ -104,7 +107,17 @@ fn put_not_shown<A: Allocator>(
     }
 }
 
-impl<'a, A: Allocator + Copy> Page<'a, A> {
+impl<A: Allocator + Copy> Page<A> {
+    /// Returns an empty one.
+    pub(crate) fn new(alloc: A) -> Page<A> {
+        Page {
+            text: Vec::new(alloc),
+            said: Vec::new(alloc),
+            why: Vec::new(alloc),
+            room: LineRoom::new(alloc),
+        }
+    }
+
     /// Appends why the rows of a unit aren't known: it is refused.
     fn put_refused(
         &mut self,
@@ -137,9 +150,10 @@ impl<'a, A: Allocator + Copy> Page<'a, A> {
     }
 
     /// Appends the rows of a unit.
-    fn put_unit(
+    fn put_unit<'a>(
         &mut self,
         alloc: A,
+        last: &mut LastMap<'a, A>,
         source: &Source<A>,
         log: &Log<'_>,
         wanted: &Wanted<'_>,
@@ -155,7 +169,7 @@ impl<'a, A: Allocator + Copy> Page<'a, A> {
                 alloc,
                 &mut self.text,
                 &mut self.room,
-                &mut self.map,
+                last,
                 source,
                 index,
                 &wanted.choice,
@@ -184,6 +198,7 @@ fn put_above<A: Allocator>(
 /// Shows the rows of a log's wanted units below its name, if there is one.
 pub(crate) fn show_source<A: Allocator + Copy, W: Write>(
     alloc: A,
+    page: &mut Page<A>,
     source: &Source<A>,
     name: Option<&[u8]>,
     asked: &Asked<'_>,
@@ -191,6 +206,7 @@ pub(crate) fn show_source<A: Allocator + Copy, W: Write>(
     writer: &mut Watched<W>,
 ) -> Result<Shown, RunFault>
     ensures shown { OnOk result (ShowsLog style.now.form (option_copied name.entry) asked.now.wanted asked.now.at.now (log_of source.now) (end_of source.now) (W.contents (device_of writer.old)) (W.contents (device_of writer.new))) }
+    ensures end { IfOk result (λ shown. shown.end ≡ end_listed source.now asked.now.wanted) }
     ensures unwritten { IfErr result (λ e. (writer.new ≡ writer.old) ⊎ MayFollow (Run e)) }
 {
     let log = match open_log(source, asked.seed) {
@@ -198,32 +214,21 @@ pub(crate) fn show_source<A: Allocator + Copy, W: Write>(
         Err(fault) => return Err(RunFault::Log(fault)),
     };
     let inside = wanted_inside(source, &asked.wanted);
-    let mut page = Page {
-        text: Vec::new(alloc),
-        said: Vec::new(alloc),
-        why: Vec::new(alloc),
-        room: LineRoom::new(alloc),
-        map: LastMap::none(alloc),
-    };
+    page.text.clear();
     put_above(&mut page.text, &style.form, name)?;
-    let (units, whole) = show_units(
-        alloc, &mut page, source, &log, &inside, asked.at, style, writer,
-    )?;
+    let (units, whole) = show_units(alloc, page, source, &log, &inside, asked.at, style, writer)?;
     put(writer, &page.text)?;
-    let end = match whole {
-        Some(whole) => early_end(source, whole, asked.wanted.stop),
-        None => None,
-    };
+    let end = log_end(source, whole, asked.wanted.stop);
     Ok(Shown { units, end })
 }
 
 /// Appends the rows of a log's wanted units, and writes what is collected by chunks. Returns how many units were shown, and whether
 /// the last unit is whole; None where units stopped being wanted before.
-fn show_units<'a, A: Allocator + Copy, W: Write>(
+fn show_units<A: Allocator + Copy, W: Write>(
     alloc: A,
-    page: &mut Page<'a, A>,
+    page: &mut Page<A>,
     source: &Source<A>,
-    log: &Log<'a>,
+    log: &Log<'_>,
     wanted: &Wanted<'_>,
     places: &[u32],
     style: &RowStyle<'_>,
@@ -232,9 +237,11 @@ fn show_units<'a, A: Allocator + Copy, W: Write>(
     ensures shown { OnOk result (HasShown style.now.form (choice_value wanted.now.choice) (source_place source.now) (log_bytes log.now)
         (shown_among wanted.now (map (position_of (log_of source.now)) places.now) (log_bytes log.now) (map facts_of (units (log_bytes log.now))))
         (W.contents (device_of writer.old)) (W.contents (device_of writer.new)) page.old.text.items page.new.text.items) }
+    ensures end { IfOk result (λ told. told.1 ≡ last_whole wanted.now.stop (map facts_of (units (log_bytes log.now)))) }
     ensures fault { IfErr result (λ e. (e ≡ RunFault.Log OutOfMemory) ⊎ (e ≡ RunFault.Write)) }
 {
     let names = ChosenNames::new(alloc, &wanted.choice)?;
+    let mut last = LastMap::none(alloc);
     let mut shown = 0u64;
     let mut whole = true;
     for unit in Units::new(log) {
@@ -243,7 +250,7 @@ fn show_units<'a, A: Allocator + Copy, W: Write>(
         }
         whole = unit.whole;
         let is_shown = show_unit(
-            alloc, page, source, log, wanted, &names, places, unit, style, writer,
+            alloc, page, &mut last, source, log, wanted, &names, places, unit, style, writer,
         )?;
         shown = shown.saturating_add(u64::from(is_shown));
     }
@@ -254,9 +261,10 @@ fn show_units<'a, A: Allocator + Copy, W: Write>(
 /// whether it is shown.
 fn show_unit<'a, A: Allocator + Copy, W: Write>(
     alloc: A,
-    page: &mut Page<'a, A>,
+    page: &mut Page<A>,
+    last: &mut LastMap<'a, A>,
     source: &Source<A>,
-    log: &Log<'a>,
+    log: &Log<'_>,
     wanted: &Wanted<'_>,
     names: &ChosenNames<'_, A>,
     places: &[u32],
@@ -285,13 +293,13 @@ fn show_unit<'a, A: Allocator + Copy, W: Write>(
     if !is_wanted(wanted.concern(names, log, &judged)) {
         return Ok(false);
     }
-    page.put_unit(alloc, source, log, wanted, &judged, style)?;
+    page.put_unit(alloc, last, source, log, wanted, &judged, style)?;
     write_full(&mut page.text, writer)?;
     Ok(true)
 }
 
 /// Whether a unit is shown, by whether it is wanted.
-fn is_wanted(concern: Concern) -> bool
+pub(crate) fn is_wanted(concern: Concern) -> bool
     ensures { result ≡ is_wanted concern }
 {
     match concern {
