@@ -21,7 +21,7 @@ use Rattle.undo_run.specs.After.{is_damaged, unknown_units}
 use Rattle.undo_run.specs.Leaving.{AreUnknown, IsPartSafe, are_all, are_some, log_undone, marks_undone, mixed, plan_left, rows_left}
 use Rattle.undo_run.specs.Reports.{Since, left_text}
 use Rattle.undo_run.specs.Several.{Names}
-use Rattle.undo_run.specs.Taken.{Taken, after, since_told, steps_after, tables_taken}
+use Rattle.undo_run.specs.Taken.{OfLater, Taken, after, since_told, steps_after, tables_taken}
 use Rattle.undo_run.specs.code.Leaves.{AreRecorded, HasRest, Leaves, LeavesOut, LeavesRows, RecordsAfter, WritesLeft}
 use Rattle.undo_run.specs.code.SinceView.{AreSeen, since_seen}
 use Rattle.undo_run.specs.code.Steps.{WritesGroups, WritesIndex, report_told}
@@ -64,6 +64,10 @@ some-out (false ∷ marks) some = refl
 pub unknown-left : {A : Type 0} (t : Taken) (logs : List NamedLog) (follows : Bool) (recorded : Recorded A) → AreRecorded t logs follows recorded → (0 < recorded.since.unknown) ⊎ (recorded.since.is_damaged ≡ true) → AreUnknown t logs
 unknown-left t logs follows recorded are (inl some) = inl (some-more recorded.since.unknown _ are.seen.unknown some)
 unknown-left t logs follows recorded are (inr damaged) = inr (sym are.seen.damaged ∙ damaged)
+
+pub unknown-after : {A R : Type 0} (known : R → Option (List ℕ)) (givens : List (GivenLog R)) (t : Taken) (follows : Bool) (recorded : Recorded A) → RecordsAfter known givens t follows (Ok recorded) → (0 < recorded.since.unknown) ⊎ (recorded.since.is_damaged ≡ true)
+    → OfLater true known givens (AreUnknown t)
+unknown-after known givens t follows recorded (logs, read, are) is = (logs, read, unknown-left t logs follows recorded are is)
 
 pub part-safe : {A : Type 0} (t : Taken) (logs : List NamedLog) (recorded : Recorded A) → AreRecorded t logs false recorded → recorded.since.unknown ≡ 0 → recorded.since.is_damaged ≡ false → are_some (marks_undone t logs) ≡ true
     → IsPartSafe t logs

@@ -1,11 +1,22 @@
-use Rattle.std.proofs.Common.{◌≡◌, ◌∙◌, sym, arith}
+use Rattle.std.proofs.Common.{◌≡◌, ◌∙◌, sym, arith, ◌<◌, ◌⊎◌, inl, inr, true, false}
 use Rattle.blog_source.specs.code.SourceView.{end_of, fault_of, log_of}
 use Rattle.blog_trans.specs.Selection.{selection_of}
 use Rattle.undo_run.specs.Units.{chosen_taken}
 use Rattle.undo_run.specs.code.NamesView.{names_told}
 use Rattle.undo_run.specs.code.Steps.{chosen_by}
-use Rattle.undo_run.proofs.Leaving.{all-left, none-kept}
+use Rattle.undo_run.proofs.Leaving.{all-left, none-kept, unknown-after}
 use Rattle.undo_run.proofs.untouched.look_and_leave.Goals as goal
+use Rattle.undo_run.proofs.untouched.look_and_leave.Goals.{then-since-gt0-via-then-since-gt0, then-since-gt0-via-else-since-gt0+then-since}
+
+pub returns-then-since-gt0 : goal.returns-then-since-gt0
+returns-then-since-gt0 g c =
+    let source = c.args.source.now in
+    let sel = selection_of c.args.inside.now in
+    let p = chosen_by c.args.among.now sel (log_of source) in
+    let t = chosen_taken (names_told c.args.logs.now) p sel (log_of source) (end_of source) (fault_of source) in
+    let some : (0 < c.in-Ok.recorded.since.unknown) ⊎ (c.in-Ok.recorded.since.is_damaged ≡ true) =
+    elim c.then-since-gt0.branch [ then-since-gt0-via-then-since-gt0 w ↦ inl w.if-since-gt0.true | then-since-gt0-via-else-since-gt0+then-since w ↦ inr w.if-since.true ] in
+    unknown-after g.L.Read.remaining c.args.later.items t false c.in-Ok.recorded c.in-Ok.ensures some
 
 pub returns-in-Ok-rest_of : goal.returns-in-Ok-rest_of
 returns-in-Ok-rest_of g c =
