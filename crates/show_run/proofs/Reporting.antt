@@ -1,5 +1,5 @@
 -- What is said of units that are added to a report in turn.
-use Rattle.std.proofs.Common.{◌≡◌, ◌+◌, ◌-◌, ◌^◌, ℕ, Bool, true, false, List, [], ◌∷◌, length, Option, Some, None, Result, Ok, Err, refl, sym, ap, ap₂, subst, ◌∙◌, arith}
+use Rattle.std.proofs.Common.{◌≡◌, ◌+◌, ◌-◌, ◌^◌, ℕ, Bool, true, false, List, [], ◌∷◌, ◌++◌, length, Option, Some, None, Result, Ok, Err, refl, sym, ap, ap₂, subst, ◌∙◌, arith}
 use Rattle.std.specs.Prelude.{filter, fold, if◌then◌else◌, min, option_map, slice_get, unwrap_or}
 use Rattle.std.specs.Option.{option_map_or}
 use Rattle.std.proofs.lemmas.Bool.{cond-false, cond-true}
@@ -107,6 +107,10 @@ none-capped = λ j. record { inserts = zero-most j; updates = zero-most j; delet
 pub rows-all : (cs : List TableCount) → rows_on none cs ≡ sum_rows cs
 rows-all cs = ap (λ (rows : RowSums). rows_on rows cs) none-capped ∙ rows-on 0 0 0 cs
 
+pub on-both : (rows : RowSums) (cs ds : List TableCount) → rows_on (rows_on rows cs) ds ≡ rows_on rows (cs ++ ds)
+on-both rows [] ds = refl
+on-both rows (c ∷ cs) ds = on-both (plus rows (rows_of c)) cs ds
+
 -- a table that may be chosen, and others
 tables-by : (b : Bool) (c : TableCount) (cs : List TableCount) (s : Said)
     → with_tables (if b then c ∷ cs else cs) s ≡ with_tables cs (if b then with_rows (table_key c.table.schema c.table.name) (rows_of c) s else s)
@@ -116,7 +120,7 @@ tables-by false c cs s = refl
 pub tables-first : (choice : Choice) (c : TableCount) (cs : List TableCount) (s : Said) → with_tables (chosen choice (c ∷ cs)) s ≡ with_tables (chosen choice cs) (with_if choice c s)
 tables-first choice c cs s = tables-by (chooses choice c.table.schema c.table.name) c (chosen choice cs) s
 
-rows-by : (b : Bool) (c : TableCount) (cs : List TableCount) (rows : RowSums) → rows_on rows (if b then c ∷ cs else cs) ≡ rows_on (if b then plus rows (rows_of c) else rows) cs
+pub rows-by : (b : Bool) (c : TableCount) (cs : List TableCount) (rows : RowSums) → rows_on rows (if b then c ∷ cs else cs) ≡ rows_on (if b then plus rows (rows_of c) else rows) cs
 rows-by true c cs rows = refl
 rows-by false c cs rows = refl
 

@@ -1,5 +1,6 @@
 -- Which units of logs are reported, and what is said of them: those that a list has.
-use Rattle.std.specs.Prelude.{◌≡◌, ◌+◌, ◌-◌, ℕ, List, [], ◌∷◌, ◌++◌, filter, length, map, slice_get, Option, Result, Ok, Err}
+use Rattle.std.specs.Prelude.{◌≡◌, ◌+◌, ◌-◌, ℕ, List, [], ◌∷◌, ◌++◌, filter, length, map, slice_get, Option, Result, Ok, Err, Bool, nat_eq, if◌then◌else◌}
+use Rattle.std.specs.Cmp.Lexicographic.{pointwise}
 use Rattle.std.specs.List.{flat_map, sum_by}
 use Rattle.std.specs.Option.{option_map_or}
 use Rattle.blog_choice.specs.Choice.{Choice, chooses}
@@ -108,6 +109,15 @@ counts_from l n [] = []
 counts_from l n (log ∷ logs) =
     let handed = handed_log l.how log.bytes in
     flat_map (λ u. counts_of_unit (choice_value l.wanted.choice) (changes_of handed u)) (wanted_units (wanted_of l n) handed) ++ counts_from l (1 + n) logs
+
+-- they are those of the table with this key
+abbrev pub is_of_key : List ℕ → TableCount → Bool
+is_of_key key c = pointwise nat_eq key (table_key c.table.schema c.table.name)
+
+-- the rows that are said of the table with this key; none if nothing is said of it
+abbrev pub rows_at : List ℕ → List (List ℕ × RowSums) → RowSums
+rows_at key [] = none
+rows_at key (t ∷ ts) = if pointwise nat_eq key t.0 then t.1 else rows_at key ts
 
 -- ---- a report
 

@@ -9,6 +9,6 @@ mod source_report;
 mod source_rows;
 mod turns;
 
-pub use laws::reported_rows_are_sums;
+pub use laws::{reported_rows_are_sums, rows_of_each_table_are_sums};
 pub use reported::{Reported, report_logs};
 pub use shown::show_logs;

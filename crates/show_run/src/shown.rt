@@ -20,7 +20,7 @@ use std::io::{Read, Write};
 
 /// Shows the rows that the wanted units of logs change, a line each, and why a wanted unit is none of which rows are known. The logs are read in
 /// turn, one at a time in memory. Where there are several, what is shown of each is below its name, on lines for people; in JSON each object has the
-/// name of its log, in place of that of the form. If there are positions in `at`, units are wanted
+/// name of its log, in place of that of the form; and in CSV the columns are named above the first row, and where their names change. If there are positions in `at`, units are wanted
 /// that have an event at one of them. Returns how many units were shown.
 ///
 /// A start of what is wanted is one of the first log, and a stop one of the last. Each log is shown up to its end, and so are

@@ -5,7 +5,6 @@ use Rattle.blog_choice.specs.code.Views.{choice_value}
 use Rattle.blog_event.specs.declared.fault.Fault.{Fault}
 use Rattle.blog_list.specs.Shown.{changes_of}
 use Rattle.blog_report.specs.Said.{Said, nothing_said, with_rows}
-use Rattle.blog_report.specs.Sums.{plus}
 use Rattle.blog_report.specs.code.TablesView.{table_key}
 use Rattle.blog_report.specs.declared.sums.RowSums.{RowSums}
 use Rattle.blog_source.specs.Found.{found_of}
@@ -16,12 +15,8 @@ use Rattle.blog_trans.specs.Groups.{placed_groups}
 use Rattle.blog_units.specs.Units.{Facts, between}
 use Rattle.list_run.specs.Listed.{Listing, NamedLog, wanted_of}
 use Rattle.show_run.specs.Reported.{chosen, counts_from, counts_of_unit, rows_of, seconds_from, wanted_units, with_changes, with_log, with_logs, with_reported, with_tables, with_units}
-use Rattle.show_run.proofs.Reporting.{rows-all, rows_on}
+use Rattle.show_run.proofs.Reporting.{on-both, rows-all, rows_on}
 use Rattle.show_run.proofs.laws.reported_rows_are_sums.Goals as goal
-
-on-both : (rows : RowSums) (cs ds : List TableCount) → rows_on (rows_on rows cs) ds ≡ rows_on rows (cs ++ ds)
-on-both rows [] ds = refl
-on-both rows (c ∷ cs) ds = on-both (plus rows (rows_of c)) cs ds
 
 of-tables : (cs : List TableCount) (s : Said) → (with_tables cs s).rows ≡ rows_on s.rows cs
 of-tables [] s = refl
