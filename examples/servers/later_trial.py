@@ -245,7 +245,7 @@ def try_later(server, programs, report, _):
     with report.trial("5: --leave: the same with changes in two later logs"):
         made = Mistake(server, programs, forgotten_where(SHOP), changes[:3], changes_of_these(SHOP)[:1], changes[3:5] + changes_of_these(SHOP)[1:])
         hold_left(server, programs, made, 3, changes_left(changes[:5]))
-    with report.trial("5: --leave: a mistake in two transactions, of which the second changed rows of the first"):
+    with report.trial("5: --leave: a mistake in two transactions; the second changed rows of the first"):
         made = Mistake(server, programs, mistake_twice(SHOP)[:1], mistake_twice(SHOP)[1:] + changes_around(SHOP))
         made.part = "--stop-position", made.stop_of(2)
         hold_left(server, programs, made, 8, left_of_both)

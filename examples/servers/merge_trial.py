@@ -74,7 +74,7 @@ def try_merge(server, programs, report, _):
     with report.trial("5: --merge: the same with changes in two further logs"):
         made = MistakeInLogs(server, programs, forgotten_where(SHOP), changes[:3], of_these[:1], changes[3:5] + of_these[1:])
         hold_merged(server, programs, made, 3, of_schema(changes[:5] + of_these))
-    with report.trial("5: --merge: a mistake in two transactions, of which the second changed rows of the first"):
+    with report.trial("5: --merge: a mistake in two transactions; the second changed rows of the first"):
         made = Mistake(server, programs, mistake_twice(SHOP)[:1], mistake_twice(SHOP)[1:] + changes_around(SHOP))
         made.part = "--stop-position", made.stop_of(2)
         hold_merged(server, programs, made, 3, changes_around)
